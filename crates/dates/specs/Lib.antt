@@ -1,0 +1,4 @@
+pub mod Dates
+pub mod Numbers
+pub mod OneToOne
+pub mod Months

@@ -1,0 +1,3 @@
+pub mod Easter
+pub mod Holidays
+pub mod Working

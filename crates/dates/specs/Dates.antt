@@ -1,6 +1,6 @@
 -- 01, The calendar: gas days, leap years, month lengths, and the date of each day, counted on from the first.
 -- Definitions only.
-use Prim.Native.Nat.{ℕ, zero, suc, _+_, _-_, _%_}
+use Prim.Native.Nat.{ℕ, zero, suc, _+_, _-_, _%_, _≤_}
 use mathlib.Core.Bool.{cond}
 use mathlib.Core.List.{List, [], _∷_}
 use lib.Dec.{ltb, eqb}
@@ -46,3 +46,12 @@ next x =
 unfoldable pub dateOf : ℕ → Date
 dateOf zero = date 2000 1 1
 dateOf (suc n) = next (dateOf n)
+
+-- The ranges of a calendar date's fields, on which the code's sums rely.
+pub record InRange (x : Date) : Type 0 where
+  pub from-2000 : 2000 ≤ x .year
+  pub to-2199 : x .year ≤ 2199
+  pub month-from-1 : 1 ≤ x .month
+  pub month-to-12 : x .month ≤ 12
+  pub day-from-1 : 1 ≤ x .day
+  pub day-to-31 : x .day ≤ 31

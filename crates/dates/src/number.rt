@@ -5,7 +5,7 @@ use crate::month;
 use crate::year;
 ghost use mathlib.Core.Path.{_≡_};
 ghost use Prim.Native.Nat.{_+_, _≤_, _<_, min};
-ghost use Rattle.dates.specs.Dates.{dateOf, leapRow};
+ghost use Rattle.dates.specs.Dates.{dateOf, InRange};
 ghost use Rattle.dates.specs.Numbers.{dayNumber};
 ghost use Rattle.dates.specs.Months.{onOrLast};
 
@@ -21,7 +21,7 @@ pub(crate) fn day_number(k: u32, m: usize, d: u32) -> u32
 // The date of a day of the calendar.
 pub(crate) fn date_on(n: u32) -> Date
     requires { ⌜ n ≤ 73048 ⌝ }
-    ensures { λ r. ⌜ (r ≡ dateOf n) × (2000 ≤ r .year) × (r .year < 2200) × (1 ≤ r .month) × (r .month ≤ 12) × (1 ≤ r .day) × (r .day ≤ 31) ⌝ }
+    ensures { λ r. ⌜ (r ≡ dateOf n) × InRange r ⌝ }
 {
     let k = year::of_day(n);
     let rest = n - year::start(k);

@@ -1,0 +1,7 @@
+pub mod Every
+pub mod Months
+pub mod Years
+pub mod Counting
+pub mod Real
+pub mod OneToOne
+pub mod ThreeMonths

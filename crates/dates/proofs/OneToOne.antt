@@ -1,0 +1,108 @@
+-- Days and dates are one to one over the whole calendar: the statement `OneToOne`, proved.
+use mathlib.Core.Path.{_≡_, refl, _∙_, ap, sym}
+use mathlib.Core.Bool.{true}
+use Prim.Native.Nat.{ℕ, suc, _+_, _-_, _≤_, _<_}
+use native.Mathlib.Nat.{lt-of-not-le}
+use native.Mathlib.Omega.{arith}
+use borrow.Author.Tests.{le-leb}
+use Rattle.dates.specs.declared.DayAnswer.the-variants.{Day, NoDate}
+use Rattle.dates.specs.declared.DateAnswer.the-variants.{On}
+use Rattle.dates.specs.Dates.{lastDay, leapRow, monthLength, date, dateOf}
+use Rattle.dates.specs.Numbers.{monthStart, yearStart, isReal, dayNumber, dayAnswer, dateAnswer}
+use Rattle.dates.specs.OneToOne.{OneToOne}
+use Rattle.dates.proofs.Months.{row-is, month-in-year}
+use Rattle.dates.proofs.Years.{year-is, year-step, year-past}
+use Rattle.dates.proofs.Counting.{dateFrom0, lengthIn, numberFrom0, counted, Split, split}
+use Rattle.dates.proofs.Real.{Real, real-is, is-real, real-day, no-date, day-real}
+
+-- the number of a date, counted from 0
+number-from-0 : (k m d : ℕ) → dayNumber (2000 + k) (suc m) (suc d) ≡ numberFrom0 k m d
+unfolding dayNumber
+number-from-0 k m d =
+    let year : 2000 + k - 2000 ≡ k = omega arith in
+    let month : suc m - 1 ≡ m = omega arith in
+    let day : suc d - 1 ≡ d = omega arith in
+    rw (year, month, day)
+
+-- a date of 2000 to 2199 has a day of the calendar, and no later date has one
+number-in : (k m d : ℕ) → k < 200 → m < 12 → d < lengthIn k m → numberFrom0 k m d ≤ lastDay
+number-in k m d hk hm hd =
+    let month = month-in-year (leapRow (2000 + k)) m (row-is (2000 + k)) hm in
+    let year = year-is (suc k) (omega arith) in
+    omega (arith, year-step k)
+
+year-in : (k m d : ℕ) → numberFrom0 k m d ≤ lastDay → k < 200
+year-in k m d h = lt-of-not-le (λ past. omega (arith, year-past k past))
+
+-- the date of a day of the calendar, counted from 0, is real
+module _ (n : ℕ) (h : n ≤ lastDay) where
+  date-split : dateOf n ≡ dateFrom0 (split n .k) (split n .m) (split n .d)
+  date-split = sym (ap dateOf (split n .total)) ∙ counted _ _ _ (split n .month) (split n .day)
+
+  split-real : Real (2000 + split n .k) (suc (split n .m)) (suc (split n .d))
+  split-real =
+      let month-back : suc (split n .m) - 1 ≡ split n .m = omega arith in
+      let year = year-in (split n .k) (split n .m) (split n .d) (omega (arith, split n .total)) in
+      record {
+        from-2000 = omega arith;
+        to-2199 = omega arith;
+        month-from-1 = omega arith;
+        month-to-12 = split n .month;
+        day-from-1 = omega arith;
+        day-to-last = rw month-back (split n .day);
+      }
+
+  split-number : dayNumber (2000 + split n .k) (suc (split n .m)) (suc (split n .d)) ≡ n
+  split-number = number-from-0 (split n .k) (split n .m) (split n .d) ∙ split n .total
+
+  its-date-is-real : isReal (dateOf n .year) (dateOf n .month) (dateOf n .day) ≡ true
+  its-date-is-real = rw date-split (is-real _ _ _ split-real)
+
+  its-date-has-it : dayAnswer (dateOf n .year) (dateOf n .month) (dateOf n .day) ≡ Day n
+  its-date-has-it = rw date-split (real-day _ _ _ split-real ∙ ap Day split-number)
+
+-- a real date, counted from 0
+module _ (y m d : ℕ) (r : Real y m d) where
+  year-back : 2000 + (y - 2000) ≡ y
+  year-back = omega arith
+
+  month-back : suc (m - 1) ≡ m
+  month-back = omega arith
+
+  day-back : suc (d - 1) ≡ d
+  day-back = omega arith
+
+  real-number : dayNumber y m d ≡ numberFrom0 (y - 2000) (m - 1) (d - 1)
+  unfolding dayNumber
+  real-number = rw year-back
+
+  real-length : d - 1 < lengthIn (y - 2000) (m - 1)
+  real-length = rw year-back (omega arith)
+
+  real-in : dayNumber y m d ≤ lastDay
+  real-in = rw real-number (number-in (y - 2000) (m - 1) (d - 1) (omega arith) (omega arith) real-length)
+
+  real-counted : dateOf (dayNumber y m d) ≡ date y m d
+  real-counted =
+      ap dateOf real-number ∙ counted (y - 2000) (m - 1) (d - 1) (omega arith) real-length ∙
+      rw (year-back, month-back, day-back)
+
+module _ (y m d n : ℕ) where
+  has-date : dayAnswer y m d ≡ Day n → (n ≤ lastDay) × (dateOf n ≡ date y m d)
+  has-date e =
+      let r = day-real y m d n e in
+      let same : dayNumber y m d ≡ n = cc (real-day y m d r) in
+      rw (← same) (real-in y m d r, real-counted y m d r)
+
+pub one-to-one : OneToOne
+unfolding dayAnswer dateAnswer
+one-to-one =
+    record {
+      date-is-real = its-date-is-real;
+      day-date-day = its-date-has-it;
+      day-is-in = λ y m d t. real-in y m d (real-is y m d t);
+      date-day-date = λ y m d t. rw (le-leb _ _ (real-in y m d (real-is y m d t)), real-counted y m d (real-is y m d t));
+      no-other-date = λ y m d t. rw t;
+      day-has-date = has-date;
+      date-has-day = λ y m d n h e. rw e at (its-date-has-it n h);
+    }

@@ -1,0 +1,30 @@
+-- `month::length` meets its contract: the code's table is the definition's.
+use mathlib.Core.Path.{_≡_}
+use native.Mathlib.Omega.{arith}
+use Rattle.dates.specs.Dates.{monthLength}
+use Rattle.dates.proofs.Months.{length-bounds}
+use borrow.Author.Needs.{needs}
+use Rattle.dates.proofs.month.length.Statement.{statement}
+use Rattle.dates.proofs.month.length.Tie as tie
+
+mul-n : tie.Need-mul-n
+mul-n c = search needs
+
+index-1-n : tie.Need-index-1-n
+index-1-n c = search needs
+
+index-2-n : tie.Need-index-2-n
+index-2-n c = search needs
+
+wide-requires : tie.Need-wide-requires
+wide-requires c κs = search needs
+
+returns : tie.Need-returns
+unfolding monthLength
+returns c = let a = c .before .before .args in
+    let b = length-bounds (a .row) (a .m) (omega arith) (omega arith) in
+    let e : c .wide .result ≡ monthLength (a .row) (a .m) = c .wide .ensures in
+    omega arith
+
+pub length-spec : {M : Type 1} → statement M
+length-spec = tie.close (tie.spec mul-n index-1-n index-2-n wide-requires returns)

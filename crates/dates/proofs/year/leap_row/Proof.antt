@@ -1,0 +1,26 @@
+-- `year::leap_row` meets its contract, test by test.
+use borrow.Author.Tests.{eq-eqb, ne-eqb}
+use native.Mathlib.Omega.{arith}
+use Rattle.dates.specs.Dates.{leapRow}
+use borrow.Author.Needs.{needs}
+use Rattle.dates.proofs.year.leap_row.Statement.{statement}
+use Rattle.dates.proofs.year.leap_row.Tie as tie
+
+returns : tie.Need-returns
+unfolding leapRow
+returns c = (simp (eq-eqb _ _ (c .if1 .taken)), omega arith)
+
+returns-2 : tie.Need-returns-2
+unfolding leapRow
+returns-2 c = (simp (ne-eqb _ _ (c .before .if1 .left), eq-eqb _ _ (c .if2 .taken)), omega arith)
+
+returns-3 : tie.Need-returns-3
+unfolding leapRow
+returns-3 c = (simp (ne-eqb _ _ (c .before .before .if1 .left), ne-eqb _ _ (c .before .if2 .left), eq-eqb _ _ (c .if3 .taken)), omega arith)
+
+returns-4 : tie.Need-returns-4
+unfolding leapRow
+returns-4 c = (simp (ne-eqb _ _ (c .before .before .if1 .left), ne-eqb _ _ (c .before .if2 .left), ne-eqb _ _ (c .if3 .left)), omega arith)
+
+pub leap-row-spec : {M : Type 1} → statement M
+leap-row-spec = tie.close (tie.spec returns returns-2 returns-3 returns-4)

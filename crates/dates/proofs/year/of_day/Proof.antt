@@ -1,0 +1,32 @@
+-- `year::of_day` meets its contract: the day lies between the first days of two years.
+use mathlib.Core.Path.{ap}
+use Prim.Native.Nat.{suc, _+_, _/_, _<_}
+use native.Mathlib.Omega.{arith}
+use native.Mathlib.Numerals.{add-one}
+use Rattle.dates.specs.Numbers.{yearStart}
+use Rattle.dates.proofs.Years.{year-is}
+use borrow.Author.Needs.{needs}
+use Rattle.dates.proofs.year.of_day.Statement.{statement}
+use Rattle.dates.proofs.year.of_day.Tie as tie
+
+add-start : tie.Need-add-start
+add-start c = search needs
+
+start-requires : tie.Need-start-requires
+start-requires c κs = search needs
+
+returns : tie.Need-returns
+returns c = let n = c .before .before .args .n in
+    omega (arith, year-is (n / 366) (omega arith), ap yearStart (add-one (n / 366)))
+
+add-result : tie.Need-add-result
+add-result c = search needs
+
+returns-2 : tie.Need-returns-2
+returns-2 c = let n = c .before .before .args .n in
+    let a = year-is (n / 366 + 1) (omega arith) in
+    let b : n / 366 + 1 < 200 = omega arith in
+    omega (arith, year-is (suc (n / 366 + 1)) (omega arith))
+
+pub of-day-spec : {M : Type 1} → statement M
+of-day-spec = tie.close (tie.spec add-start start-requires returns add-result returns-2)

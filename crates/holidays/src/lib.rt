@@ -1,0 +1,129 @@
+// Legal holidays and working days of the calendar.
+mod easter;
+
+use dates::Date;
+use dates::DateAnswer;
+use dates::DayAnswer;
+pub use easter::easter_day;
+ghost use mathlib.Core.Path.{_≡_};
+ghost use Prim.Native.Nat.{_≤_};
+ghost use Rattle.holidays.specs.Easter.{easterDay};
+ghost use Rattle.holidays.specs.Holidays.{fallsOn, isFixedHoliday, isAfterEaster, isHoliday};
+ghost use Rattle.holidays.specs.Working.{isWorking, workingBetween};
+
+// A day of a month, in any year.
+pub struct MonthDay {
+    pub month: u8,
+    pub day: u8,
+}
+
+// The holidays with a fixed date.
+const FIXED: [MonthDay; 8] = [
+    MonthDay { month: 1, day: 1 },
+    MonthDay { month: 5, day: 1 },
+    MonthDay { month: 5, day: 9 },
+    MonthDay { month: 6, day: 23 },
+    MonthDay { month: 8, day: 15 },
+    MonthDay { month: 11, day: 1 },
+    MonthDay { month: 12, day: 25 },
+    MonthDay { month: 12, day: 26 },
+];
+
+// Whether a day is a legal holiday; no number past the calendar's end is one.
+pub fn is_holiday(n: u64) -> bool
+    ensures { λ r. ⌜ r ≡ isHoliday n ⌝ }
+{
+    let answer = dates::date_of(n);
+    let DateAnswer::On(x) = answer else {
+        return false;
+    };
+    if is_fixed_holiday(x) {
+        return true;
+    }
+    is_after_easter(n, x.year as u64)
+}
+
+// Whether a day is Monday to Friday and no legal holiday; no number past the calendar's end is one.
+pub fn is_working(n: u64) -> bool
+    ensures { λ r. ⌜ r ≡ isWorking n ⌝ }
+{
+    if n > dates::LAST_DAY as u64 {
+        return false;
+    }
+    if dates::weekday(n) >= 5 {
+        return false;
+    }
+    !is_holiday(n)
+}
+
+// The working days strictly after a and strictly before b.
+pub fn working_between(a: u64, b: u64) -> u32
+    ensures { λ r. ⌜ r ≡ workingBetween a b ⌝ }
+{
+    if a > dates::LAST_DAY as u64 {
+        return 0;
+    }
+    if b > dates::LAST_DAY as u64 {
+        return count_working(a, dates::LAST_DAY as u64 + 1);
+    }
+    count_working(a, b)
+}
+
+// The same by a walk day by day, for days of the calendar and the day after its last.
+fn count_working(a: u64, b: u64) -> u32
+    requires { ⌜ (a ≤ 73048) × (b ≤ 73049) ⌝ }
+    ensures { λ r. ⌜ r ≡ workingBetween a b ⌝ }
+{
+    let mut count: u32 = 0;
+    let mut d = a + 1;
+    while d < b {
+        if is_working(d) {
+            count += 1;
+        }
+        d += 1;
+    }
+    count
+}
+
+// Whether a row of the table falls on a date.
+fn falls_on(f: MonthDay, x: Date) -> bool
+    ensures { λ r. ⌜ r ≡ fallsOn f x ⌝ }
+{
+    if f.month != x.month {
+        return false;
+    }
+    f.day == x.day
+}
+
+// Whether a row of the table of fixed holidays falls on a date.
+fn is_fixed_holiday(x: Date) -> bool
+    ensures { λ r. ⌜ r ≡ isFixedHoliday x ⌝ }
+{
+    let mut i: usize = 0;
+    while i < 8 {
+        let f = FIXED[i];
+        if falls_on(f, x) {
+            return true;
+        }
+        i += 1;
+    }
+    false
+}
+
+// Whether a day is 1, 39 or 50 days after Easter Sunday of a year.
+fn is_after_easter(n: u64, year: u64) -> bool
+    ensures { λ r. ⌜ r ≡ isAfterEaster n (easterDay year) ⌝ }
+{
+    let answer = easter_day(year);
+    let DayAnswer::Day(e) = answer else {
+        return false;
+    };
+    let easter = e as u64;
+    if n == easter + 1 {
+        return true;
+    }
+    if n == easter + 39 {
+        return true;
+    }
+    n == easter + 50
+}

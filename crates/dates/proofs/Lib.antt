@@ -3,5 +3,6 @@ pub mod Months
 pub mod Years
 pub mod Counting
 pub mod Real
+pub mod Answers
 pub mod OneToOne
 pub mod ThreeMonths

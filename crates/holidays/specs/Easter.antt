@@ -1,8 +1,12 @@
 -- 01, The calendar: Easter Sunday, by the Gregorian computus.
 -- Definitions only.
-use Prim.Native.Nat.{ℕ, _+_, _-_, _*_, _/_, _%_}
+use Prim.Native.Nat.{ℕ, _+_, _-_, _*_, _/_, _%_, _<_}
+use mathlib.Core.Path.{_≡_}
+use mathlib.Core.Bool.{true}
 use Rattle.dates.specs.declared.DayAnswer.{DayAnswer}
-use Rattle.dates.specs.Numbers.{dayAnswer}
+use Rattle.dates.specs.declared.DayAnswer.the-variants.{Day}
+use Rattle.dates.specs.Dates.{weekday}
+use Rattle.dates.specs.Numbers.{isReal, dayNumber, dayAnswer}
 use Rattle.holidays.specs.declared.MonthDay.{MonthDay}
 
 abbrev pub monthDay : ℕ → ℕ → MonthDay
@@ -61,3 +65,13 @@ easterSunday y = monthDay (n y) (p y + 1)
 -- The day of Easter Sunday; years off the calendar have none.
 unfoldable pub easterDay : ℕ → DayAnswer
 easterDay y = dayAnswer y (easterSunday y .month) (easterSunday y .day)
+
+-- An entry r of the table of year y: 22 March and r days on is Easter Sunday, a real date.
+pub record IsOffset (y r : ℕ) : Type 0 where
+  pub is-real : isReal y (easterSunday y .month) (easterSunday y .day) ≡ true
+  pub is-days-on : dayNumber y 3 22 + r ≡ dayNumber y (easterSunday y .month) (easterSunday y .day)
+  pub is-small : r < 35
+
+-- Easter Sunday is a Sunday in all 200 years: a check of the computus, of the weekdays and of the month lengths at once.
+abbrev pub EasterIsSunday : Type 0
+EasterIsSunday = (y n : ℕ) → easterDay y ≡ Day n → weekday n ≡ 6

@@ -1,8 +1,8 @@
 // Easter Sunday, 2000 to 2199.
 use dates::DayAnswer;
 ghost use mathlib.Core.Path.{_≡_};
-ghost use Prim.Native.Nat.{_+_, _<_, _≤_};
-ghost use Rattle.holidays.specs.Easter.{easterDay};
+ghost use Prim.Native.Nat.{_+_, _<_};
+ghost use Rattle.holidays.specs.Easter.{easterDay, IsOffset};
 
 // The days from 22 March, the earliest date that Easter can have, to Easter Sunday, year by year from 2000 on.
 const EASTER: [u8; 200] = [
@@ -216,7 +216,13 @@ pub fn easter_day(year: u64) -> DayAnswer
     let DayAnswer::Day(d) = march_22 else {
         return DayAnswer::NoDate;
     };
-    let k = (year - 2000) as usize;
-    let offset = EASTER[k];
-    DayAnswer::Day(d + offset as u32)
+    DayAnswer::Day(d + offset((year - 2000) as usize) as u32)
+}
+
+// The table's entry of 2000 + k.
+fn offset(k: usize) -> u8
+    requires { ⌜ k < 200 ⌝ }
+    ensures { λ r. ⌜ IsOffset (2000 + k) r ⌝ }
+{
+    EASTER[k]
 }

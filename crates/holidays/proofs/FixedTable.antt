@@ -1,0 +1,18 @@
+-- A walk over a table of fixed holidays: what one more row says of a date.
+use mathlib.Core.Path.{_≡_}
+use mathlib.Core.Bool.{true, false}
+use mathlib.Core.List.{List}
+use Prim.Native.Nat.{ℕ, _+_, _<_}
+use native.Mathlib.Numerals.{add-one}
+use lib.ListN.{length, drop, getD}
+use lib.Seq.{drop-cons}
+use Rattle.dates.specs.declared.Date.{Date}
+use Rattle.holidays.specs.declared.MonthDay.{MonthDay}
+use Rattle.holidays.specs.Holidays.{fallsOn, anyFallsOn}
+
+module _ (l : List MonthDay) (i : ℕ) (f : MonthDay) (x : Date) (h : i < length l) where
+  pub row-passed : fallsOn (getD l i f) x ≡ false → anyFallsOn (drop i l) x ≡ anyFallsOn (drop (i + 1) l) x
+  row-passed e = rw (drop-cons l i f h, e, add-one i)
+
+  pub row-met : fallsOn (getD l i f) x ≡ true → anyFallsOn (drop i l) x ≡ true
+  row-met e = rw (drop-cons l i f h, e)

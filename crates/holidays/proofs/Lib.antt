@@ -1,0 +1,3 @@
+pub mod EasterTable
+pub mod FixedTable
+pub mod Counting

@@ -1,0 +1,66 @@
+-- `is_fixed_holiday` meets its contract: the rows passed do not fall on the date.
+use Prim.Native.Nat.{ℕ, _≤_, _-_}
+use mathlib.Core.Path.{_≡_, refl, _∙_, ap, sym}
+use native.Mathlib.Omega.{arith}
+use lib.ListN.{drop}
+use Rattle.holidays.specs.Holidays.{fixedHolidays, anyFallsOn, isFixedHoliday}
+use Rattle.holidays.proofs.FixedTable.{row-passed, row-met}
+use borrow.Author.Needs.{needs}
+use Rattle.holidays.proofs.is_fixed_holiday.Statement.{statement}
+use Rattle.holidays.proofs.is_fixed_holiday.Tie as tie
+
+abbrev Inv-loop : tie.InvT-loop
+Inv-loop x i₀ i = (i ≤ 8) × (anyFallsOn fixedHolidays x ≡ anyFallsOn (drop i fixedHolidays) x)
+
+abbrev μ-loop : tie.MeasureT-loop
+μ-loop x i₀ i = 8 - i
+
+loop-holds : tie.Need-loop-holds Inv-loop μ-loop
+loop-holds c = (search needs, refl)
+
+mul-f : tie.Need-mul-f Inv-loop μ-loop
+mul-f c = search needs
+
+array-copy-out-f : tie.Need-array-copy-out-f Inv-loop μ-loop
+array-copy-out-f c = search needs
+
+falls-on-requires : tie.Need-falls-on-requires Inv-loop μ-loop
+falls-on-requires c κs = search needs
+
+returns : tie.Need-returns Inv-loop μ-loop
+unfolding isFixedHoliday
+returns c = let loop = c .before .before .before .before .loop in
+    let met = sym (c .before .falls-on .ensures) ∙ c .if1 .taken in
+    sym (loop .inv .1 ∙ row-met fixedHolidays (loop .i) _ _ (search needs) met)
+
+add-i : tie.Need-add-i Inv-loop μ-loop
+add-i c = search needs
+
+loop-less : tie.Need-loop-less Inv-loop μ-loop
+loop-less c = search needs
+
+loop-again : tie.Need-loop-again Inv-loop μ-loop
+loop-again c = let loop = c .before .before .before .before .loop in
+    let passed = sym (c .before .falls-on .ensures) ∙ c .if1 .left in
+    (search needs, loop .inv .1 ∙ row-passed fixedHolidays (loop .i) _ _ (search needs) passed)
+
+returns-2 : tie.Need-returns-2 Inv-loop μ-loop
+unfolding isFixedHoliday
+returns-2 c = let end : c .before .loop .i ≡ 8 = omega arith in
+    sym (c .before .loop .inv .1 ∙ ap (λ (n : ℕ). anyFallsOn (drop n fixedHolidays) (c .before .before .args .x)) end)
+
+pub is-fixed-holiday-spec : {M : Type 1} → statement M
+is-fixed-holiday-spec =
+    tie.close
+    (tie.spec
+    Inv-loop
+    μ-loop
+    loop-holds
+    mul-f
+    array-copy-out-f
+    falls-on-requires
+    returns
+    add-i
+    loop-less
+    loop-again
+    returns-2)

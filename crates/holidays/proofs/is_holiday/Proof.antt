@@ -1,0 +1,57 @@
+-- `is_holiday` meets its contract: a day with a date that is a fixed or a moving holiday.
+use mathlib.Core.Path.{_∙_, sym}
+use borrow.Author.Tests.{le-leb, lt-leb}
+use Rattle.dates.proofs.Answers.{answer-on, answer-off}
+use Rattle.holidays.specs.Holidays.{isHoliday, isHolidayOn}
+use borrow.Author.Needs.{needs}
+use Rattle.holidays.proofs.is_holiday.Statement.{statement}
+use Rattle.holidays.proofs.is_holiday.Tie as tie
+
+date-of-requires : tie.Need-date-of-requires
+date-of-requires c κs = search needs
+
+enum-known-answer : tie.Need-enum-known-answer
+enum-known-answer c = search needs
+
+enum-told : tie.Need-enum-told
+enum-told c = search needs
+
+returns : tie.Need-returns
+unfolding isHoliday
+returns c = rw (lt-leb _ _ (answer-off _ (sym (c .before .before .date-of .ensures) ∙ c .enum-told .given .1)))
+
+is-fixed-holiday-requires : tie.Need-is-fixed-holiday-requires
+is-fixed-holiday-requires c κs = search needs
+
+returns-2 : tie.Need-returns-2
+unfolding isHoliday isHolidayOn
+returns-2 c = let date = sym (c .before .before .before .before .before .date-of .ensures) ∙ c .before .before .before .answer .given .1 in
+    let on = answer-on _ _ date in
+    rw (le-leb _ _ (on .0), ← on .1, ← c .before .is-fixed-holiday .ensures, c .if1 .taken)
+
+cast-is-after-easter : tie.Need-cast-is-after-easter
+cast-is-after-easter c = search needs
+
+is-after-easter-requires : tie.Need-is-after-easter-requires
+is-after-easter-requires c κs = search needs
+
+returns-3 : tie.Need-returns-3
+unfolding isHoliday isHolidayOn
+returns-3 c = let date = sym (c .before .before .before .before .before .before .before .date-of .ensures) ∙ c .before .before .before .before .before .answer .given .1 in
+    let on = answer-on _ _ date in
+    let fixed = c .before .before .before .is-fixed-holiday .ensures in
+    rw (le-leb _ _ (on .0), ← on .1, ← fixed, c .before .before .if1 .left, c .is-after-easter .ensures)
+
+pub is-holiday-spec : {M : Type 1} → statement M
+is-holiday-spec =
+    tie.close
+    (tie.spec
+    date-of-requires
+    enum-known-answer
+    enum-told
+    returns
+    is-fixed-holiday-requires
+    returns-2
+    cast-is-after-easter
+    is-after-easter-requires
+    returns-3)

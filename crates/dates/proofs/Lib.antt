@@ -6,3 +6,4 @@ pub mod Real
 pub mod Answers
 pub mod OneToOne
 pub mod ThreeMonths
+pub mod Examples

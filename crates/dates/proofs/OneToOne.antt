@@ -4,7 +4,7 @@ use mathlib.Core.Bool.{true}
 use Prim.Native.Nat.{ℕ, suc, _+_, _-_, _≤_, _<_}
 use native.Mathlib.Nat.{lt-of-not-le}
 use native.Mathlib.Omega.{arith}
-use borrow.Author.Tests.{le-leb}
+use borrow.Author.Tests.{le-leb, lt-leb}
 use Rattle.dates.specs.declared.DayAnswer.the-variants.{Day, NoDate}
 use Rattle.dates.specs.declared.DateAnswer.the-variants.{On}
 use Rattle.dates.specs.Dates.{lastDay, leapRow, monthLength, date, dateOf}
@@ -100,6 +100,7 @@ one-to-one =
     record {
       date-is-real = its-date-is-real;
       day-date-day = its-date-has-it;
+      no-other-day = λ n h. rw (lt-leb _ _ h);
       day-is-in = λ y m d t. real-in y m d (real-is y m d t);
       date-day-date = λ y m d t. rw (le-leb _ _ (real-in y m d (real-is y m d t)), real-counted y m d (real-is y m d t));
       no-other-date = λ y m d t. rw t;

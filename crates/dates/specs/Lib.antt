@@ -2,3 +2,4 @@ pub mod Dates
 pub mod Numbers
 pub mod OneToOne
 pub mod Months
+pub mod Examples

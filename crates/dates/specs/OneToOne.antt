@@ -1,10 +1,10 @@
 -- 01, The calendar: what it means that days and dates are one to one, over the whole calendar.
 -- Definitions only: `one-to-one` of proofs/ proves it.
-use Prim.Native.Nat.{ℕ, _≤_}
+use Prim.Native.Nat.{ℕ, _≤_, _<_}
 use mathlib.Core.Path.{_≡_}
 use mathlib.Core.Bool.{true, false}
 use Rattle.dates.specs.declared.DayAnswer.the-variants.{Day, NoDate}
-use Rattle.dates.specs.declared.DateAnswer.the-variants.{On}
+use Rattle.dates.specs.declared.DateAnswer.the-variants.{On, OffCalendar}
 use Rattle.dates.specs.Dates.{lastDay, date, dateOf}
 use Rattle.dates.specs.Numbers.{isReal, dayNumber, dayAnswer, dateAnswer}
 
@@ -15,6 +15,8 @@ pub record OneToOne : Type 0 where
   pub date-is-real : (n : ℕ) → n ≤ lastDay → isReal (dateOf n .year) (dateOf n .month) (dateOf n .day) ≡ true
   -- and the day of that date is the day
   pub day-date-day : (n : ℕ) → n ≤ lastDay → dayAnswer (dateOf n .year) (dateOf n .month) (dateOf n .day) ≡ Day n
+  -- a number past the last day has no date
+  pub no-other-day : (n : ℕ) → lastDay < n → dateAnswer n ≡ OffCalendar
   -- a real date has a day of the calendar
   pub day-is-in : (y m d : ℕ) → isReal y m d ≡ true → dayNumber y m d ≤ lastDay
   -- and the date of that day is the date

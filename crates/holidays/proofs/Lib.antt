@@ -1,3 +1,4 @@
 pub mod EasterTable
 pub mod FixedTable
 pub mod Counting
+pub mod Examples

@@ -1,3 +1,4 @@
 pub mod Easter
 pub mod Holidays
 pub mod Working
+pub mod Examples

@@ -1,17 +1,19 @@
 -- The dated examples of Easter, holidays and working days, computed from the definitions.
 use mathlib.Core.Path.{_≡_, refl, _∙_}
-use mathlib.Core.Bool.{Bool, not, _&&_}
-use Prim.Native.Nat.{ℕ}
+use mathlib.Core.Bool.{not, _&&_}
+use Prim.Native.Nat.{ℕ, _≤_}
+use native.Mathlib.Omega.{arith}
 use borrow.Author.Tests.{le-leb}
 use lib.Dec.{ltb}
 use Rattle.dates.specs.declared.DayAnswer.the-variants.{Day}
-use Rattle.dates.specs.Dates.{weekday, leapRow, monthLength, date, next, dateOf}
+use Rattle.dates.specs.Dates.{lastDay, weekday, leapRow, monthLength, date, next, dateOf}
 use Rattle.dates.specs.Numbers.{monthStart, yearStart, dayNumber, isReal, dayAnswer}
 use Rattle.dates.proofs.OneToOne.{one-to-one}
 use Rattle.holidays.specs.Easter.{easterSunday, easterDay}
 use Rattle.holidays.specs.Holidays.{fallsOn, isFixedHoliday, isAfterEaster, isHolidayOn, isHoliday}
 use Rattle.holidays.specs.Working.{isWorking, workingFrom, workingBetween}
 use Rattle.holidays.specs.Examples.{Examples}
+use Rattle.holidays.proofs.Counting.{past-none}
 
 -- a real date's day, from the date: no counting up to it
 module _ (y m d : ℕ) (e : dayAnswer y m d ≡ Day (dayNumber y m d)) where
@@ -43,9 +45,9 @@ between-19-and-26-may : workingBetween (dayNumber 2021 5 19) (dayNumber 2021 5 2
 unfolding weekday leapRow monthLength next dateOf monthStart yearStart dayNumber isReal dayAnswer easterSunday easterDay fallsOn isFixedHoliday isAfterEaster isHolidayOn isHoliday isWorking workingFrom workingBetween
 between-19-and-26-may = refl
 
-between-past-the-end : workingBetween 73047 73060 ≡ 1
-unfolding weekday leapRow monthLength next dateOf monthStart yearStart dayNumber isReal dayAnswer easterSunday easterDay fallsOn isFixedHoliday isAfterEaster isHolidayOn isHoliday isWorking workingFrom workingBetween
-between-past-the-end = refl
+none-past-the-end : (a b : ℕ) → lastDay ≤ a → workingBetween a b ≡ 0
+unfolding workingBetween
+none-past-the-end a b h = past-none _ _ (omega arith)
 
 pub examples : Examples
 unfolding weekday leapRow monthLength monthStart yearStart dayNumber isReal dayAnswer easterSunday easterDay fallsOn isFixedHoliday isAfterEaster isHolidayOn isWorking workingFrom workingBetween
@@ -73,11 +75,12 @@ examples =
       between-a-day-and-itself = refl;
       between-a-day-and-the-next = refl;
       between-backwards = refl;
-      between-past-the-end = between-past-the-end;
+      between-past-the-end = none-past-the-end;
       friday = worked-on 2021 5 21 refl;
       saturday = worked-on 2021 5 22 refl;
       sunday = worked-on 2021 5 23 refl;
       tuesday = worked-on 2021 5 25 refl;
+      last-day = worked-on 2199 12 31 refl;
       past-the-end = refl;
       january-1 = holiday-on 2020 1 1 refl;
       january-2 = holiday-on 2020 1 2 refl;

@@ -1,9 +1,10 @@
 -- 01, Dated examples: those of Easter, holidays and working days, each with neighbours on the other side of its rule.
 -- Definitions only: `examples` of proofs/ proves them.
-use Prim.Native.Nat.{ℕ}
+use Prim.Native.Nat.{ℕ, _≤_}
 use mathlib.Core.Path.{_≡_}
 use mathlib.Core.Bool.{Bool, true, false}
 use Rattle.dates.specs.declared.DayAnswer.the-variants.{Day, NoDate}
+use Rattle.dates.specs.Dates.{lastDay}
 use Rattle.dates.specs.Numbers.{dayNumber, dayAnswer}
 use Rattle.holidays.specs.Easter.{monthDay, easterSunday, easterDay}
 use Rattle.holidays.specs.Holidays.{isHoliday}
@@ -43,12 +44,13 @@ pub record Examples : Type 0 where
   pub between-a-day-and-itself : workingBetween 7815 7815 ≡ 0
   pub between-a-day-and-the-next : workingBetween 7815 7816 ≡ 0
   pub between-backwards : workingBetween 7815 7809 ≡ 0
-  pub between-past-the-end : workingBetween 73047 73060 ≡ 1
+  pub between-past-the-end : (a b : ℕ) → lastDay ≤ a → workingBetween a b ≡ 0
   -- "A working day is Monday to Friday and no legal holiday."
   pub friday : workedOn 2021 5 21 ≡ true
   pub saturday : workedOn 2021 5 22 ≡ false
   pub sunday : workedOn 2021 5 23 ≡ false
   pub tuesday : workedOn 2021 5 25 ≡ true
+  pub last-day : workedOn 2199 12 31 ≡ true
   pub past-the-end : isWorking 73049 ≡ false
   -- "Holidays: 1 January, 1 May, 9 May, 23 June, 15 August, 1 November, 25 and 26 December"
   pub january-1 : holidayOn 2020 1 1 ≡ true

@@ -1,0 +1,47 @@
+// Compares the calendar's code with outside data, and walks all its days and dates both ways.
+//
+// easter.txt has Easter Sunday of the years 2000 to 2199, luxembourg-holidays.txt the legal holidays of those years, each
+// a date aaaammjj to a line. Every difference is a line of its own, before the count of what was compared.
+mod compare;
+mod tally;
+mod text;
+mod walk;
+
+fn main() {
+    easter_sundays();
+    holidays();
+    let days = walk::days();
+    tally::report(b"days to dates and back: ", days);
+    let dates = walk::dates();
+    tally::report(b"dates to days and back: ", dates);
+}
+
+fn easter_sundays() {
+    let path = b"easter.txt";
+    let fd = os::open_read(path);
+    if fd < 0 {
+        os::fail(path);
+        return;
+    }
+    let mut list = io::large_buffer();
+    let n = io::read_full(fd, &mut list);
+    libc::close(fd);
+    let t = compare::easter_sundays(&list[..n]);
+    tally::report(b"Easter Sundays: ", t);
+}
+
+fn holidays() {
+    let path = b"luxembourg-holidays.txt";
+    let fd = os::open_read(path);
+    if fd < 0 {
+        os::fail(path);
+        return;
+    }
+    let mut list = io::large_buffer();
+    let n = io::read_full(fd, &mut list);
+    libc::close(fd);
+    let listed = compare::holidays_of_the_file(&list[..n]);
+    tally::report(b"holidays of the file: ", listed);
+    let found = compare::holidays_of_the_code(&list[..n]);
+    tally::report(b"holidays of the code: ", found);
+}

@@ -1,0 +1,69 @@
+// What comparing came to, counted and printed.
+use libc::STDOUT_FILENO;
+
+// What comparing one item came to; one that is no case of what is compared counts as nothing.
+pub(crate) enum Outcome {
+    Same,
+    LeftOut,
+    Different,
+    Nothing,
+}
+
+pub(crate) struct Tally {
+    pub same: u64,
+    pub left_out: u64,
+    pub different: u64,
+}
+
+pub(crate) fn none() -> Tally {
+    Tally {
+        same: 0,
+        left_out: 0,
+        different: 0,
+    }
+}
+
+pub(crate) fn counted(t: Tally, o: Outcome) -> Tally {
+    match o {
+        Outcome::Same => Tally {
+            same: std::num::wrapping_add_u64(t.same, 1),
+            ..t
+        },
+        Outcome::LeftOut => Tally {
+            left_out: std::num::wrapping_add_u64(t.left_out, 1),
+            ..t
+        },
+        Outcome::Different => Tally {
+            different: std::num::wrapping_add_u64(t.different, 1),
+            ..t
+        },
+        Outcome::Nothing => t,
+    }
+}
+
+// A difference is printed where it is found.
+pub(crate) fn outcome(is_same: bool, label: &[u8], n: u64) -> Outcome {
+    if is_same {
+        return Outcome::Same;
+    }
+    line(label, n);
+    Outcome::Different
+}
+
+// Prints what was compared under a label: how many were the same, were left out and differ.
+pub(crate) fn report(label: &[u8], t: Tally) {
+    io::write_all(STDOUT_FILENO, label);
+    io::print_decimal(STDOUT_FILENO, t.same);
+    io::write_all(STDOUT_FILENO, b" the same, ");
+    io::print_decimal(STDOUT_FILENO, t.left_out);
+    io::write_all(STDOUT_FILENO, b" left out, ");
+    io::print_decimal(STDOUT_FILENO, t.different);
+    io::write_all(STDOUT_FILENO, b" different\n");
+}
+
+// Prints a label and a number.
+fn line(label: &[u8], n: u64) {
+    io::write_all(STDOUT_FILENO, label);
+    io::print_decimal(STDOUT_FILENO, n);
+    io::write_all(STDOUT_FILENO, b"\n");
+}

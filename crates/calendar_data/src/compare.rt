@@ -23,13 +23,13 @@ fn most(a: usize, b: usize) -> usize {
 }
 
 fn easter_sunday(list: &[u8], k: usize) -> Outcome {
-    let year = 2000 + k as u64;
+    let year = std::num::wrapping_add_u64(2000, k as u64);
     let answer = holidays::easter_day(year);
     let DayAnswer::Day(n) = answer else {
-        return tally::outcome(false, b"year without Easter: ", year);
+        return tally::judged(false, b"year without Easter: ", year);
     };
     let is_same = written(n as u64) == text::number_of_line(list, k);
-    tally::outcome(
+    tally::judged(
         is_same,
         b"Easter Sunday by the code only: ",
         written(n as u64),
@@ -51,9 +51,9 @@ pub(crate) fn holidays_of_the_file(list: &[u8]) -> Tally {
 fn listed(number: u64) -> Outcome {
     let answer = dates::day_of(number / 10_000, number / 100 % 100, number % 100);
     let DayAnswer::Day(n) = answer else {
-        return tally::outcome(false, b"date of the file that is none: ", number);
+        return tally::judged(false, b"date of the file that is none: ", number);
     };
-    tally::outcome(
+    tally::judged(
         holidays::is_holiday(n as u64),
         b"holiday by the file only: ",
         number,
@@ -80,7 +80,7 @@ fn found(list: &[u8], n: u64) -> Outcome {
     if !is_listed && is_left_out(number) {
         return Outcome::LeftOut;
     }
-    tally::outcome(is_listed, b"holiday by the code only: ", number)
+    tally::judged(is_listed, b"holiday by the code only: ", number)
 }
 
 // 9 May of 2000 to 2018: the file has that holiday from 2019 on only, the calendar in every year.

@@ -42,7 +42,7 @@ pub(crate) fn counted(t: Tally, o: Outcome) -> Tally {
 }
 
 // A difference is printed where it is found.
-pub(crate) fn outcome(is_same: bool, label: &[u8], n: u64) -> Outcome {
+pub(crate) fn judged(is_same: bool, label: &[u8], n: u64) -> Outcome {
     if is_same {
         return Outcome::Same;
     }

@@ -20,10 +20,10 @@ pub(crate) fn days() -> Tally {
 fn day(n: u64) -> Outcome {
     let answer = dates::date_of(n);
     let DateAnswer::On(x) = answer else {
-        return tally::outcome(false, b"day without a date: ", n);
+        return tally::judged(false, b"day without a date: ", n);
     };
     let back = dates::day_of(x.year as u64, x.month as u64, x.day as u64);
-    tally::outcome(is_day(back, n), b"day that does not come back: ", n)
+    tally::judged(is_day(back, n), b"day that does not come back: ", n)
 }
 
 fn is_day(answer: DayAnswer, n: u64) -> bool {
@@ -36,7 +36,7 @@ fn is_day(answer: DayAnswer, n: u64) -> bool {
 // 200 years of 12 months of 31 days each, in their order: those that have a day have the days 0, 1, 2 and so on.
 pub(crate) fn dates() -> Tally {
     let mut t = tally::none();
-    let mut i: u64 = 0;
+    let mut i: u32 = 0;
     while i < 74_400 {
         t = tally::counted(t, date(i, std::num::wrapping_add_u64(t.same, t.different)));
         i += 1;
@@ -45,17 +45,17 @@ pub(crate) fn dates() -> Tally {
 }
 
 // The i-th of those dates has the day next, if it has one, and that day has the date.
-fn date(i: u64, next: u64) -> Outcome {
-    let year = 2000 + i / 372;
-    let month = i % 372 / 31 + 1;
-    let day = i % 31 + 1;
+fn date(i: u32, next: u64) -> Outcome {
+    let year = 2000 + (i / 372) as u64;
+    let month = (i % 372 / 31 + 1) as u64;
+    let day = (i % 31 + 1) as u64;
     let answer = dates::day_of(year, month, day);
     let DayAnswer::Day(n) = answer else {
         return Outcome::Nothing;
     };
     let written = 10_000 * year + 100 * month + day;
     let is_same = n as u64 == next && has_date(n as u64, written);
-    tally::outcome(is_same, b"date that does not come back: ", written)
+    tally::judged(is_same, b"date that does not come back: ", written)
 }
 
 fn has_date(n: u64, written: u64) -> bool {

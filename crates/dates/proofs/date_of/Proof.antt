@@ -1,4 +1,5 @@
 -- `date_of` meets its contract: a day past the last has no date.
+use native.Mathlib.Omega.{arith}
 use borrow.Author.Tests.{le-leb, lt-leb}
 use Rattle.dates.specs.Numbers.{dateAnswer}
 use borrow.Author.Needs.{needs}
@@ -10,7 +11,7 @@ cast-if1 c = search needs
 
 returns : tie.Need-returns
 unfolding dateAnswer
-returns c = rw (lt-leb _ _ (c .if1 .taken))
+returns c = rw (lt-leb (c .before .args .n) 73048 (omega arith))
 
 cast-date-on : tie.Need-cast-date-on
 cast-date-on c = search needs
@@ -20,7 +21,7 @@ date-on-requires c κs = search needs
 
 returns-2 : tie.Need-returns-2
 unfolding dateAnswer
-returns-2 c = rw (le-leb _ _ (c .before .if1 .left), c .date-on .ensures .0)
+returns-2 c = rw (le-leb (c .before .before .args .n) 73048 (omega arith), c .date-on .ensures .0)
 
 pub date-of-spec : {M : Type 1} → statement M
 date-of-spec = tie.close (tie.spec cast-if1 returns cast-date-on date-on-requires returns-2)

@@ -1,5 +1,6 @@
 -- `three_months_after` meets its contract: in the same year up to September, in the next from October on.
 use mathlib.Core.Path.{_∙_}
+use native.Mathlib.Omega.{arith}
 use borrow.Author.Tests.{lt-leb}
 use Rattle.dates.specs.Months.{threeMonthsAfter}
 use Rattle.dates.proofs.ThreeMonths.{in-the-year, in-the-next}
@@ -12,7 +13,7 @@ cast-if1 c = search needs
 
 returns : tie.Need-returns
 unfolding threeMonthsAfter
-returns c = rw (lt-leb _ _ (c .if1 .taken))
+returns c = rw (lt-leb (c .before .args .n) 73048 (omega arith))
 
 cast-date-on : tie.Need-cast-date-on
 cast-date-on c = search needs

@@ -1,7 +1,7 @@
 // Compares the calendar's code with outside data, and walks all its days and dates both ways.
 //
-// easter.txt has Easter Sunday of the years 2000 to 2199, luxembourg-holidays.txt the legal holidays of those years, each
-// a date aaaammjj to a line. Every difference is a line of its own, before the count of what was compared.
+// easter.txt has Easter Sunday of the years 2000 to 2199, luxembourg-holidays.txt the legal holidays of those years,
+// each a date aaaammjj to a line. Every difference is a line of its own, before the count of what was compared.
 mod compare;
 mod tally;
 mod text;

@@ -47,12 +47,16 @@ days n k m e zero h = rw add-zero e
 days n k m e (suc d) h = rw add-suc (ap next (days n k m e d (omega arith)) ∙ next-day k m d h)
 
 -- the day after the last day d of a month
-month-end : (n k m d : ℕ) → dateOf n ≡ dateFrom0 k m 0 → suc d ≡ lengthIn k m → dateOf (n + lengthIn k m) ≡ next (dateFrom0 k m d)
+month-end :
+    (n k m d : ℕ) → dateOf n ≡ dateFrom0 k m 0 → suc d ≡ lengthIn k m →
+    dateOf (n + lengthIn k m) ≡ next (dateFrom0 k m d)
 unfolding dateOf
 month-end n k m d e h = rw (← h, add-suc) (ap next (days n k m e d (omega arith)))
 
 -- from the first of a year on
-months : (n k : ℕ) → dateOf n ≡ dateFrom0 k 0 0 → (m : ℕ) → m < 12 → dateOf (n + monthStart (leapRow (2000 + k)) m) ≡ dateFrom0 k m 0
+months :
+    (n k : ℕ) → dateOf n ≡ dateFrom0 k 0 0 → (m : ℕ) → m < 12 →
+    dateOf (n + monthStart (leapRow (2000 + k)) m) ≡ dateFrom0 k m 0
 unfolding monthStart
 months n k e zero h = rw add-zero e
 months n k e (suc m) h =
@@ -83,11 +87,21 @@ year-total : (n k m d : ℕ) → m ≡ 11 → suc d ≡ lengthIn k m → numberF
 unfolding yearStart monthStart
 year-total n k m d q e t = omega (arith, rw q at t, rw q at e)
 
-split-next : (n : ℕ) → (s : Split n) → (suc (s .d) ≡ lengthIn (s .k) (s .m)) ⊎ (suc (s .d) < lengthIn (s .k) (s .m)) → (suc (s .m) ≡ 12) ⊎ (suc (s .m) < 12) → Split (suc n)
+split-next :
+    (n : ℕ) → (s : Split n) → (suc (s .d) ≡ lengthIn (s .k) (s .m)) ⊎ (suc (s .d) < lengthIn (s .k) (s .m)) →
+    (suc (s .m) ≡ 12) ⊎ (suc (s .m) < 12) → Split (suc n)
 unfolding monthStart yearStart
-split-next n s (inr l) w = record { k = s .k; m = s .m; d = suc (s .d); month = s .month; day = l; total = omega (arith, s .total) }
+split-next n s (inr l) w =
+    record { k = s .k; m = s .m; d = suc (s .d); month = s .month; day = l; total = omega (arith, s .total) }
 split-next n s (inl e) (inr l) =
-    record { k = s .k; m = suc (s .m); d = 0; month = l; day = month-some (s .k) (suc (s .m)) l; total = omega (arith, s .total, e) }
+    record {
+      k = s .k;
+      m = suc (s .m);
+      d = 0;
+      month = l;
+      day = month-some (s .k) (suc (s .m)) l;
+      total = omega (arith, s .total, e);
+    }
 split-next n s (inl e) (inl l) =
     record {
       k = suc (s .k);
@@ -103,9 +117,11 @@ unfolding monthStart yearStart
 split zero = record { k = 0; m = 0; d = 0; month = omega arith; day = month-some 0 0 (omega arith); total = refl }
 split (suc n) = split-next n (split n) (eq-or-lt-of-le (split n .day)) (eq-or-lt-of-le (split n .month))
 
--- A number n whose year k begins at s and whose month m begins at t, days of the year later, as the code finds them: what
--- is left is the day of the month, and the three are the date of n.
-module _ (n k s row m t : ℕ) (row-of : row ≡ leapRow (2000 + k)) (year-at : s ≡ yearStart k) (month-at : t ≡ monthStart row m) (h : m < 12) (year-from : yearStart k ≤ n) (month-from : monthStart row m ≤ n - s) (month-to : n - s < monthStart row (suc m)) where
+-- A number n whose year k begins at s and whose month m begins t days later, as the code finds them: what is left is
+-- the day of the month, and the three are the date of n.
+module _ (n k s row m t : ℕ) (row-of : row ≡ leapRow (2000 + k)) (year-at : s ≡ yearStart k)
+    (month-at : t ≡ monthStart row m) (h : m < 12) (year-from : yearStart k ≤ n)
+    (month-from : monthStart row m ≤ n - s) (month-to : n - s < monthStart row (suc m)) where
   pub placed-day : n - s - t < monthLength row m
   unfolding monthStart
   placed-day = omega arith

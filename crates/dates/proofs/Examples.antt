@@ -10,14 +10,16 @@ use Rattle.dates.specs.Examples.{Examples}
 use Rattle.dates.proofs.OneToOne.{one-to-one}
 
 -- three months after a real date, from the date: no counting up to it
-pub three-months-from : (y m d n : ℕ) → dayAnswer y m d ≡ Day n → threeMonthsAfter n ≡ min lastDay (threeMonthsOn (date y m d))
+pub three-months-from :
+    (y m d n : ℕ) → dayAnswer y m d ≡ Day n → threeMonthsAfter n ≡ min lastDay (threeMonthsOn (date y m d))
 unfolding threeMonthsAfter
 three-months-from y m d n e =
     let h = one-to-one .day-has-date y m d n e in
     rw (le-leb _ _ (h .0), h .1)
 
 pub examples : Examples
-unfolding weekday leapRow monthLength next dateOf monthStart yearStart dayNumber isReal dayAnswer dateAnswer onOrLast threeMonthsOn threeMonthsAfter
+unfolding weekday leapRow monthLength next dateOf monthStart yearStart dayNumber isReal dayAnswer
+    dateAnswer onOrLast threeMonthsOn threeMonthsAfter
 examples =
     record {
       first-day = refl;

@@ -102,7 +102,8 @@ one-to-one =
       day-date-day = its-date-has-it;
       no-other-day = λ n h. rw (lt-leb _ _ h);
       day-is-in = λ y m d t. real-in y m d (real-is y m d t);
-      date-day-date = λ y m d t. rw (le-leb _ _ (real-in y m d (real-is y m d t)), real-counted y m d (real-is y m d t));
+      date-day-date = λ y m d t.
+          rw (le-leb _ _ (real-in y m d (real-is y m d t)), real-counted y m d (real-is y m d t));
       no-other-date = λ y m d t. rw t;
       day-has-date = has-date;
       date-has-day = λ y m d n h e. rw e at (its-date-has-it n h);

@@ -39,7 +39,14 @@ module _ (y m d : ℕ) where
   pub is-real : Real y m d → isReal y m d ≡ true
   unfolding isReal
   is-real r =
-      rw (le-leb 2000 y (r .from-2000), le-leb y 2199 (r .to-2199), le-leb 1 m (r .month-from-1), le-leb m 12 (r .month-to-12), le-leb 1 d (r .day-from-1), le-leb _ _ (r .day-to-last))
+      rw (
+        le-leb 2000 y (r .from-2000),
+        le-leb y 2199 (r .to-2199),
+        le-leb 1 m (r .month-from-1),
+        le-leb m 12 (r .month-to-12),
+        le-leb 1 d (r .day-from-1),
+        le-leb _ _ (r .day-to-last),
+      )
 
   -- a real date's answer is its number
   pub real-day : Real y m d → dayAnswer y m d ≡ Day (dayNumber y m d)

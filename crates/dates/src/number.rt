@@ -35,7 +35,7 @@ pub(crate) fn date_on(n: u32) -> Date
     }
 }
 
-// The number of a date, or of its month's last day where the month is shorter; no day is later than the calendar's last.
+// The number of a date, or of its month's last day where the month is shorter; none is later than the calendar's last.
 pub(crate) fn on_or_last(k: u32, m: usize, d: u32) -> u32
     requires { ⌜ (k ≤ 200) × (m < 12) × (d < 31) ⌝ }
     ensures { λ r. ⌜ r ≡ min 73048 (onOrLast (2000 + k) (m + 1) (d + 1)) ⌝ }

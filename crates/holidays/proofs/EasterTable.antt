@@ -38,7 +38,8 @@ unfolding isEaster dayNumber
 easter-offset y x t =
     let rest = eqb (yearDay y 3 22 + x) (yearDay y (month y) (day y)) && ltb x 35 in
     let u = and-right (isReal y (month y) (day y)) rest t in
-    let sum : yearDay y 3 22 + x ≡ yearDay y (month y) (day y) = eqb-true _ _ (and-left (eqb (yearDay y 3 22 + x) (yearDay y (month y) (day y))) (ltb x 35) u) in
+    let sum : yearDay y 3 22 + x ≡ yearDay y (month y) (day y) =
+    eqb-true _ _ (and-left (eqb (yearDay y 3 22 + x) (yearDay y (month y) (day y))) (ltb x 35) u) in
     record {
       is-real = and-left (isReal y (month y) (day y)) rest t;
       is-days-on = omega arith;

@@ -23,34 +23,31 @@ module _ (y m d : ℕ) (e : dayAnswer y m d ≡ Day (dayNumber y m d)) where
       let h = one-to-one .day-has-date y m d (dayNumber y m d) e in
       rw (le-leb _ _ (h .0), h .1)
 
-  worked-on : isWorking (dayNumber y m d) ≡ (ltb (weekday (dayNumber y m d)) 5 && not (isHolidayOn (dayNumber y m d) (date y m d)))
+  worked-on :
+      isWorking (dayNumber y m d) ≡
+      (ltb (weekday (dayNumber y m d)) 5 && not (isHolidayOn (dayNumber y m d) (date y m d)))
   unfolding isWorking
   worked-on =
       let h = one-to-one .day-has-date y m d (dayNumber y m d) e in
       rw (le-leb _ _ (h .0), holiday-on)
 
-between-19-and-25-may : workingBetween (dayNumber 2021 5 19) (dayNumber 2021 5 25) ≡ 2
-unfolding weekday leapRow monthLength next dateOf monthStart yearStart dayNumber isReal dayAnswer easterSunday easterDay fallsOn isFixedHoliday isAfterEaster isHolidayOn isHoliday isWorking workingFrom workingBetween
-between-19-and-25-may = refl
-
-between-20-and-25-may : workingBetween (dayNumber 2021 5 20) (dayNumber 2021 5 25) ≡ 1
-unfolding weekday leapRow monthLength next dateOf monthStart yearStart dayNumber isReal dayAnswer easterSunday easterDay fallsOn isFixedHoliday isAfterEaster isHolidayOn isHoliday isWorking workingFrom workingBetween
-between-20-and-25-may = refl
-
-between-18-and-25-may : workingBetween (dayNumber 2021 5 18) (dayNumber 2021 5 25) ≡ 3
-unfolding weekday leapRow monthLength next dateOf monthStart yearStart dayNumber isReal dayAnswer easterSunday easterDay fallsOn isFixedHoliday isAfterEaster isHolidayOn isHoliday isWorking workingFrom workingBetween
-between-18-and-25-may = refl
-
-between-19-and-26-may : workingBetween (dayNumber 2021 5 19) (dayNumber 2021 5 26) ≡ 3
-unfolding weekday leapRow monthLength next dateOf monthStart yearStart dayNumber isReal dayAnswer easterSunday easterDay fallsOn isFixedHoliday isAfterEaster isHolidayOn isHoliday isWorking workingFrom workingBetween
-between-19-and-26-may = refl
+-- the working days between two days of May 2021, by the definition alone
+between-may :
+    (workingBetween (dayNumber 2021 5 19) (dayNumber 2021 5 25) ≡ 2) ×
+    (workingBetween (dayNumber 2021 5 20) (dayNumber 2021 5 25) ≡ 1) ×
+    (workingBetween (dayNumber 2021 5 18) (dayNumber 2021 5 25) ≡ 3) ×
+    (workingBetween (dayNumber 2021 5 19) (dayNumber 2021 5 26) ≡ 3)
+unfolding weekday leapRow monthLength next dateOf monthStart yearStart dayNumber isReal dayAnswer easterSunday easterDay
+    fallsOn isFixedHoliday isAfterEaster isHolidayOn isHoliday isWorking workingFrom workingBetween
+between-may = (refl, refl, refl, refl)
 
 none-past-the-end : (a b : ℕ) → lastDay ≤ a → workingBetween a b ≡ 0
 unfolding workingBetween
 none-past-the-end a b h = past-none _ _ (omega arith)
 
 pub examples : Examples
-unfolding weekday leapRow monthLength monthStart yearStart dayNumber isReal dayAnswer easterSunday easterDay fallsOn isFixedHoliday isAfterEaster isHolidayOn isWorking workingFrom workingBetween
+unfolding weekday leapRow monthLength monthStart yearStart dayNumber isReal dayAnswer easterSunday easterDay
+    fallsOn isFixedHoliday isAfterEaster isHolidayOn isWorking workingFrom workingBetween
 examples =
     record {
       easter-2021 = refl;
@@ -68,10 +65,10 @@ examples =
       ascension-2009 = holiday-on 2009 5 21 refl;
       day-after-ascension-2009 = holiday-on 2009 5 22 refl;
       whit-monday-2021 = worked-on 2021 5 24 refl;
-      between-19-and-25-may = between-19-and-25-may;
-      between-20-and-25-may = between-20-and-25-may;
-      between-18-and-25-may = between-18-and-25-may;
-      between-19-and-26-may = between-19-and-26-may;
+      between-19-and-25-may = between-may .0;
+      between-20-and-25-may = between-may .1;
+      between-18-and-25-may = between-may .2;
+      between-19-and-26-may = between-may .3;
       between-a-day-and-itself = refl;
       between-a-day-and-the-next = refl;
       between-backwards = refl;

@@ -72,6 +72,6 @@ pub record IsOffset (y r : ℕ) : Type 0 where
   pub is-days-on : dayNumber y 3 22 + r ≡ dayNumber y (easterSunday y .month) (easterSunday y .day)
   pub is-small : r < 35
 
--- Easter Sunday is a Sunday in all 200 years: a check of the computus, of the weekdays and of the month lengths at once.
+-- Easter Sunday is a Sunday in all 200 years: a check of the computus, the weekdays and the month lengths at once.
 abbrev pub EasterIsSunday : Type 0
 EasterIsSunday = (y n : ℕ) → easterDay y ≡ Day n → weekday n ≡ 6

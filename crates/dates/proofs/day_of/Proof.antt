@@ -31,7 +31,8 @@ cast-if6 : tie.Need-cast-if6
 cast-if6 c = search needs
 
 returns-6 : tie.Need-returns-6
-returns-6 c = let long = rw (c .before .before .leap-row .ensures .0) at (c .before .length .ensures .0) in
+returns-6 c =
+    let long = rw (c .before .before .leap-row .ensures .0) at (c .before .length .ensures .0) in
     sym (no-date _ _ _ (λ r. omega arith))
 
 cast-day-number : tie.Need-cast-day-number
@@ -44,7 +45,8 @@ day-number-requires : tie.Need-day-number-requires
 day-number-requires c κs = search needs
 
 returns-7 : tie.Need-returns-7
-returns-7 c = let long = rw (c .before .before .before .leap-row .ensures .0) at (c .before .before .length .ensures .0) in
+returns-7 c =
+    let long = rw (c .before .before .before .leap-row .ensures .0) at (c .before .before .length .ensures .0) in
     let a = c .before .before .before .before .before .before .before .before .before .args in
     let real : Real (a .year) (a .month) (a .day) = record {
       from-2000 = omega arith;

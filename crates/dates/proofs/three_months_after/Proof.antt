@@ -43,7 +43,8 @@ on-or-last-requires : tie.Need-on-or-last-requires
 on-or-last-requires c κs = search needs
 
 returns-2 : tie.Need-returns-2
-returns-2 c = let x = c .before .before .before .before .before .date-on in
+returns-2 c =
+    let x = c .before .before .before .before .before .date-on in
     let on = c .before .before .before .before .before .before .if1 .left in
     c .on-or-last .ensures ∙ in-the-year _ _ on (x .ensures .0) (x .ensures .1) (c .before .if2 .taken)
 
@@ -57,7 +58,8 @@ on-or-last-requires-2 : tie.Need-on-or-last-requires-2
 on-or-last-requires-2 c κs = search needs
 
 returns-3 : tie.Need-returns-3
-returns-3 c = let x = c .before .before .before .before .before .date-on in
+returns-3 c =
+    let x = c .before .before .before .before .before .date-on in
     let on = c .before .before .before .before .before .before .if1 .left in
     c .on-or-last2 .ensures ∙ in-the-next _ _ on (x .ensures .0) (x .ensures .1) (c .before .if2 .left)
 

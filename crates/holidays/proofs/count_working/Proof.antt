@@ -11,7 +11,8 @@ use Rattle.holidays.proofs.count_working.Statement.{statement}
 use Rattle.holidays.proofs.count_working.Tie as tie
 
 abbrev Inv-loop : tie.InvT-loop
-Inv-loop a b count₀ d₀ count d = (a + 1 ≤ d) × (count ≤ d) × (d ≤ 73049) × (count + workingFrom d (b - d) ≡ workingFrom (a + 1) (b - (a + 1)))
+Inv-loop a b count₀ d₀ count d =
+    (a + 1 ≤ d) × (count ≤ d) × (d ≤ 73049) × (count + workingFrom d (b - d) ≡ workingFrom (a + 1) (b - (a + 1)))
 
 abbrev μ-loop : tie.MeasureT-loop
 μ-loop a b count₀ d₀ count d = b - d
@@ -35,7 +36,8 @@ loop-less : tie.Need-loop-less Inv-loop μ-loop
 loop-less c = search needs
 
 loop-again : tie.Need-loop-again Inv-loop μ-loop
-loop-again c = let d = c .before .before .before .loop .d in
+loop-again c =
+    let d = c .before .before .before .loop .d in
     let step = walk-step d (c .before .before .before .before .args .b) (omega arith) in
     ⊎-elim (λ w.
     let e : isWorking d ≡ true = sym (c .before .is-working .ensures) ∙ w .0 .taken in
@@ -48,7 +50,8 @@ loop-again c = let d = c .before .before .before .loop .d in
 
 returns : tie.Need-returns Inv-loop μ-loop
 unfolding workingFrom workingBetween
-returns c = let e : c .before .before .args .b - c .before .loop .d ≡ 0 = omega arith in
+returns c =
+    let e : c .before .before .args .b - c .before .loop .d ≡ 0 = omega arith in
     omega (arith, rw e at (c .before .loop .inv .3))
 
 pub count-working-spec : {M : Type 1} → statement M

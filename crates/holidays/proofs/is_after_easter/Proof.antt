@@ -27,14 +27,18 @@ add-if1 c = search needs
 
 returns-2 : tie.Need-returns-2
 unfolding isAfterEaster
-returns-2 c = rw (sym (c .before .before .before .before .easter-day .ensures) ∙ c .before .before .answer .given .1, eq-eqb _ _ (c .if1 .taken))
+returns-2 c =
+    let easter = sym (c .before .before .before .before .easter-day .ensures) ∙ c .before .before .answer .given .1 in
+    rw (easter, eq-eqb _ _ (c .if1 .taken))
 
 add-if2 : tie.Need-add-if2
 add-if2 c = search needs
 
 returns-3 : tie.Need-returns-3
 unfolding isAfterEaster
-returns-3 c = let easter = sym (c .before .before .before .before .before .easter-day .ensures) ∙ c .before .before .before .answer .given .1 in
+returns-3 c =
+    let easter = sym (c .before .before .before .before .before .easter-day .ensures) ∙
+    c .before .before .before .answer .given .1 in
     rw (easter, ne-eqb _ _ (c .before .if1 .left), eq-eqb _ _ (c .if2 .taken))
 
 add-result : tie.Need-add-result
@@ -42,7 +46,9 @@ add-result c = search needs
 
 returns-4 : tie.Need-returns-4
 unfolding isAfterEaster
-returns-4 c = let easter = sym (c .before .before .before .before .before .easter-day .ensures) ∙ c .before .before .before .answer .given .1 in
+returns-4 c =
+    let easter = sym (c .before .before .before .before .before .easter-day .ensures) ∙
+    c .before .before .before .answer .given .1 in
     rw (easter, ne-eqb _ _ (c .before .if1 .left), ne-eqb _ _ (c .if2 .left))
 
 pub is-after-easter-spec : {M : Type 1} → statement M

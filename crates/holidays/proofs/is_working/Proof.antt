@@ -17,15 +17,18 @@ weekday-requires c κs = search needs
 
 returns-2 : tie.Need-returns-2
 unfolding isWorking
-returns-2 c = rw (le-leb _ _ (c .before .before .if1 .left), ← c .before .weekday .ensures, le-ltb _ _ (c .if2 .taken))
+returns-2 c =
+    rw (le-leb _ _ (c .before .before .if1 .left), ← c .before .weekday .ensures, le-ltb _ _ (c .if2 .taken))
 
 is-holiday-requires : tie.Need-is-holiday-requires
 is-holiday-requires c κs = search needs
 
 returns-3 : tie.Need-returns-3
 unfolding isWorking
-returns-3 c = let week = c .before .before .weekday .ensures in
-    rw (le-leb _ _ (c .before .before .before .if1 .left), ← week, lt-ltb _ _ (c .before .if2 .left), c .is-holiday .ensures)
+returns-3 c =
+    let on = c .before .before .before .if1 .left in
+    let week = c .before .before .weekday .ensures in
+    rw (le-leb _ _ on, ← week, lt-ltb _ _ (c .before .if2 .left), c .is-holiday .ensures)
 
 pub is-working-spec : {M : Type 1} → statement M
 is-working-spec =

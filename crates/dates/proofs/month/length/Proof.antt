@@ -21,7 +21,8 @@ wide-requires c κs = search needs
 
 returns : tie.Need-returns
 unfolding monthLength
-returns c = let a = c .before .before .args in
+returns c =
+    let a = c .before .before .args in
     let b = length-bounds (a .row) (a .m) (omega arith) (omega arith) in
     let e : c .wide .result ≡ monthLength (a .row) (a .m) = c .wide .ensures in
     omega arith

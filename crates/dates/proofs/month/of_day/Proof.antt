@@ -21,7 +21,8 @@ add-if1 c = search needs
 
 returns : tie.Need-returns
 unfolding monthStart
-returns c = let p = c .before .before .before .pre in
+returns c =
+    let p = c .before .before .before .pre in
     month-kept _ _ (p .0) (p .1) (omega arith)
 
 add-result : tie.Need-add-result
@@ -29,7 +30,8 @@ add-result c = search needs
 
 returns-2 : tie.Need-returns-2
 unfolding monthStart
-returns-2 c = let p = c .before .before .before .pre in
+returns-2 c =
+    let p = c .before .before .before .pre in
     rw add-one (month-after _ _ (p .0) (p .1) (omega arith))
 
 pub of-day-spec : {M : Type 1} → statement M

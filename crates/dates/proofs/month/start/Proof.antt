@@ -16,7 +16,8 @@ add-days : tie.Need-add-days
 add-days c = search needs
 
 returns : tie.Need-returns
-returns c = let a = c .before .args in
+returns c =
+    let a = c .before .args in
     rw (lt-ltb (a .m) 2 (c .if1 .taken)) at (start-is (a .row) (a .m) (omega arith) (omega arith))
 
 cast-result : tie.Need-cast-result
@@ -29,7 +30,8 @@ sub-result : tie.Need-sub-result
 sub-result c = search needs
 
 returns-2 : tie.Need-returns-2
-returns-2 c = let a = c .before .args in
+returns-2 c =
+    let a = c .before .args in
     rw (le-ltb (a .m) 2 (c .if1 .left)) at (start-is (a .row) (a .m) (omega arith) (omega arith))
 
 pub start-spec : {M : Type 1} → statement M

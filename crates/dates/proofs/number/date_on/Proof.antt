@@ -27,7 +27,8 @@ leap-row-requires c κs = search needs
 
 of-day-requires-2 : tie.Need-of-day-requires-2
 unfolding yearStart
-of-day-requires-2 c κs = (c .leap-row .ensures .1, rw (c .leap-row .ensures .0, c .before .start .ensures .0) (omega arith))
+of-day-requires-2 c κs =
+    (c .leap-row .ensures .1, rw (c .leap-row .ensures .0, c .before .start .ensures .0) (omega arith))
 
 start-requires-2 : tie.Need-start-requires-2
 start-requires-2 c κs = search needs
@@ -51,14 +52,27 @@ add-t13 : tie.Need-add-t13
 add-t13 c = search needs
 
 cast-t14 : tie.Need-cast-t14
-cast-t14 c = let p = placed-day _ _ _ _ _ _ (c .before .before .leap-row .ensures .0) (c .before .before .before .start .ensures .0) (c .start2 .ensures .0) (c .before .of-day2 .ensures .0) (c .before .before .before .before .of-day .ensures .1) (c .before .of-day2 .ensures .1) (c .before .of-day2 .ensures .2) in
-    let q = length-bounds (c .before .before .leap-row .result) (c .before .of-day2 .result) (omega arith) (omega arith) in
+cast-t14 c =
+    let flag = c .before .before .leap-row in
+    let year = c .before .before .before .start .ensures .0 in
+    let from = c .before .before .before .before .of-day .ensures .1 in
+    let m = c .before .of-day2 in
+    let at = c .start2 .ensures .0 in
+    let long = length-bounds (flag .result) (m .result) (omega arith) (omega arith) in
+    let day = placed-day _ _ _ _ _ _ (flag .ensures .0) year at (m .ensures .0) from (m .ensures .1) (m .ensures .2) in
     record { fits = omega arith }
 
 returns : tie.Need-returns
-returns c = let p = placed-day _ _ _ _ _ _ (c .before .before .leap-row .ensures .0) (c .before .before .before .start .ensures .0) (c .start2 .ensures .0) (c .before .of-day2 .ensures .0) (c .before .before .before .before .of-day .ensures .1) (c .before .of-day2 .ensures .1) (c .before .of-day2 .ensures .2) in
-    let q = length-bounds (c .before .before .leap-row .result) (c .before .of-day2 .result) (omega arith) (omega arith) in
-    (placed _ _ _ _ _ _ (c .before .before .leap-row .ensures .0) (c .before .before .before .start .ensures .0) (c .start2 .ensures .0) (c .before .of-day2 .ensures .0) (c .before .before .before .before .of-day .ensures .1) (c .before .of-day2 .ensures .1) (c .before .of-day2 .ensures .2), search needs)
+returns c =
+    let flag = c .before .before .leap-row in
+    let year = c .before .before .before .start .ensures .0 in
+    let from = c .before .before .before .before .of-day .ensures .1 in
+    let m = c .before .of-day2 in
+    let at = c .start2 .ensures .0 in
+    let long = length-bounds (flag .result) (m .result) (omega arith) (omega arith) in
+    let day = placed-day _ _ _ _ _ _ (flag .ensures .0) year at (m .ensures .0) from (m .ensures .1) (m .ensures .2) in
+    let on = placed _ _ _ _ _ _ (flag .ensures .0) year at (m .ensures .0) from (m .ensures .1) (m .ensures .2) in
+    (on, search needs)
 
 pub date-on-spec : {M : Type 1} → statement M
 date-on-spec =

@@ -16,14 +16,16 @@ start-requires : tie.Need-start-requires
 start-requires c κs = search needs
 
 returns : tie.Need-returns
-returns c = let n = c .before .before .args .n in
+returns c =
+    let n = c .before .before .args .n in
     omega (arith, year-is (n / 366) (omega arith), ap yearStart (add-one (n / 366)))
 
 add-result : tie.Need-add-result
 add-result c = search needs
 
 returns-2 : tie.Need-returns-2
-returns-2 c = let n = c .before .before .args .n in
+returns-2 c =
+    let n = c .before .before .args .n in
     let a = year-is (n / 366 + 1) (omega arith) in
     let b : n / 366 + 1 < 200 = omega arith in
     omega (arith, year-is (suc (n / 366 + 1)) (omega arith))

@@ -22,19 +22,22 @@ sub-offset : tie.Need-sub-offset
 sub-offset c = easter-years _ _ (sym (c .before .before .before .day-of .ensures) ∙ c .before .march-22 .given .1) .0
 
 offset-requires : tie.Need-offset-requires
-offset-requires c κs = let years = easter-years _ _ (sym (c .before .before .before .day-of .ensures) ∙ c .before .march-22 .given .1) in
+offset-requires c κs =
+    let years = easter-years _ _ (sym (c .before .before .before .day-of .ensures) ∙ c .before .march-22 .given .1) in
     omega arith
 
 cast-t7 : tie.Need-cast-t7
 cast-t7 c = search needs
 
 add-t8 : tie.Need-add-t8
-add-t8 c = let day = sym (c .before .before .before .before .day-of .ensures) ∙ c .before .before .march-22 .given .1 in
+add-t8 c =
+    let day = sym (c .before .before .before .before .day-of .ensures) ∙ c .before .before .march-22 .given .1 in
     let last = march-22-in _ _ day in
     record { fits = omega arith }
 
 returns-2 : tie.Need-returns-2
-returns-2 c = let day = sym (c .before .before .before .before .day-of .ensures) ∙ c .before .before .march-22 .given .1 in
+returns-2 c =
+    let day = sym (c .before .before .before .before .day-of .ensures) ∙ c .before .before .march-22 .given .1 in
     easter-found _ _ day _ (c .offset .ensures)
 
 pub easter-day-spec : {M : Type 1} → statement M

@@ -1,5 +1,5 @@
 -- The dated examples of days and dates, computed from the definitions.
-use mathlib.Core.Path.{_≡_, refl, _∙_, ap}
+use mathlib.Core.Path.{_≡_, refl}
 use Prim.Native.Nat.{ℕ, min}
 use borrow.Author.Tests.{le-leb}
 use Rattle.dates.specs.declared.DayAnswer.the-variants.{Day}

@@ -1,19 +1,18 @@
 -- Days and dates are one to one over the whole calendar: the statement `OneToOne`, proved.
-use mathlib.Core.Path.{_≡_, refl, _∙_, ap, sym}
+use mathlib.Core.Path.{_≡_, _∙_, ap, sym}
 use mathlib.Core.Bool.{true}
 use Prim.Native.Nat.{ℕ, suc, _+_, _-_, _≤_, _<_}
 use native.Mathlib.Nat.{lt-of-not-le}
 use native.Mathlib.Omega.{arith}
 use borrow.Author.Tests.{le-leb, lt-leb}
-use Rattle.dates.specs.declared.DayAnswer.the-variants.{Day, NoDate}
-use Rattle.dates.specs.declared.DateAnswer.the-variants.{On}
-use Rattle.dates.specs.Dates.{lastDay, leapRow, monthLength, date, dateOf}
-use Rattle.dates.specs.Numbers.{monthStart, yearStart, isReal, dayNumber, dayAnswer, dateAnswer}
+use Rattle.dates.specs.declared.DayAnswer.the-variants.{Day}
+use Rattle.dates.specs.Dates.{lastDay, leapRow, date, dateOf}
+use Rattle.dates.specs.Numbers.{isReal, dayNumber, dayAnswer, dateAnswer}
 use Rattle.dates.specs.OneToOne.{OneToOne}
 use Rattle.dates.proofs.Months.{row-is, month-in-year}
 use Rattle.dates.proofs.Years.{year-is, year-step, year-past}
-use Rattle.dates.proofs.Counting.{dateFrom0, lengthIn, numberFrom0, counted, Split, split}
-use Rattle.dates.proofs.Real.{Real, real-is, is-real, real-day, no-date, day-real}
+use Rattle.dates.proofs.Counting.{dateFrom0, lengthIn, numberFrom0, counted, split}
+use Rattle.dates.proofs.Real.{Real, real-is, is-real, real-day, day-real}
 
 -- the number of a date, counted from 0
 number-from-0 : (k m d : ℕ) → dayNumber (2000 + k) (suc m) (suc d) ≡ numberFrom0 k m d

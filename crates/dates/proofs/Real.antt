@@ -1,11 +1,10 @@
 -- What the test of a real date says, fact by fact, and the answer to it.
-use mathlib.Core.Path.{_≡_, refl, ap}
+use mathlib.Core.Path.{_≡_, refl}
 use mathlib.Core.Bool.{Bool, true, false, cond, _&&_}
 use Prim.Native.Nat.{ℕ, _+_, _-_, _≤_}
 use borrow.Author.Tests.{le-leb, leb-true}
 use lib.Dec.{leb}
 use native.Mathlib.Omega.{arith}
-use Rattle.dates.specs.declared.DayAnswer.{DayAnswer}
 use Rattle.dates.specs.declared.DayAnswer.the-variants.{Day, NoDate}
 use Rattle.dates.specs.Dates.{leapRow, monthLength}
 use Rattle.dates.specs.Numbers.{isReal, dayNumber, dayAnswer}

@@ -1,9 +1,9 @@
 -- The table of Easter Sundays follows the Gregorian computus in every year: one test that antt computes over the whole
 -- table, and one law that makes it the rule. Then the code's Easter Sunday from 22 March, and that it is a Sunday.
-use mathlib.Core.Path.{_≡_, refl, _∙_, ap, sym}
+use mathlib.Core.Path.{_≡_, refl, sym}
 use mathlib.Core.Bool.{Bool, true, _&&_}
 use mathlib.Core.List.{List, [], _∷_}
-use Prim.Native.Nat.{ℕ, suc, _+_, _-_, _≤_, _<_}
+use Prim.Native.Nat.{ℕ, _+_, _-_, _≤_, _<_}
 use native.Mathlib.Nat.{add-assoc}
 use native.Mathlib.Omega.{arith}
 use borrow.Author.Tests.{ltb-true, eqb-true}
@@ -11,7 +11,7 @@ use lib.Dec.{ltb, eqb}
 use lib.ListN.{getD}
 use Rattle.dates.specs.declared.DayAnswer.the-variants.{Day, NoDate}
 use Rattle.dates.specs.Dates.{leapRow, monthLength, weekday, lastDay}
-use Rattle.dates.specs.Numbers.{monthStart, yearStart, isReal, dayNumber, dayAnswer}
+use Rattle.dates.specs.Numbers.{monthStart, isReal, dayNumber, dayAnswer}
 use Rattle.dates.proofs.Every.{every, every-below, and-left, and-right}
 use Rattle.dates.proofs.Months.{row-is, length-bounds}
 use Rattle.dates.proofs.Real.{Real, real-is, is-real, real-day, no-date, day-real}

@@ -1,7 +1,6 @@
 -- `falls_on` meets its contract: the month, then the day.
 use borrow.Author.Tests.{eq-eqb, ne-eqb}
 use Rattle.holidays.specs.Holidays.{fallsOn}
-use borrow.Author.Needs.{needs}
 use Rattle.holidays.proofs.falls_on.Statement.{statement}
 use Rattle.holidays.proofs.falls_on.Tie as tie
 

@@ -1,4 +1,5 @@
 -- `is_working` meets its contract: on the calendar, Monday to Friday, no holiday.
+use native.Mathlib.Omega.{arith}
 use borrow.Author.Tests.{le-leb, lt-leb, lt-ltb, le-ltb}
 use Rattle.holidays.specs.Working.{isWorking}
 use borrow.Author.Needs.{needs}
@@ -18,7 +19,8 @@ weekday-requires c κs = search needs
 returns-2 : tie.Need-returns-2
 unfolding isWorking
 returns-2 c =
-    rw (le-leb _ _ (c .before .before .if1 .left), ← c .before .weekday .ensures, le-ltb _ _ (c .if2 .taken))
+    let week = c .before .weekday in
+    rw (le-leb _ _ (c .before .before .if1 .left), ← week .ensures, le-ltb (week .result) 5 (omega arith))
 
 is-holiday-requires : tie.Need-is-holiday-requires
 is-holiday-requires c κs = search needs
@@ -27,8 +29,8 @@ returns-3 : tie.Need-returns-3
 unfolding isWorking
 returns-3 c =
     let on = c .before .before .before .if1 .left in
-    let week = c .before .before .weekday .ensures in
-    rw (le-leb _ _ on, ← week, lt-ltb _ _ (c .before .if2 .left), c .is-holiday .ensures)
+    let week = c .before .before .weekday in
+    rw (le-leb _ _ on, ← week .ensures, lt-ltb (week .result) 5 (omega arith), c .is-holiday .ensures)
 
 pub is-working-spec : {M : Type 1} → statement M
 is-working-spec =

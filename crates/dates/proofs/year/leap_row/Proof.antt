@@ -2,7 +2,6 @@
 use borrow.Author.Tests.{eq-eqb, ne-eqb}
 use native.Mathlib.Omega.{arith}
 use Rattle.dates.specs.Dates.{leapRow}
-use borrow.Author.Needs.{needs}
 use Rattle.dates.proofs.year.leap_row.Statement.{statement}
 use Rattle.dates.proofs.year.leap_row.Tie as tie
 

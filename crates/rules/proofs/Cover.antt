@@ -1,0 +1,182 @@
+-- From periods that are the tally of the cells to what demand 3 says of a point: the starts are the marked cells' days,
+-- each volume is the sum of its days, and each day lies in one period, with the cell's holder.
+--
+-- The slots are oldest first and the tally newest first: a law here speaks of the tally reversed onto later periods l.
+use mathlib.Core.Path.{_≡_, refl, _∙_, ap, ap₂}
+use mathlib.Core.Bool.{true, false}
+use mathlib.Core.List.{List, [], _∷_, map, reverse, reverseAux}
+use Prim.Native.Nat.{ℕ, suc, _+_, _-_, _≤_, _<_}
+use native.Mathlib.Omega.{arith}
+use native.Mathlib.Nat.{add-zero, sub-self}
+use native.Mathlib.Decide.{ℕ-discrete}
+use lib.ListN.{take}
+use borrow.Author.Tests.{eq-eqb, ne-eqb, le-leb, lt-leb, lt-ltb, le-ltb}
+use Rattle.rules.specs.declared.Period.{Period}
+use Rattle.rules.specs.declared.Point.{Point}
+use Rattle.rules.specs.DayBook.{Cell, cell}
+use Rattle.rules.specs.Demand3.{
+  periodsOf,
+  startsOf,
+  volumesOf,
+  markedDays,
+  holderOn,
+  isBeforeNext,
+  covering,
+  sumDays,
+  dayAfter,
+  dailySums,
+  total,
+}
+use Rattle.rules.specs.Register.{period}
+use Rattle.rules.proofs.Tally.{tally, Runs, Live, Held, Desc, live-runs, tally-desc, sumVolumes, oldest}
+use Rattle.rules.proofs.Slots.{listed, Sized, take-listed}
+
+abbrev starts : List Period → List ℕ
+starts ps = map (λ (q : Period). q .start) ps
+
+abbrev volumes : List Period → List ℕ
+volumes ps = map (λ (q : Period). q .volume) ps
+
+abbrev holders : List Period → List ℕ
+holders ps = map (λ (q : Period). q .holder) ps
+
+first-start : (p : Period) (ps l : List Period) → take 1 (starts (reverseAux ps (p ∷ l))) ≡ oldest ps (p .start) ∷ []
+unfolding oldest
+first-start p [] l = refl
+first-start p (q ∷ ps) l = first-start q ps (p ∷ l)
+
+first-reverse : (ps : List Period) (e : ℕ) → ((x : ℕ) → oldest ps x ≡ e) → take 1 (starts (reverse ps)) ≡ e ∷ []
+unfolding oldest
+first-reverse [] e o = let z : ⊥ = omega (arith, o (suc e)) in absurd z
+first-reverse (p ∷ ps) e o = first-start p ps [] ∙ ap (λ (n : ℕ). n ∷ []) (o e)
+
+total-reverse : (ps l : List Period) → total (volumes (reverseAux ps l)) ≡ sumVolumes ps + total (volumes l)
+unfolding sumVolumes total
+total-reverse [] l = omega arith
+total-reverse (p ∷ ps) l = omega (arith, total-reverse ps (p ∷ l))
+
+module _ (vol : ℕ → ℕ) where
+  starts-tally : (cs : List Cell) (a : ℕ) (l : List Period)
+      → starts (reverseAux (tally vol cs a) l) ≡ markedDays cs (starts l)
+  unfolding tally markedDays
+  starts-tally [] a l = refl
+  starts-tally (cell d h true ∷ cs) a l = starts-tally cs 0 (period d h (a + vol d) ∷ l)
+  starts-tally (cell d h false ∷ cs) a l = starts-tally cs (a + vol d) l
+
+  sumDays-none : (d : ℕ) → 0 ≡ sumDays vol d (d - d)
+  unfolding sumDays
+  sumDays-none d = rw (sub-self d)
+
+  -- a is what the days from e on to the day `end` give, and day d comes before them
+  sumDays-more : (d e end a : ℕ) → e ≡ suc d → e ≤ end → a ≡ sumDays vol e (end - e)
+      → a + vol d ≡ sumDays vol d (end - d)
+  unfolding sumDays
+  sumDays-more d e end a q le k =
+      let n : end - d ≡ suc (end - suc d) = omega arith in
+      rw n (omega (arith, ap (λ (m : ℕ). sumDays vol m (end - m)) q))
+
+  volumes-tally : (t : ℕ) (cs : List Cell) (e a : ℕ) (l : List Period) → Runs e cs → e ≤ dayAfter t (starts l)
+      → a ≡ sumDays vol e (dayAfter t (starts l) - e) → volumes l ≡ dailySums vol t (starts l)
+      → volumes (reverseAux (tally vol cs a) l) ≡ dailySums vol t (markedDays cs (starts l))
+  unfolding tally markedDays dailySums
+  volumes-tally t [] e a l r le q k = k
+  volumes-tally t (cell d h true ∷ cs) e a l r le q k =
+      let v = sumDays-more d e (dayAfter t (starts l)) a (r .0) le q in
+      volumes-tally t cs d 0 (period d h (a + vol d) ∷ l) (r .1) (omega arith) (sumDays-none d)
+      (ap₂ (λ (n : ℕ) (vs : List ℕ). n ∷ vs) v k)
+  volumes-tally t (cell d h false ∷ cs) e a l r le q k =
+      volumes-tally t cs d (a + vol d) l (r .1) (omega arith)
+      (sumDays-more d e (dayAfter t (starts l)) a (r .0) le q) k
+
+-- Day d lies before the periods l.
+abbrev Ahead : ℕ → List Period → Type 0
+Ahead d l = (isBeforeNext d l ≡ true) × (covering d l ≡ [])
+
+module _ (d : ℕ) where
+  ahead-cons : (p : Period) (l : List Period) → d < p .start → Ahead d l → Ahead d (p ∷ l)
+  unfolding covering
+  ahead-cons p l lt k = (lt-ltb d (p .start) lt, rw (lt-leb (p .start) d lt) (k .1))
+
+  -- where a period has begun by day d, those before it are over
+  covering-older : (p : Period) (ps l : List Period) → p .start ≤ d → Desc (p .start) ps
+      → covering d (reverseAux ps (p ∷ l)) ≡ covering d (p ∷ l)
+  unfolding covering
+  covering-older p [] l le r = refl
+  covering-older p (q ∷ ps) l le r =
+      covering-older q ps (p ∷ l) (omega arith) (r .1)
+      ∙ rw (le-leb (q .start) d (omega arith), le-ltb d (p .start) le)
+
+  covering-begun : (p : Period) (ps l : List Period) → p .start ≤ d → Desc (p .start) ps → Ahead d l
+      → holders (covering d (reverseAux ps (p ∷ l))) ≡ p .holder ∷ []
+  unfolding covering
+  covering-begun p ps l le r k = rw (covering-older p ps l le r, le-leb (p .start) d le, k .0, k .1)
+
+  module _ (vol : ℕ → ℕ) where
+    -- day d after the cells: the newest period goes on, to the day `end`
+    held-after : (cs : List Cell) (e end a h : ℕ) (l : List Period) → Runs e cs → Held h cs → e ≤ d → d < end
+        → oldest (tally vol cs a) end ≤ d → Ahead d l
+        → holders (covering d (reverseAux (tally vol cs a) l)) ≡ h ∷ []
+    unfolding tally oldest
+    held-after [] e end a h l r k le lt o w = let z : ⊥ = omega arith in absurd z
+    held-after (cell c j true ∷ cs) e end a h l r k le lt o w =
+        covering-begun (period c j (a + vol c)) (tally vol cs 0) l (omega arith) (tally-desc vol cs c 0 (r .1)) w
+        ∙ ap (λ (n : ℕ). n ∷ []) (k .0)
+    held-after (cell c j false ∷ cs) e end a h l r k le lt o w =
+        held-after cs c end (a + vol c) h l (r .1) (k .1) (omega arith) lt o w
+
+    -- day d among the cells
+    held-on : (cs : List Cell) (e end a h : ℕ) (l : List Period) → Runs e cs → Held h cs → d < e → e ≤ end
+        → oldest (tally vol cs a) end ≤ d → Ahead d l
+        → holders (covering d (reverseAux (tally vol cs a) l)) ≡ holderOn d cs ∷ []
+    unfolding tally oldest holderOn
+    held-on [] e end a h l r k lt le o w = let z : ⊥ = omega arith in absurd z
+    held-on (cell c j true ∷ cs) e end a h l r k lt le o w =
+        let p : Period = period c j (a + vol c) in
+        elim (ℕ-discrete c d) [
+          | yes q ↦ rw (eq-eqb c d q)
+              (covering-begun p (tally vol cs 0) l (omega arith) (tally-desc vol cs c 0 (r .1)) w)
+          | no q ↦ rw (ne-eqb c d q)
+              (held-on cs c c 0 (k .1 .0) (p ∷ l) (r .1) (k .1 .1) (omega arith) (omega arith) o
+              (ahead-cons p l (omega arith) w))
+        ]
+    held-on (cell c j false ∷ cs) e end a h l r k lt le o w =
+        elim (ℕ-discrete c d) [
+          | yes q ↦ rw (eq-eqb c d q, k .0)
+              (held-after cs c end (a + vol c) h l (r .1) (k .1) (omega arith) (omega arith) o w)
+          | no q ↦ rw (ne-eqb c d q)
+              (held-on cs c end (a + vol c) h l (r .1) (k .1) (omega arith) (omega arith) o w)
+        ]
+
+-- A point whose periods are the tally of the cells.
+module _ (g : Point) (sized : Sized (g .history)) where
+  periods-read : periodsOf g ≡ reverse (listed (g .history))
+  periods-read = take-listed (g .history) sized
+
+  pub total-read : total (volumesOf g) ≡ sumVolumes (listed (g .history))
+  unfolding total
+  total-read = rw periods-read (total-reverse (listed (g .history)) [] ∙ add-zero (sumVolumes (listed (g .history))))
+
+  pub first-read-none : listed (g .history) ≡ [] → take 1 (startsOf g) ≡ []
+  first-read-none q = rw (periods-read, q)
+
+  pub first-read : (e : ℕ) → ((x : ℕ) → oldest (listed (g .history)) x ≡ e) → take 1 (startsOf g) ≡ e ∷ []
+  first-read e o = rw periods-read (first-reverse (listed (g .history)) e o)
+
+  module _ (vol : ℕ → ℕ) (cs : List Cell) (told : listed (g .history) ≡ tally vol cs 0) where
+    pub starts-read : startsOf g ≡ markedDays cs []
+    starts-read = rw (periods-read, told) (starts-tally vol cs 0 [])
+
+    module _ (t : ℕ) (live : Live t cs) where
+      pub volumes-read : volumesOf g ≡ dailySums vol t (startsOf g)
+      unfolding dailySums
+      volumes-read =
+          rw (starts-read, periods-read, told)
+          (volumes-tally vol t cs (suc t) 0 [] (live-runs t cs live) (omega arith) (sumDays-none vol (suc t)) refl)
+
+      pub covered-read : (h : ℕ) → Held h cs → (d : ℕ) → ((x : ℕ) → oldest (listed (g .history)) x ≤ d) → d ≤ t
+          → map (λ (q : Period). q .holder) (covering d (periodsOf g)) ≡ holderOn d cs ∷ []
+      unfolding covering
+      covered-read h held d o le =
+          rw (periods-read, told)
+          (held-on d vol cs (suc t) (suc t) 0 h [] (live-runs t cs live) held (omega arith) (omega arith)
+          (rw (← told) (o (suc t))) (refl, refl))

@@ -1,0 +1,220 @@
+-- What an event or an accepted call leaves behind: everything that the next one needs to find.
+--
+-- Fine   what holds of a point's view on day t, of any list of calls
+-- Good   what holds of an effect on such a view, with the readings sp and the enrolments j that come with it
+use mathlib.Core.Path.{_≡_, refl, sym, _∙_, ap, subst}
+use mathlib.Core.Bool.{Bool, true, false, cond, not, _&&_, _||_, true≢false, false≢true}
+use mathlib.Core.List.{List, [], _∷_}
+use Prim.Native.Nat.{ℕ, zero, suc, _+_, _-_, _*_, _^_, _≤_, _<_, min, max}
+use native.Mathlib.Omega.{arith}
+use lib.Dec.{eqb, leb, ltb}
+use borrow.Author.Tests.{eq-eqb, ne-eqb, eqb-true, eqb-false, leb-false, ltb-false}
+use Rattle.rules.specs.declared.Fields.{Fields}
+use Rattle.rules.specs.declared.Settings.{Settings}
+use Rattle.rules.specs.declared.Supply.{Supply}
+use Rattle.rules.specs.declared.SupplyKind.{SupplyKind}
+use Rattle.rules.specs.declared.SupplyKind.the-variants.{None, Contract, Default, LastResort}
+use Rattle.rules.specs.declared.Pending.{Pending}
+use Rattle.rules.specs.declared.Pending.the-variants.{Nothing, Request}
+use Rattle.rules.specs.declared.Meter.{Meter}
+use Rattle.rules.specs.declared.Reading.{Reading}
+use Rattle.rules.specs.declared.Span.{Span}
+use Rattle.rules.specs.Fields.{supply, fields, withSupply, withPending, unsupplied}
+use Rattle.rules.specs.Effects.{Effect, keep, name, fieldsOf, event, pendingEvent, deadlineEvent}
+use Rattle.rules.specs.Volumes.{registered}
+use Rattle.rules.specs.Rejections.{View, due, kindDue, pendingDue, marksAfter}
+use Rattle.rules.proofs.Shares.{All}
+use Rattle.rules.proofs.Jump.{Ahead, KindAhead, PendingAhead}
+
+-- No reading books more than this, and each takes a day.
+abbrev pub perDay : ℕ
+perDay = 100000000000
+
+-- An accepted meter.
+abbrev pub Wheels : Meter → Type 0
+Wheels m = (m .before ≤ 8) × (m .after ≤ 3)
+
+pub record Fine (t : ℕ) (v : View) : Type 0 where
+  pub past : v .fields .reading .day ≤ t
+  pub wheels : Wheels (v .fields .meter)
+  pub ahead : Ahead t (v .fields .supply)
+  pub fit : v .marks + due (v .fields .supply) ≤ 24
+  pub blank : v .fields .enrolled ≡ false → (v .marks ≡ 0) × (v .fields .supply ≡ unsupplied)
+
+-- A holder changes only where one is named.
+abbrev pub Keeps : Fields → Effect → Type 0
+Keeps f (keep g) = g .supply .holder ≡ f .supply .holder
+Keeps f (name g) = Unit {0}
+
+-- A holder is named at an enrolled point, or it is the point's enrolment.
+abbrev pub Names : ℕ → Bool → Fields → List ℕ → Type 0
+Names t true g j = (g .enrolled ≡ true) × (j ≡ [])
+Names t false g j = (g .enrolled ≡ true) × (j ≡ t ∷ []) × (g .reading .day ≡ t)
+
+abbrev pub Enrols : ℕ → Fields → Effect → List ℕ → Type 0
+Enrols t f (keep g) j = (g .enrolled ≡ f .enrolled) × (j ≡ [])
+Enrols t f (name g) j = Names t (f .enrolled) g j
+
+pub record Good (t : ℕ) (v : View) (e : Effect) (sp : List Span) (j : List ℕ) : Type 0 where
+  pub lo : v .fields .reading .day ≤ fieldsOf e .reading .day
+  pub hi : fieldsOf e .reading .day ≤ t
+  pub made : All (λ (s : Span). (s .from ≡ v .fields .reading .day) × (s .from < s .to) × (s .to ≤ fieldsOf e .reading .day)) sp
+  pub once : (v .fields .enrolled ≡ false) → sp ≡ []
+  pub most : registered sp + perDay * v .fields .reading .day ≤ perDay * fieldsOf e .reading .day
+  pub wheels : Wheels (fieldsOf e .meter)
+  pub ahead : Ahead t (fieldsOf e .supply)
+  pub keeps : Keeps (v .fields) e
+  pub enrols : Enrols t (v .fields) e j
+  pub fit : marksAfter v e + due (fieldsOf e .supply) ≤ 24
+  pub blank : fieldsOf e .enrolled ≡ false → (marksAfter v e ≡ 0) × (fieldsOf e .supply ≡ unsupplied)
+
+pub marks-most : (v : View) (e : Effect) → marksAfter v e ≤ v .marks + 1
+marks-most v (keep f) = omega arith
+marks-most v (name f) = go (v .marked)
+  where
+    go : (b : Bool) → v .marks + cond b 0 1 ≤ v .marks + 1
+    go true = omega arith
+    go false = omega arith
+
+-- The fields enrolled, so none is blank.
+pub not-blank : {P : Type 0} {b : Bool} → b ≡ true → b ≡ false → P
+not-blank y n = absurd (true≢false (sym y ∙ n))
+
+-- An effect that reads no meter.
+pub unread : (t : ℕ) (v : View) → Fine t v → (e : Effect) (j : List ℕ) → fieldsOf e .reading ≡ v .fields .reading
+    → fieldsOf e .meter ≡ v .fields .meter → Ahead t (fieldsOf e .supply) → Keeps (v .fields) e → Enrols t (v .fields) e j
+    → marksAfter v e + due (fieldsOf e .supply) ≤ 24
+    → (fieldsOf e .enrolled ≡ false → (marksAfter v e ≡ 0) × (fieldsOf e .supply ≡ unsupplied)) → Good t v e [] j
+unfolding registered
+unread t v h e j r m a k n f b =
+    let d : fieldsOf e .reading .day ≡ v .fields .reading .day = ap (λ (x : Reading). x .day) r in
+    record {
+      lo = omega arith;
+      hi = omega (arith, h .past);
+      made = tt;
+      once = λ z. refl;
+      most = omega arith;
+      wheels = rw m (h .wheels);
+      ahead = a;
+      keeps = k;
+      enrols = n;
+      fit = f;
+      blank = b;
+    }
+
+-- Nothing of the supply changes.
+pub unchanged : (t : ℕ) (v : View) → Fine t v → (g : Fields) → g .reading ≡ v .fields .reading → g .meter ≡ v .fields .meter
+    → g .supply ≡ v .fields .supply → g .enrolled ≡ v .fields .enrolled → Good t v (keep g) [] []
+unchanged t v h g r m s n =
+    unread t v h (keep g) [] r m (rw s (h .ahead)) (ap (λ (x : Supply). x .holder) s) (n, refl) (rw s (h .fit))
+    (λ z. (h .blank (sym n ∙ z) .0, s ∙ h .blank (sym n ∙ z) .1))
+
+-- At an enrolled point: a holder is named.
+pub naming : (t : ℕ) (v : View) → Fine t v → v .fields .enrolled ≡ true → (g : Fields) → g .reading ≡ v .fields .reading
+    → g .meter ≡ v .fields .meter → g .enrolled ≡ v .fields .enrolled → Ahead t (g .supply) → marksAfter v (name g) + due (g .supply) ≤ 24
+    → Good t v (name g) [] []
+naming t v h y g r m n a f =
+    unread t v h (name g) [] r m a tt (subst (λ (b : Bool). Names t b g []) (sym y) (n ∙ y, refl)) f (not-blank (n ∙ y))
+
+-- Where something is due the point is enrolled.
+pub due-enrolled : (v : View) → (v .fields .enrolled ≡ false → v .fields .supply ≡ unsupplied) → 0 < due (v .fields .supply)
+    → v .fields .enrolled ≡ true
+due-enrolled v h lt = go (v .fields .enrolled) refl
+  where
+    go : (b : Bool) → v .fields .enrolled ≡ b → v .fields .enrolled ≡ true
+    go true e = e
+    go false e = let z : due (v .fields .supply) ≡ 0 = ap due (h e) in absurd (omega arith)
+
+-- The event of a new day t: a point that was fine on the day before.
+module _ (S : Settings) (B : 0 < S .b) (t : ℕ) where
+  -- a naming that takes away one of those due
+  spends : (v : View) → v .fields .reading .day ≤ suc t → Wheels (v .fields .meter) → v .marks + due (v .fields .supply) ≤ 24
+      → (v .fields .enrolled ≡ false → (v .marks ≡ 0) × (v .fields .supply ≡ unsupplied)) → (s : Supply) → Ahead (suc t) s
+      → due s < due (v .fields .supply) → Good (suc t) v (name (withSupply (v .fields) s)) [] []
+  unfolding registered
+  spends v p w f b s a lt =
+      let y : v .fields .enrolled ≡ true = due-enrolled v (λ z. b z .1) (omega arith) in
+      record {
+        lo = omega arith;
+        hi = p;
+        made = tt;
+        once = λ z. refl;
+        most = omega arith;
+        wheels = w;
+        ahead = a;
+        keeps = tt;
+        enrols = subst (λ (b : Bool). Names (suc t) b (withSupply (v .fields) s) []) (sym y) (y, refl);
+        fit = omega (arith, marks-most v (name (withSupply (v .fields) s)));
+        blank = not-blank y;
+      }
+
+  module _ (n : Bool) (h y m : ℕ) (w : Meter) (r : Reading) (marks : ℕ) (marked : Bool) where
+    abbrev seen : SupplyKind → Pending → View
+    seen k q = record { fields = fields n (supply h k q) y m w r; marks = marks; marked = marked }
+
+    module _ (p : r .day ≤ t) (u : Wheels w) where
+      -- no event falls on the day
+      nothing : (k : SupplyKind) (q : Pending) → marks + due (supply h k q) ≤ 24
+          → (n ≡ false → (marks ≡ 0) × (supply h k q ≡ unsupplied)) → KindAhead (suc t) k → PendingAhead (suc t) q
+          → Good (suc t) (seen k q) (keep (seen k q .fields)) [] []
+      unfolding registered
+      nothing k q f b a c =
+          record {
+            lo = omega arith;
+            hi = omega arith;
+            made = tt;
+            once = λ z. refl;
+            most = omega arith;
+            wheels = u;
+            ahead = record { kind = a; pending = c };
+            keeps = refl;
+            enrols = (refl, refl);
+            fit = f;
+            blank = b;
+          }
+
+      later : (d : ℕ) → t < d → eqb d (suc t) ≡ false → suc t < d
+      later d lt z = let x : d ≡ suc t → ⊥ = eqb-false d (suc t) z in omega arith
+
+      deadline-good : (k : SupplyKind) (q : Pending) → marks + due (supply h k q) ≤ 24
+          → (n ≡ false → (marks ≡ 0) × (supply h k q ≡ unsupplied)) → KindAhead t k → PendingAhead (suc t) q
+          → Good (suc t) (seen k q) (deadlineEvent S (suc t) (seen k q .fields) k) [] []
+      unfolding deadlineEvent
+      deadline-good None q f b a c = nothing None q f b tt c
+      deadline-good Contract q f b a c = nothing Contract q f b tt c
+      deadline-good (Default d) q f b a c = go (eqb d (suc t)) refl
+        where
+          go : (x : Bool) → eqb d (suc t) ≡ x
+              → Good (suc t) (seen (Default d) q) (deadlineEvent S (suc t) (seen (Default d) q .fields) (Default d)) [] []
+          go true z =
+              rw z (spends (seen (Default d) q) (omega arith) u f b (supply (S .resort) (LastResort (suc t + S .b)) q)
+              (record { kind = omega arith; pending = c }) (omega arith))
+          go false z = rw z (nothing (Default d) q f b (later d a z) c)
+      deadline-good (LastResort d) q f b a c = go (eqb d (suc t)) refl
+        where
+          go : (x : Bool) → eqb d (suc t) ≡ x
+              → Good (suc t) (seen (LastResort d) q) (deadlineEvent S (suc t) (seen (LastResort d) q .fields) (LastResort d)) [] []
+          go true z =
+              rw z (spends (seen (LastResort d) q) (omega arith) u f b unsupplied (record { kind = tt; pending = tt }) (omega arith))
+          go false z = rw z (nothing (LastResort d) q f b (later d a z) c)
+
+      pending-good : (k : SupplyKind) (q : Pending) → marks + due (supply h k q) ≤ 24
+          → (n ≡ false → (marks ≡ 0) × (supply h k q ≡ unsupplied)) → KindAhead t k → PendingAhead t q
+          → Good (suc t) (seen k q) (pendingEvent S (suc t) (seen k q .fields) q) [] []
+      unfolding pendingEvent
+      pending-good k Nothing f b a c = deadline-good k Nothing f b a tt
+      pending-good k (Request s e) f b a c = go (eqb e (suc t)) refl
+        where
+          go : (x : Bool) → eqb e (suc t) ≡ x
+              → Good (suc t) (seen k (Request s e)) (pendingEvent S (suc t) (seen k (Request s e) .fields) (Request s e)) [] []
+          go true z =
+              rw z (spends (seen k (Request s e)) (omega arith) u f b (supply s Contract Nothing) (record { kind = tt; pending = tt })
+              (omega arith))
+          go false z = rw z (deadline-good k (Request s e) f b a (later e c z))
+
+  pub event-good : (v : View) → Fine t v → Good (suc t) v (event S (suc t) (v .fields)) [] []
+  unfolding event
+  event-good v h =
+      pending-good (v .fields .enrolled) (v .fields .supply .holder) (v .fields .key) (v .fields .mark) (v .fields .meter)
+      (v .fields .reading) (v .marks) (v .marked) (h .past) (h .wheels) (v .fields .supply .kind) (v .fields .supply .pending)
+      (h .fit) (h .blank) (h .ahead .kind) (h .ahead .pending)

@@ -1,0 +1,345 @@
+-- From event to event is the same as day by day: n days of a point, one at a time, are what `catchUp` does.
+use mathlib.Core.Path.{_≡_, refl, sym, _∙_, ap, subst}
+use mathlib.Core.Bool.{Bool, true, false, cond, not, _&&_}
+use Prim.Native.Nat.{ℕ, zero, suc, _+_, _-_, _≤_, _<_, min}
+use native.Mathlib.Omega.{arith}
+use native.Mathlib.Nat.{add-zero, zero-add, suc-add, add-suc}
+use lib.Dec.{eqb, leb, ltb}
+use borrow.Author.Tests.{eq-eqb, ne-eqb, le-leb, lt-leb, lt-ltb, le-ltb, leb-true, leb-false}
+use Rattle.rules.specs.declared.Fields.{Fields}
+use Rattle.rules.specs.declared.Point.{Point}
+use Rattle.rules.specs.declared.History.{History}
+use Rattle.rules.specs.declared.Settings.{Settings}
+use Rattle.rules.specs.declared.Supply.{Supply}
+use Rattle.rules.specs.declared.SupplyKind.{SupplyKind}
+use Rattle.rules.specs.declared.SupplyKind.the-variants.{None, Contract, Default, LastResort}
+use Rattle.rules.specs.declared.Pending.{Pending}
+use Rattle.rules.specs.declared.Pending.the-variants.{Nothing, Request}
+use Rattle.rules.specs.declared.Meter.{Meter}
+use Rattle.rules.specs.declared.Reading.{Reading}
+use Rattle.rules.specs.declared.Due.{Due}
+use Rattle.rules.specs.declared.Due.the-variants as due
+use Rattle.rules.specs.Fields.{supply, fields}
+use Rattle.rules.specs.Effects.{Effect, keep, name, fieldsOf, event, pendingEvent, deadlineEvent}
+use Rattle.rules.specs.Register.{entered, expiryBy, endsBefore, dueBy, happened, nextEvent, catchUp}
+
+-- What is due lies after day t.
+abbrev pub KindAhead : ℕ → SupplyKind → Type 0
+KindAhead t None = Unit {0}
+KindAhead t Contract = Unit {0}
+KindAhead t (Default d) = t < d
+KindAhead t (LastResort d) = t < d
+
+abbrev pub PendingAhead : ℕ → Pending → Type 0
+PendingAhead t Nothing = Unit {0}
+PendingAhead t (Request s e) = t < e
+
+pub record Ahead (t : ℕ) (s : Supply) : Type 0 where
+  pub kind : KindAhead t (s .kind)
+  pub pending : PendingAhead t (s .pending)
+
+kind-back : {a b : ℕ} (k : SupplyKind) → a ≤ b → KindAhead b k → KindAhead a k
+kind-back None h r = tt
+kind-back Contract h r = tt
+kind-back (Default d) h r = omega arith
+kind-back (LastResort d) h r = omega arith
+
+pending-back : {a b : ℕ} (q : Pending) → a ≤ b → PendingAhead b q → PendingAhead a q
+pending-back Nothing h r = tt
+pending-back (Request s e) h r = omega arith
+
+ahead-back : {a b : ℕ} (s : Supply) → a ≤ b → Ahead b s → Ahead a s
+ahead-back s h r = record { kind = kind-back (s .kind) h (r .kind); pending = pending-back (s .pending) h (r .pending) }
+
+-- A day before what is due has no event.
+deadline-quiet : (S : Settings) (t : ℕ) (f : Fields) (k : SupplyKind) → KindAhead t k → deadlineEvent S t f k ≡ keep f
+unfolding deadlineEvent
+deadline-quiet S t f None r = refl
+deadline-quiet S t f Contract r = refl
+deadline-quiet S t f (Default d) r = rw (ne-eqb d t (omega arith))
+deadline-quiet S t f (LastResort d) r = rw (ne-eqb d t (omega arith))
+
+pending-quiet : (S : Settings) (t : ℕ) (f : Fields) (q : Pending) → PendingAhead t q → KindAhead t (f .supply .kind)
+    → pendingEvent S t f q ≡ keep f
+unfolding pendingEvent
+pending-quiet S t f Nothing r k = deadline-quiet S t f _ k
+pending-quiet S t f (Request s e) r k = rw (ne-eqb e t (omega arith)) (deadline-quiet S t f _ k)
+
+event-quiet : (S : Settings) (t : ℕ) (f : Fields) → Ahead t (f .supply) → event S t f ≡ keep f
+unfolding event
+event-quiet S t f a = pending-quiet S t f (f .supply .pending) (a .pending) (a .kind)
+
+-- A point on day t, by the day book's event; and on n days after day t.
+abbrev pub onDay : Settings → ℕ → Point → Point
+onDay S t g = entered t (event S t (g .fields)) (g .history)
+
+unfoldable pub daily : Settings → ℕ → ℕ → Point → Point
+daily S zero t g = g
+daily S (suc n) t g = daily S n (suc t) (onDay S (suc t) g)
+
+daily-add : (S : Settings) (k m t : ℕ) (g : Point) → daily S (k + m) t g ≡ daily S m (t + k) (daily S k t g)
+unfolding daily
+daily-add S zero m t g = rw (zero-add m, add-zero t)
+daily-add S (suc k) m t g = rw (suc-add k m, add-suc t k, ← (suc-add t k)) (daily-add S k m (suc t) (onDay S (suc t) g))
+
+daily-quiet : (S : Settings) (n t : ℕ) (g : Point) → Ahead (t + n) (g .fields .supply) → daily S n t g ≡ g
+unfolding daily
+daily-quiet S zero t g a = refl
+daily-quiet S (suc n) t g a =
+    rw (event-quiet S (suc t) (g .fields) (ahead-back (g .fields .supply) (omega arith) a))
+    (daily-quiet S n (suc t) g (ahead-back (g .fields .supply) (omega arith) a))
+
+-- The day of the next event, where there is one.
+pub data NextDay : Type 0 where
+  never : NextDay
+  on : ℕ → NextDay
+
+abbrev deadlineOf : SupplyKind → NextDay
+deadlineOf None = never
+deadlineOf Contract = never
+deadlineOf (Default d) = on d
+deadlineOf (LastResort d) = on d
+
+abbrev sooner : ℕ → NextDay → NextDay
+sooner e never = on e
+sooner e (on d) = on (min e d)
+
+abbrev nextDay : SupplyKind → Pending → NextDay
+nextDay k Nothing = deadlineOf k
+nextDay k (Request s e) = sooner e (deadlineOf k)
+
+abbrev After : ℕ → NextDay → Type 0
+After t never = Unit {0}
+After t (on d) = t < d
+
+abbrev AtDay : NextDay → (ℕ → Type 0) → Type 0
+AtDay never P = Unit {0}
+AtDay (on d) P = P d
+
+after-kind : (t : ℕ) (k : SupplyKind) → KindAhead t k → After t (deadlineOf k)
+after-kind t None r = tt
+after-kind t Contract r = tt
+after-kind t (Default d) r = r
+after-kind t (LastResort d) r = r
+
+kind-after : (t : ℕ) (k : SupplyKind) → After t (deadlineOf k) → KindAhead t k
+kind-after t None r = tt
+kind-after t Contract r = tt
+kind-after t (Default d) r = r
+kind-after t (LastResort d) r = r
+
+after-ahead : (t : ℕ) (k : SupplyKind) (q : Pending) → After t (nextDay k q) → KindAhead t k × PendingAhead t q
+after-ahead t k Nothing r = (kind-after t k r, tt)
+after-ahead t None (Request s e) r = (tt, r)
+after-ahead t Contract (Request s e) r = (tt, r)
+after-ahead t (Default d) (Request s e) r = omega arith
+after-ahead t (LastResort d) (Request s e) r = omega arith
+
+ahead-after : (t : ℕ) (k : SupplyKind) (q : Pending) → KindAhead t k → PendingAhead t q → After t (nextDay k q)
+ahead-after t k Nothing a b = after-kind t k a
+ahead-after t None (Request s e) a b = b
+ahead-after t Contract (Request s e) a b = b
+ahead-after t (Default d) (Request s e) a b = omega arith
+ahead-after t (LastResort d) (Request s e) a b = omega arith
+
+-- How many events can still come: a deadline takes the place of a request, since last resort ends by dropping it.
+abbrev eventsLeft : SupplyKind → Pending → ℕ
+eventsLeft None Nothing = 0
+eventsLeft None (Request s e) = 1
+eventsLeft Contract Nothing = 0
+eventsLeft Contract (Request s e) = 1
+eventsLeft (Default d) q = 2
+eventsLeft (LastResort d) q = 1
+
+abbrev left : Supply → ℕ
+left s = eventsLeft (s .kind) (s .pending)
+
+left-most : (k : SupplyKind) (q : Pending) → eventsLeft k q ≤ 2
+left-most None Nothing = omega arith
+left-most None (Request s e) = omega arith
+left-most Contract Nothing = omega arith
+left-most Contract (Request s e) = omega arith
+left-most (Default d) q = omega arith
+left-most (LastResort d) q = omega arith
+
+none-left : (t : ℕ) (k : SupplyKind) (q : Pending) → eventsLeft k q ≤ 0 → KindAhead t k × PendingAhead t q
+none-left t None Nothing h = (tt, tt)
+none-left t None (Request s e) h = absurd (omega arith)
+none-left t Contract Nothing h = (tt, tt)
+none-left t Contract (Request s e) h = absurd (omega arith)
+none-left t (Default d) q h = absurd (omega arith)
+none-left t (LastResort d) q h = absurd (omega arith)
+
+and-false : (b : Bool) → (b && false) ≡ false
+and-false true = refl
+and-false false = refl
+
+entered-fields : (t : ℕ) (e : Effect) (h : History) → entered t e h .fields ≡ fieldsOf e
+entered-fields t (keep f) h = refl
+entered-fields t (name f) h = refl
+
+-- Nothing is due by a day before the next event.
+due-quiet : (S : Settings) (t : ℕ) (k : SupplyKind) (q : Pending) → KindAhead t k → PendingAhead t q → dueBy S t k q ≡ due.Nothing
+unfolding dueBy expiryBy
+due-quiet S t None Nothing a b = refl
+due-quiet S t Contract Nothing a b = refl
+due-quiet S t (Default d) Nothing a b = rw (lt-leb d t a)
+due-quiet S t (LastResort d) Nothing a b = rw (lt-leb d t a)
+due-quiet S t None (Request s e) a b = rw (lt-leb e t b)
+due-quiet S t Contract (Request s e) a b = rw (lt-leb e t b)
+due-quiet S t (Default d) (Request s e) a b = rw (lt-leb e t b, lt-leb d t a)
+due-quiet S t (LastResort d) (Request s e) a b = rw (lt-leb e t b, lt-leb d t a)
+
+module _ (S : Settings) (B : 0 < S .b) where
+  -- The event of day d leaves fewer to come, all after d; and it is what is due first by any day from d on.
+  pub record Fires (g : Point) (d : ℕ) : Type 0 where
+    pub fewer : left (fieldsOf (event S d (g .fields)) .supply) < left (g .fields .supply)
+    pub kind : KindAhead d (fieldsOf (event S d (g .fields)) .supply .kind)
+    pub pending : PendingAhead d (fieldsOf (event S d (g .fields)) .supply .pending)
+    pub next : (t : ℕ) → d ≤ t → nextEvent S t g ≡ onDay S d g
+
+  module _ (n : Bool) (h y m : ℕ) (w : Meter) (r : Reading) (H : History) where
+    abbrev point : SupplyKind → Pending → Point
+    point k q = record { fields = fields n (supply h k q) y m w r; history = H }
+
+    -- the pending request comes first
+    switches : (k : SupplyKind) (s e : ℕ) → endsBefore k e ≡ false → 0 < eventsLeft k (Request s e) → Fires (point k (Request s e)) e
+    unfolding event pendingEvent nextEvent dueBy happened
+    switches k s e z l = record {
+      fewer = rw (eq-eqb e e refl) l;
+      kind = rw (eq-eqb e e refl) tt;
+      pending = rw (eq-eqb e e refl) tt;
+      next = λ t le. rw (le-leb e t le, z, eq-eqb e e refl);
+    }
+
+    fires : (k : SupplyKind) (q : Pending) → AtDay (nextDay k q) (Fires (point k q))
+    unfolding event pendingEvent deadlineEvent nextEvent dueBy expiryBy endsBefore happened
+    fires None Nothing = tt
+    fires Contract Nothing = tt
+    fires (Default d) Nothing = record {
+      fewer = rw (eq-eqb d d refl) (omega arith);
+      kind = rw (eq-eqb d d refl) (omega arith);
+      pending = rw (eq-eqb d d refl) tt;
+      next = λ t le. rw (le-leb d t le, eq-eqb d d refl);
+    }
+    fires (LastResort d) Nothing = record {
+      fewer = rw (eq-eqb d d refl) (omega arith);
+      kind = rw (eq-eqb d d refl) tt;
+      pending = rw (eq-eqb d d refl) tt;
+      next = λ t le. rw (le-leb d t le, eq-eqb d d refl);
+    }
+    fires None (Request s e) = switches None s e refl (omega arith)
+    fires Contract (Request s e) = switches Contract s e refl (omega arith)
+    fires (Default d) (Request s e) = go (leb e d) refl
+      where
+        go : (b : Bool) → leb e d ≡ b → Fires (point (Default d) (Request s e)) (min e d)
+        go true z =
+            let le : e ≤ d = leb-true e d z in
+            let x : min e d ≡ e = omega arith in
+            rw x (switches (Default d) s e (le-ltb d e le) (omega arith))
+        go false z =
+            let lt : d < e = leb-false e d z in
+            let x : min e d ≡ d = omega arith in
+            let f : eqb e d ≡ false = ne-eqb e d (omega arith) in
+            rw x (record {
+              fewer = rw (f, eq-eqb d d refl) (omega arith);
+              kind = rw (f, eq-eqb d d refl) (omega arith);
+              pending = rw (f, eq-eqb d d refl) lt;
+              next = λ t le. rw (lt-ltb d e lt, and-false (leb e t), le-leb d t le, f, eq-eqb d d refl);
+            })
+    fires (LastResort d) (Request s e) = go (leb e d) refl
+      where
+        go : (b : Bool) → leb e d ≡ b → Fires (point (LastResort d) (Request s e)) (min e d)
+        go true z =
+            let le : e ≤ d = leb-true e d z in
+            let x : min e d ≡ e = omega arith in
+            rw x (switches (LastResort d) s e (le-ltb d e le) (omega arith))
+        go false z =
+            let lt : d < e = leb-false e d z in
+            let x : min e d ≡ d = omega arith in
+            let f : eqb e d ≡ false = ne-eqb e d (omega arith) in
+            rw x (record {
+              fewer = rw (f, eq-eqb d d refl) (omega arith);
+              kind = rw (f, eq-eqb d d refl) tt;
+              pending = rw (f, eq-eqb d d refl) tt;
+              next = λ t le. rw (lt-ltb d e lt, and-false (leb e t), le-leb d t le, f, eq-eqb d d refl);
+            })
+
+  abbrev nextOf : Point → NextDay
+  nextOf g = nextDay (g .fields .supply .kind) (g .fields .supply .pending)
+
+  point-fires : (g : Point) → AtDay (nextOf g) (Fires g)
+  point-fires g =
+      fires (g .fields .enrolled) (g .fields .supply .holder) (g .fields .key) (g .fields .mark) (g .fields .meter)
+      (g .fields .reading) (g .history) (g .fields .supply .kind) (g .fields .supply .pending)
+
+  next-quiet : (t : ℕ) (g : Point) → Ahead t (g .fields .supply) → nextEvent S t g ≡ g
+  unfolding nextEvent happened
+  next-quiet t g a = rw (due-quiet S t (g .fields .supply .kind) (g .fields .supply .pending) (a .kind) (a .pending))
+
+  -- the next event by day t, k times
+  unfoldable events : ℕ → ℕ → Point → Point
+  events zero t g = g
+  events (suc k) t g = events k t (nextEvent S t g)
+
+  events-quiet : (k t : ℕ) (g : Point) → Ahead t (g .fields .supply) → events k t g ≡ g
+  unfolding events
+  events-quiet zero t g a = refl
+  events-quiet (suc k) t g a = rw (next-quiet t g a) (events-quiet k t g a)
+
+  calm : (k n t : ℕ) (g : Point) → Ahead (t + n) (g .fields .supply) → daily S n t g ≡ events k (t + n) g
+  calm k n t g a = daily-quiet S n t g a ∙ sym (events-quiet k (t + n) g a)
+
+  -- the days before the event on day d do nothing
+  daily-to : (n t d : ℕ) (g : Point) → t < d → d ≤ t + n → ((x : ℕ) → x < d → Ahead x (g .fields .supply))
+      → daily S n t g ≡ daily S (t + n - d) d (onDay S d g)
+  unfolding daily
+  daily-to n t d g lo hi a =
+      let k : ℕ = d - suc t in
+      let m : ℕ = t + n - d in
+      let e : suc (t + k) ≡ d = omega arith in
+      let f : n ≡ k + suc m = omega arith in
+      ap (λ (x : ℕ). daily S x t g) f ∙ daily-add S k (suc m) t g
+      ∙ ap (daily S (suc m) (t + k)) (daily-quiet S k t g (a (t + k) (omega arith)))
+      ∙ ap (λ (x : ℕ). daily S m x (onDay S x g)) e
+
+  daily-events : (k n t : ℕ) (g : Point) → left (g .fields .supply) ≤ k → Ahead t (g .fields .supply)
+      → daily S n t g ≡ events k (t + n) g
+  unfolding events
+  daily-events zero n t g le a =
+      let w = none-left (t + n) (g .fields .supply .kind) (g .fields .supply .pending) le in
+      calm 0 n t g (record { kind = w .0; pending = w .1 })
+  daily-events (suc k) n t g le a = go (nextOf g) refl (daily-events k)
+    where
+      ahead : (x : NextDay) (u : ℕ) → nextOf g ≡ x → After u x → Ahead u (g .fields .supply)
+      ahead x u e r =
+          let w = after-ahead u (g .fields .supply .kind) (g .fields .supply .pending) (subst (After u) (sym e) r) in
+          record { kind = w .0; pending = w .1 }
+
+      go : (x : NextDay) → nextOf g ≡ x
+          → ((n t : ℕ) (g : Point) → left (g .fields .supply) ≤ k → Ahead t (g .fields .supply) → daily S n t g ≡ events k (t + n) g)
+          → daily S n t g ≡ events k (t + n) (nextEvent S (t + n) g)
+      go never e ih = calm (suc k) n t g (ahead never (t + n) e tt)
+      go (on d) e ih = fork (leb d (t + n)) refl
+        where
+          fork : (b : Bool) → leb d (t + n) ≡ b → daily S n t g ≡ events k (t + n) (nextEvent S (t + n) g)
+          fork true q =
+              let hi : d ≤ t + n = leb-true d (t + n) q in
+              let lo : t < d
+              = subst (After t) e (ahead-after t (g .fields .supply .kind) (g .fields .supply .pending) (a .kind) (a .pending)) in
+              let w : Fires g d = subst (λ (x : NextDay). AtDay x (Fires g)) e (point-fires g) in
+              let z : d + (t + n - d) ≡ t + n = omega arith in
+              let f = entered-fields d (event S d (g .fields)) (g .history) in
+              rw (w .next (t + n) hi, ← z)
+              (daily-to n t d g lo hi (λ x lt. ahead (on d) x e lt)
+              ∙ ih (t + n - d) d (onDay S d g) (rw f (omega (arith, w .fewer)))
+              (rw f (record { kind = w .kind; pending = w .pending })))
+          fork false q = calm (suc k) n t g (ahead (on d) (t + n) e (leb-false d (t + n) q))
+
+  pub daily-catchUp : (n t : ℕ) (g : Point) → Ahead t (g .fields .supply) → daily S n t g ≡ catchUp S (t + n) g
+  unfolding catchUp events
+  daily-catchUp n t g a = daily-events 2 n t g (left-most (g .fields .supply .kind) (g .fields .supply .pending)) a
+
+  pub catchUp-quiet : (t : ℕ) (g : Point) → Ahead t (g .fields .supply) → catchUp S t g ≡ g
+  unfolding catchUp
+  catchUp-quiet t g a = rw (next-quiet t g a) (next-quiet t g a)

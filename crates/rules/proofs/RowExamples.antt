@@ -1,0 +1,307 @@
+-- The row examples: each holds by computation; the calendar's facts on its last days are rewritten with.
+use mathlib.Core.Path.{refl}
+use Rattle.rules.specs.RowExamples.Answers.{AnswerExamples}
+use Rattle.rules.specs.RowExamples.Openings.{OpeningExamples}
+use Rattle.rules.specs.RowExamples.Order.{OrderExamples}
+use Rattle.rules.specs.RowExamples.Contracts.{ContractExamples}
+use Rattle.rules.specs.RowExamples.Services.{ServiceExamples}
+use Rattle.rules.specs.RowExamples.Requests.{RequestExamples}
+use Rattle.rules.specs.RowExamples.LastDays.{LastDayExamples}
+use Rattle.rules.specs.RowExamples.Readings.{ReadingExamples}
+use Rattle.rules.specs.RowExamples.Full.{FullExamples}
+use Rattle.rules.specs.RowExamples.Events.{EventExamples}
+use Rattle.rules.specs.RowExamples.Questions.{QuestionExamples}
+use Rattle.rules.specs.RowExamples.{RowExamples}
+use Rattle.rules.proofs.Computes.{machines, computes}
+use Rattle.rules.proofs.Scenes.{plays}
+use Rattle.rules.proofs.DatesOn.{
+  three-months-after-september-30-2199,
+  three-months-after-october-1-2199,
+  three-months-after-december-10-2199,
+  three-months-after-december-11-2199,
+}
+
+answer-examples : AnswerExamples
+unfolding computes
+answer-examples =
+    record {
+      accepted-number = refl;
+      accepted-date = refl;
+      request-accepted-number = refl;
+      request-accepted-date = refl;
+      refused-number = refl;
+      refused-date = refl;
+      last-resort-number = refl;
+      last-resort-date = refl;
+    }
+
+opening-examples : OpeningExamples
+unfolding computes
+opening-examples =
+    record {
+      least = refl;
+      largest = refl;
+      last-resort-1-and-99 = refl;
+      default-1-last-resort-99 = refl;
+      w-11 = refl;
+      a-0 = refl;
+      a-401 = refl;
+      b-0 = refl;
+      b-401 = refl;
+      default-0 = refl;
+      default-100 = refl;
+      last-resort-0 = refl;
+      last-resort-100 = refl;
+      one-supplier-for-both = refl;
+      first-day-73049 = refl;
+      first-contracts = record { by-register = refl; by-book = refl };
+    }
+
+order-examples : OrderExamples
+unfolding computes
+order-examples =
+    record {
+      today-73049 = record { by-register = refl; by-book = refl };
+      today-9 = record { by-register = refl; by-book = refl };
+      today-11 = record { by-register = refl; by-book = refl };
+      out-of-range = record { by-register = refl; by-book = refl };
+      out-of-range-before-20 = record { by-register = refl; by-book = refl };
+      out-of-range-before-21 = record { by-register = refl; by-book = refl };
+      out-of-range-before-2 = record { by-register = refl; by-book = refl };
+      in-range = record { by-register = refl; by-book = refl };
+      sums-off-the-calendar = record { by-register = refl; by-book = refl };
+      off-the-calendar-before-21 = record { by-register = refl; by-book = refl };
+      refused-moves-no-day = record { by-register = refl; by-book = refl };
+      refused-moves-no-day-after = record { by-register = refl; by-book = refl };
+    }
+
+contract-examples : ContractExamples
+unfolding computes
+contract-examples =
+    record {
+      not-under-contract = record { by-register = refl; by-book = refl };
+      failed-loses-contract = record { by-register = refl; by-book = refl };
+      protected-suppliers = record { by-register = refl; by-book = refl };
+      own-request-dropped = record { by-register = refl; by-book = refl };
+      own-request-dropped-periods =
+          record { periods = refl; advance = refl; starts = refl; holders = refl; volumes = refl; total = refl };
+      held-point-gets-last-resort = record { by-register = refl; by-book = refl };
+      other-request-stays = record { by-register = refl; by-book = refl };
+      other-request-takes-effect =
+          record { periods = refl; advance = refl; starts = refl; holders = refl; volumes = refl; total = refl };
+      last-resort-ends =
+          record { periods = refl; advance = refl; starts = refl; holders = refl; volumes = refl; total = refl };
+      own-request-at-own-point = record { by-register = refl; by-book = refl };
+      failure-on-effective-day =
+          record { periods = refl; advance = refl; starts = refl; holders = refl; volumes = refl; total = refl };
+    }
+
+service-examples : ServiceExamples
+unfolding computes
+service-examples =
+    record {
+      enrol-point = record { by-register = refl; by-book = refl };
+      enrol-index = record { by-register = refl; by-book = refl };
+      into-service = record { by-register = refl; by-book = refl };
+      default-supply = record { by-register = refl; by-book = refl };
+      out-of-service = record { by-register = refl; by-book = refl };
+      suspend = record { by-register = refl; by-book = refl };
+      enrolled = record { by-register = refl; by-book = refl };
+      enrolled-period =
+          record { periods = refl; advance = refl; starts = refl; holders = refl; volumes = refl; total = refl };
+      in-service = record { by-register = refl; by-book = refl };
+      in-service-period =
+          record { periods = refl; advance = refl; starts = refl; holders = refl; volumes = refl; total = refl };
+      defaulted = record { by-register = refl; by-book = refl };
+      defaulted-period =
+          record { periods = refl; advance = refl; starts = refl; holders = refl; volumes = refl; total = refl };
+      out = record { by-register = refl; by-book = refl };
+      out-periods =
+          record { periods = refl; advance = refl; starts = refl; holders = refl; volumes = refl; total = refl };
+      out-of-default =
+          record { periods = refl; advance = refl; starts = refl; holders = refl; volumes = refl; total = refl };
+      suspended = record { by-register = refl; by-book = refl };
+      suspended-still = record { by-register = refl; by-book = refl };
+      suspended-no-more = record { by-register = refl; by-book = refl };
+      suspended-periods =
+          record { periods = refl; advance = refl; starts = refl; holders = refl; volumes = refl; total = refl };
+      other-point = record { by-register = refl; by-book = refl };
+    }
+
+request-examples : RequestExamples
+unfolding computes
+request-examples =
+    record {
+      day-asked-for = record { by-register = refl; by-book = refl };
+      point-key-pending = record { by-register = refl; by-book = refl };
+      holder-0-and-suspended = record { by-register = refl; by-book = refl };
+      default-near-its-end = record { by-register = refl; by-book = refl };
+      default-on-its-last-day = record { by-register = refl; by-book = refl };
+      not-under-last-resort = record { by-register = refl; by-book = refl };
+      lowest-number = record { by-register = refl; by-book = refl };
+      asked = record { by-register = refl; by-book = refl };
+      asked-periods =
+          record { periods = refl; advance = refl; starts = refl; holders = refl; volumes = refl; total = refl };
+      cancel-whose = record { by-register = refl; by-book = refl };
+      cancelled = record { by-register = refl; by-book = refl };
+      cancelled-periods =
+          record { periods = refl; advance = refl; starts = refl; holders = refl; volumes = refl; total = refl };
+      cancel-when = record { by-register = refl; by-book = refl };
+      cancel-without-wait = record { by-register = refl; by-book = refl };
+      cancel-with-ten-days = record { by-register = refl; by-book = refl };
+    }
+
+last-day-examples : LastDayExamples
+unfolding machines
+last-day-examples =
+    record {
+      september-30 = three-months-after-september-30-2199;
+      october-1 = three-months-after-october-1-2199;
+      request-on-september-30-for-73047 = plays (rw three-months-after-september-30-2199) refl;
+      request-on-september-30-for-73048 = plays (rw three-months-after-september-30-2199) refl;
+      request-on-october-1-for-73048 = plays (rw three-months-after-october-1-2199) refl;
+      december-10 = three-months-after-december-10-2199;
+      december-11 = three-months-after-december-11-2199;
+      request-on-december-10 = plays (rw three-months-after-december-10-2199) refl;
+      request-on-december-11 = plays (rw three-months-after-december-11-2199) refl;
+    }
+
+reading-examples : ReadingExamples
+unfolding computes
+reading-examples =
+    record {
+      reading-day = record { by-register = refl; by-book = refl };
+      reading-index = record { by-register = refl; by-book = refl };
+      reading-lowest-number = record { by-register = refl; by-book = refl };
+      change-day = record { by-register = refl; by-book = refl };
+      change-index = record { by-register = refl; by-book = refl };
+      read = record { by-register = refl; by-book = refl };
+      changed = record { by-register = refl; by-book = refl };
+      past-zero =
+          record { periods = refl; advance = refl; starts = refl; holders = refl; volumes = refl; total = refl };
+      no-advance =
+          record { periods = refl; advance = refl; starts = refl; holders = refl; volumes = refl; total = refl };
+      unit-100 = record { periods = refl; advance = refl; starts = refl; holders = refl; volumes = refl; total = refl };
+      unit-10 = record { periods = refl; advance = refl; starts = refl; holders = refl; volumes = refl; total = refl };
+      unit-1 = record { periods = refl; advance = refl; starts = refl; holders = refl; volumes = refl; total = refl };
+      unit-of-the-meter-read =
+          record { periods = refl; advance = refl; starts = refl; holders = refl; volumes = refl; total = refl };
+      change-past-zero =
+          record { periods = refl; advance = refl; starts = refl; holders = refl; volumes = refl; total = refl };
+      late-reading =
+          record { periods = refl; advance = refl; starts = refl; holders = refl; volumes = refl; total = refl };
+      own-day-not-booked =
+          record { periods = refl; advance = refl; starts = refl; holders = refl; volumes = refl; total = refl };
+      two-readings =
+          record { periods = refl; advance = refl; starts = refl; holders = refl; volumes = refl; total = refl };
+      one-unit-in-three-days =
+          record { periods = refl; advance = refl; starts = refl; holders = refl; volumes = refl; total = refl };
+    }
+
+full-examples : FullExamples
+unfolding computes
+full-examples =
+    record {
+      into-and-out-of-service = record { by-register = refl; by-book = refl };
+      default-on-21-marks = record { by-register = refl; by-book = refl };
+      default-on-22-marks = record { by-register = refl; by-book = refl };
+      request-on-23-marks = record { by-register = refl; by-book = refl };
+      request-on-24-marks = record { by-register = refl; by-book = refl };
+      request-under-default-21-marks = record { by-register = refl; by-book = refl };
+      request-under-default-22-marks = record { by-register = refl; by-book = refl };
+      failure-on-22-marks = record { by-register = refl; by-book = refl };
+      failure-on-23-marks = record { by-register = refl; by-book = refl };
+      request-under-last-resort-22-marks = record { by-register = refl; by-book = refl };
+      request-under-last-resort-23-marks = record { by-register = refl; by-book = refl };
+      failure-at-point-32 = record { by-register = refl; by-book = refl };
+      failure-with-own-request = record { by-register = refl; by-book = refl };
+      failure-with-other-request = record { by-register = refl; by-book = refl };
+      out-of-service-with-request = record { by-register = refl; by-book = refl };
+      events-are-marks = record { by-register = refl; by-book = refl };
+      other-calls = record { by-register = refl; by-book = refl };
+      cancel-when-full = record { by-register = refl; by-book = refl };
+      lower-numbers-first = record { by-register = refl; by-book = refl };
+      five-before-thirty = record { by-register = refl; by-book = refl };
+      eight-before-thirty = record { by-register = refl; by-book = refl };
+      protected-before-thirty = record { by-register = refl; by-book = refl };
+    }
+
+event-examples : EventExamples
+unfolding computes
+event-examples =
+    record {
+      day-before-effect = record { by-register = refl; by-book = refl };
+      effect = record { by-register = refl; by-book = refl };
+      effect-periods =
+          record { periods = refl; advance = refl; starts = refl; holders = refl; volumes = refl; total = refl };
+      day-before-deadline = record { by-register = refl; by-book = refl };
+      deadline = record { by-register = refl; by-book = refl };
+      day-before-the-end = record { by-register = refl; by-book = refl };
+      the-end = record { by-register = refl; by-book = refl };
+      the-end-periods =
+          record { periods = refl; advance = refl; starts = refl; holders = refl; volumes = refl; total = refl };
+      request-on-default-deadline =
+          record { periods = refl; advance = refl; starts = refl; holders = refl; volumes = refl; total = refl };
+      request-on-last-resort-deadline =
+          record { periods = refl; advance = refl; starts = refl; holders = refl; volumes = refl; total = refl };
+      request-before-default-deadline =
+          record { periods = refl; advance = refl; starts = refl; holders = refl; volumes = refl; total = refl };
+      request-survives-default = record { by-register = refl; by-book = refl };
+      request-after-default-deadline =
+          record { periods = refl; advance = refl; starts = refl; holders = refl; volumes = refl; total = refl };
+      request-day-by-day =
+          record { periods = refl; advance = refl; starts = refl; holders = refl; volumes = refl; total = refl };
+      request-past-last-resort = record { by-register = refl; by-book = refl };
+      request-past-last-resort-periods =
+          record { periods = refl; advance = refl; starts = refl; holders = refl; volumes = refl; total = refl };
+      present-holder-named =
+          record { periods = refl; advance = refl; starts = refl; holders = refl; volumes = refl; total = refl };
+      call-replaces-event =
+          record { periods = refl; advance = refl; starts = refl; holders = refl; volumes = refl; total = refl };
+      suspended-after-request =
+          record { periods = refl; advance = refl; starts = refl; holders = refl; volumes = refl; total = refl };
+      checks-look-at-today = record { by-register = refl; by-book = refl };
+    }
+
+question-examples : QuestionExamples
+unfolding computes
+question-examples =
+    record {
+      holder-before-enrolment = refl;
+      holder-on-enrolment = refl;
+      holder-on-14 = refl;
+      holder-on-15 = refl;
+      holder-on-registers-day = refl;
+      holder-after-registers-day = refl;
+      period-0 = refl;
+      period-1 = refl;
+      period-2 = refl;
+      period-3 = refl;
+      advance = refl;
+      advance-not-read = refl;
+      holder-of-0 = refl;
+      holder-of-33 = refl;
+      holder-not-enrolled = refl;
+      period-of-0 = refl;
+      period-of-33 = refl;
+      period-not-enrolled = refl;
+      advance-of-0 = refl;
+      advance-of-33 = refl;
+      advance-not-enrolled = refl;
+    }
+
+pub row-examples : RowExamples
+row-examples =
+    record {
+      answers = answer-examples;
+      openings = opening-examples;
+      order = order-examples;
+      contracts = contract-examples;
+      services = service-examples;
+      requests = request-examples;
+      last-days = last-day-examples;
+      readings = reading-examples;
+      full = full-examples;
+      events = event-examples;
+      questions = question-examples;
+    }

@@ -1,0 +1,97 @@
+-- The whole list: from a newly opened register on, the register stays beside the day book.
+use mathlib.Core.Path.{_≡_, refl, sym, _∙_, ap, ap₂, subst₂, fun-ext}
+use mathlib.Core.Bool.{Bool, true, false, false≢true, true≢false}
+use mathlib.Core.List.{List, [], _∷_, _++_, append-nil, append-assoc}
+use Prim.Native.Nat.{ℕ, zero, suc, _+_, _-_, _≤_, _<_}
+use native.Mathlib.Omega.{arith}
+use lib.Dec.{ltb}
+use lib.ListN.{replicate, getD-replicate}
+use borrow.Author.Tests.{ltb-false}
+use Rattle.rules.specs.declared.Register.{Register}
+use Rattle.rules.specs.declared.Span.{Span}
+use Rattle.rules.specs.declared.Opening.{Opening}
+use Rattle.rules.specs.declared.Call.{Call}
+use Rattle.rules.specs.declared.Answer.{Answer}
+use Rattle.rules.specs.Volumes.{volume, registered}
+use Rattle.rules.specs.Answers.{isAccepted}
+use Rattle.rules.specs.Rejections.{openingAnswer}
+use Rattle.rules.specs.Register
+use Rattle.rules.specs.Register.{blankPoint, applied}
+use Rattle.rules.specs.DayBook
+use Rattle.rules.specs.DayBook.{Book}
+use Rattle.rules.proofs.Tally.{tally, sumVolumes}
+use Rattle.rules.proofs.Slots.{recent}
+use Rattle.rules.proofs.Accept.{pass, neither}
+use Rattle.rules.proofs.Tied.{Tied}
+use Rattle.rules.proofs.Step.{Agree, says-agree, readNow, enrolledNow, call-agree}
+
+-- An accepted opening has A and B at least 1.
+lasting : (o : Opening) → isAccepted (openingAnswer o) ≡ true → (0 < o .a) × (0 < o .b)
+unfolding openingAnswer
+lasting o ok =
+    let a = pass _ _ _ _ (pass _ _ _ _ ok .1) in
+    let b = pass _ _ _ _ (a .1) in (
+      ltb-false (o .a) 1 (neither (ltb (o .a) 1) (ltb 400 (o .a)) (a .0) .0),
+      ltb-false (o .b) 1 (neither (ltb (o .b) 1) (ltb 400 (o .b)) (b .0) .0),
+    )
+
+opened-agree : (o : Opening) → isAccepted (openingAnswer o) ≡ true → Agree (λ p. []) (λ p. []) (DayBook.opened o) (Register.opened o)
+unfolding DayBook.opened Register.opened tally recent volume registered sumVolumes
+opened-agree o ok =
+    record {
+      settings = refl;
+      day = refl;
+      contracts = refl;
+      count = refl;
+      lasting = lasting o ok;
+      points = λ p lo hi. rw (getD-replicate 32 (p - 1) blankPoint blankPoint (omega arith)) (record {
+        point = record {
+          same = refl;
+          sized = record { slots = refl; some = omega arith };
+          live = (refl, tt);
+          told = refl;
+          still = λ d le. refl;
+          sum = refl;
+          most = omega arith;
+          held = (refl, tt);
+          born = record { outside = λ z. (refl, refl); inside = λ y. absurd (false≢true y) };
+        };
+        fine = record {
+          past = omega arith;
+          wheels = (omega arith, omega arith);
+          ahead = record { kind = tt; pending = tt };
+          fit = omega arith;
+          blank = λ z. (refl, refl);
+        };
+      });
+    }
+
+after-agree : (cs : List Call) (l : ℕ → List Span) (n : ℕ → List ℕ) (b : Book) (r : Register) → Agree l n b r
+    → Agree (λ p. l p ++ DayBook.readings b cs p) (λ p. n p ++ DayBook.enrolments b cs p) (DayBook.after b cs) (Register.after r cs)
+unfolding DayBook.readings DayBook.enrolments DayBook.after Register.after
+after-agree [] l n b r h =
+    subst₂ (λ (x : ℕ → List Span) (y : ℕ → List ℕ). Agree x y b r) (fun-ext (λ p. sym (append-nil (l p))))
+    (fun-ext (λ p. sym (append-nil (n p)))) h
+after-agree (c ∷ cs) l n b r h =
+    subst₂ (λ (x : ℕ → List Span) (y : ℕ → List ℕ). Agree x y (DayBook.after (DayBook.next b c) cs) (Register.after (applied r c .register) cs))
+    (fun-ext (λ p. append-assoc (l p) (readNow c l n b r h p) (DayBook.readings (DayBook.next b c) cs p)))
+    (fun-ext (λ p. append-assoc (n p) (enrolledNow c l n b r h p) (DayBook.enrolments (DayBook.next b c) cs p)))
+    (after-agree cs (λ p. l p ++ readNow c l n b r h p) (λ p. n p ++ enrolledNow c l n b r h p) (DayBook.next b c) (applied r c .register)
+    (call-agree c l n b r h))
+
+answers-agree : (cs : List Call) (l : ℕ → List Span) (n : ℕ → List ℕ) (b : Book) (r : Register) → Agree l n b r
+    → Register.answers r cs ≡ DayBook.answers b cs
+unfolding DayBook.answers Register.answers applied
+answers-agree [] l n b r h = refl
+answers-agree (c ∷ cs) l n b r h =
+    ap₂ (λ (a : Answer) (l : List Answer). a ∷ l) (sym (says-agree c l n b r h))
+    (answers-agree cs (λ p. l p ++ readNow c l n b r h p) (λ p. n p ++ enrolledNow c l n b r h p) (DayBook.next b c) (applied r c .register)
+    (call-agree c l n b r h))
+
+module _ (o : Opening) (ok : isAccepted (openingAnswer o) ≡ true) (cs : List Call) where
+  pub run-agrees : Agree (λ p. DayBook.readings (DayBook.opened o) cs p) (λ p. DayBook.enrolments (DayBook.opened o) cs p)
+      (DayBook.after (DayBook.opened o) cs) (Register.after (Register.opened o) cs)
+  run-agrees = after-agree cs (λ p. []) (λ p. []) (DayBook.opened o) (Register.opened o) (opened-agree o ok)
+
+  pub run-answers : Register.answers (Register.opened o) cs ≡ DayBook.answers (DayBook.opened o) cs
+  run-answers = answers-agree cs (λ p. []) (λ p. []) (DayBook.opened o) (Register.opened o) (opened-agree o ok)

@@ -1,0 +1,254 @@
+-- One call on both sides: the same answer, and the register stays beside the day book.
+use mathlib.Core.Path.{_≡_, refl, sym, _∙_, ap, subst, fun-ext}
+use mathlib.Core.Bool.{Bool, true, false, cond, _||_, _&&_}
+use mathlib.Core.List.{List, [], _∷_, _++_, append-nil, map}
+use Prim.Native.Nat.{ℕ, zero, suc, _+_, _-_, _≤_, _<_}
+use native.Mathlib.Omega.{arith}
+use lib.Dec.{eqb, ltb}
+use lib.ListN.{length, getD, set, length-set, length-map}
+use lib.Seq.{getD-set-same, getD-set-other}
+use borrow.Author.Tests.{eqb-true, eqb-false, ltb-false, le-ltb}
+use Rattle.dates.specs.Dates.{lastDay}
+use Rattle.rules.specs.declared.Fields.{Fields}
+use Rattle.rules.specs.declared.Point.{Point}
+use Rattle.rules.specs.declared.Register.{Register}
+use Rattle.rules.specs.declared.Settings.{Settings}
+use Rattle.rules.specs.declared.Span.{Span}
+use Rattle.rules.specs.declared.Call.{Call}
+use Rattle.rules.specs.declared.Action.{Action}
+use Rattle.rules.specs.declared.Action.the-variants.{SignContract, Failure, At, Day}
+use Rattle.rules.specs.declared.PointAction.{PointAction}
+use Rattle.rules.specs.declared.PointAction.the-variants.{
+  Enrol,
+  IntoService,
+  DefaultSupply,
+  AskSwitch,
+  Cancel,
+  Read,
+  ChangeMeter,
+  OutOfService,
+  Suspend,
+}
+use Rattle.rules.specs.declared.Answer.{Answer}
+use Rattle.rules.specs.Effects.{Effect, keep, effectOf, effect}
+use Rattle.rules.specs.Volumes.{spansOf, spans}
+use Rattle.rules.specs.Answers.{isAccepted}
+use Rattle.rules.specs.Rejections.{
+  View,
+  blankView,
+  firstOf,
+  notPoint,
+  notEnrolled,
+  outOfRange,
+  offCalendar,
+  rowsAt,
+  rows,
+  acceptedAt,
+  accepted,
+  shown,
+  answer,
+  answerTo,
+}
+use Rattle.rules.specs.Register
+use Rattle.rules.specs.Register.{
+  entered,
+  catchUp,
+  bookedAll,
+  view,
+  register,
+  pointAt,
+  blankPoint,
+  advanced,
+  acted,
+  failedPoint,
+  done,
+  applied,
+}
+use Rattle.rules.specs.DayBook
+use Rattle.rules.specs.DayBook.{Book, Page, goOn, upToDay, look, signed, written, next, enrols}
+use Rattle.rules.proofs.Good.{Fine, Good}
+use Rattle.rules.proofs.Answered.{
+  shown-in,
+  answer-ext,
+  answer-off,
+  answer-back,
+  Passed,
+  passed,
+  names-point,
+}
+use Rattle.rules.proofs.Accept.{pass, neither, call-good}
+use Rattle.rules.proofs.Tied.{Told, Tied, views-agree, effect-tied}
+use Rattle.rules.proofs.Days.{gone-on, point-map, caught}
+
+-- The whole book beside the whole register, with the readings and enrolments of each point so far.
+pub record Agree (l : ℕ → List Span) (n : ℕ → List ℕ) (b : Book) (r : Register) : Type 0 where
+  pub settings : b .settings ≡ r .settings
+  pub day : b .day ≡ r .day
+  pub contracts : b .contracts ≡ r .contracts
+  pub count : length (r .points) ≡ 32
+  -- default and last-resort supply last a day at the least
+  pub lasting : (0 < b .settings .a) × (0 < b .settings .b)
+  pub points : (p : ℕ) → 1 ≤ p → p ≤ 32 → Tied (b .day) (l p) (n p) (b .page p) (pointAt p (r .points))
+
+-- The register after an accepted call, point by point.
+abbrev does : Settings → ℕ → Action → ℕ → Point → Point
+does S t c p g = entered t (effect S t c p (g .fields)) (bookedAll (spans t c p (g .fields)) (g .history))
+
+module _ (r : Register) (count : length (r .points) ≡ 32) (t : ℕ) (u : List Bool) (v : ℕ → View) where
+  done-count : (c : Action) → length (done t c r .points) ≡ 32
+  unfolding done
+  done-count (SignContract s) = count
+  done-count (Failure s) = length-map (r .points) (failedPoint (r .settings) t s) ∙ count
+  done-count (At q a) = length-set (r .points) (q - 1) _ ∙ count
+  done-count Day = count
+
+  done-points : (c : Action) → isAccepted (firstOf (rows (r .settings) u t c v) (accepted t c)) ≡ true → (p : ℕ) → 1 ≤ p → p ≤ 32
+      → pointAt p (done t c r .points) ≡ does (r .settings) t c p (pointAt p (r .points))
+  unfolding done effect spans failedPoint acted rows accepted
+  done-points (SignContract s) ok p lo hi = refl
+  done-points (Failure s) ok p lo hi = point-map (failedPoint (r .settings) t s) (r .points) p lo (omega arith)
+  done-points (At q a) ok p lo hi = go (eqb p q) refl
+    where
+      at : (1 ≤ q) × (q ≤ 32)
+      at =
+          let k = neither (ltb q 1) (ltb 32 q) (names-point (r .settings) u t q a (v q) ok) in
+          (ltb-false q 1 (k .0), ltb-false 32 q (k .1))
+
+      new : Point
+      new = acted (r .settings) t a (pointAt q (r .points))
+
+      go : (b : Bool) → eqb p q ≡ b
+          → pointAt p (set (r .points) (q - 1) new)
+          ≡ entered t (cond b (effectOf (r .settings) t a (pointAt p (r .points) .fields)) (keep (pointAt p (r .points) .fields)))
+          (bookedAll (cond b (spansOf t a (pointAt p (r .points) .fields)) []) (pointAt p (r .points) .history))
+      go true e =
+          let w : p ≡ q = eqb-true p q e in
+          rw w (getD-set-same (r .points) (q - 1) new blankPoint (omega (arith, at .0, at .1)))
+      go false e =
+          let w : p ≡ q → ⊥ = eqb-false p q e in
+          getD-set-other (r .points) (q - 1) (p - 1) new blankPoint (λ z. w (omega (arith, at .0, at .1)))
+  done-points Day ok p lo hi = refl
+
+  done-rest : (c : Action) → (done t c r .settings ≡ r .settings) × (done t c r .day ≡ r .day) × (done t c r .contracts ≡ signed c (r .contracts))
+  unfolding done
+  done-rest (SignContract s) = (refl, refl, refl)
+  done-rest (Failure s) = (refl, refl, refl)
+  done-rest (At q a) = (refl, refl, refl)
+  done-rest Day = (refl, refl, refl)
+
+-- The register brought up to a day.
+advanced-rest : (t : ℕ) (r : Register)
+    → (advanced t r .settings ≡ r .settings) × (advanced t r .day ≡ t) × (advanced t r .contracts ≡ r .contracts)
+    × (length (advanced t r .points) ≡ length (r .points))
+unfolding advanced
+advanced-rest t r = go (eqb (r .day) t) refl
+  where
+    go : (x : Bool) → eqb (r .day) t ≡ x
+        → let s = cond x r (register (r .settings) t (r .contracts) (map (catchUp (r .settings) t) (r .points))) in
+        (s .settings ≡ r .settings) × (s .day ≡ t) × (s .contracts ≡ r .contracts) × (length (s .points) ≡ length (r .points))
+    go true e = (refl, eqb-true (r .day) t e, refl, refl)
+    go false e = (refl, refl, refl, length-map (r .points) (catchUp (r .settings) t))
+
+module _ (c : Call) (l : ℕ → List Span) (n : ℕ → List ℕ) (b : Book) (r : Register) (h : Agree l n b r) where
+  abbrev t : ℕ
+  t = c .today
+
+  -- both brought up to today
+  now : b .day ≤ t → t ≤ lastDay → (p : ℕ) → 1 ≤ p → p ≤ 32 → Tied t (l p) (n p) (upToDay t b .page p) (pointAt p (advanced t r .points))
+  now on cal p lo hi =
+      caught b r (h .settings) (h .day) (h .lasting .1) t on cal p lo (omega (arith, h .count)) (l p) (n p) (h .points p lo hi)
+
+  pub says-agree : DayBook.says b c ≡ Register.says r c
+  unfolding DayBook.says Register.says answer
+  says-agree =
+      go (ltb lastDay t) (ltb t (b .day)) refl refl
+      ∙ (λ i. answer (h .settings i) (h .day i) (h .contracts i) c (λ p. view t (pointAt p (advanced t r .points))))
+    where
+      go : (x y : Bool) → ltb lastDay t ≡ x → ltb t (b .day) ≡ y
+          → answer (b .settings) (b .day) (b .contracts) c (λ p. look (upToDay t b .page p))
+          ≡ answer (b .settings) (b .day) (b .contracts) c (λ p. view t (pointAt p (advanced t r .points)))
+      go true y a d = answer-off (b .settings) (b .day) (b .contracts) t (c .action) _ _ a
+      go false true a d = answer-back (b .settings) (b .day) (b .contracts) t (c .action) _ _ d
+      go false false a d =
+          answer-ext (b .settings) (b .day) (b .contracts) c _ _
+          (λ p lo hi. views-agree t (l p) (n p) _ _ (now (ltb-false t (b .day) d) (ltb-false lastDay t a) p lo hi .point))
+
+  -- the readings and the enrolments of this call at point p
+  abbrev pub readNow : ℕ → List Span
+  readNow p = cond (isAccepted (DayBook.says b c)) (spans t (c .action) p (upToDay t b .page p .fields)) []
+
+  abbrev pub enrolledNow : ℕ → List ℕ
+  enrolledNow p = cond (isAccepted (DayBook.says b c)) (cond (enrols (c .action) p) (t ∷ []) []) []
+
+  abbrev v : ℕ → View
+  v p = look (upToDay t b .page p)
+
+  abbrev point : ℕ → Point
+  point p = pointAt p (advanced t r .points)
+
+  -- an accepted call, at point p
+  module _ (w : Passed (b .settings) (b .day) (b .contracts) t (c .action) (shown v)) (p : ℕ) (lo : 1 ≤ p) (hi : p ≤ 32) where
+    abbrev page : Page
+    page = upToDay t b .page p
+
+    abbrev sp : List Span
+    sp = spans t (c .action) p (page .fields)
+
+    abbrev j : List ℕ
+    j = cond (enrols (c .action) p) (t ∷ []) []
+
+    abbrev e : Effect
+    e = effect (b .settings) t (c .action) p (page .fields)
+
+    turned : Tied t (l p ++ sp) (n p ++ j) (written e (page .cells)) (does (b .settings) t (c .action) p (point p))
+    turned =
+        let i = now (w .on) (w .calendar) p lo hi in
+        let q : shown v p ≡ v p = shown-in v p lo hi in
+        let k : Good t (v p) e sp j
+        = subst (λ (x : View). Good t x (effect (b .settings) t (c .action) p (x .fields)) (spans t (c .action) p (x .fields)) j) q
+        (call-good (b .settings) (h .lasting .0) (h .lasting .1) (b .contracts) t (shown v) p lo hi (rw q (i .fine)) (c .action)
+        (w .ranges) (w .rest)) in
+        subst
+        (λ (x : Fields). Tied t (l p ++ sp) (n p ++ j) (written e (page .cells))
+        (entered t (effect (b .settings) t (c .action) p x) (bookedAll (spans t (c .action) p x) (point p .history))))
+        (i .point .same) (effect-tied t (l p) (n p) page (point p) (i .point) e sp j k (w .calendar))
+
+  accepted-agree : isAccepted (DayBook.says b c) ≡ true
+      → Agree (λ p. l p ++ spans t (c .action) p (upToDay t b .page p .fields)) (λ p. n p ++ cond (enrols (c .action) p) (t ∷ []) [])
+      (DayBook.entered c (upToDay t b)) (done t (c .action) (advanced t r))
+  unfolding DayBook.says answer
+  accepted-agree ok =
+      let w = passed (b .settings) (b .day) (b .contracts) t (c .action) (shown v) ok in
+      let a = advanced-rest t r in
+      let g = gone-on (t - b .day) b in
+      let s : advanced t r .settings ≡ b .settings = a .0 ∙ sym (h .settings) in
+      let d : upToDay t b .day ≡ t = g .day ∙ omega (arith, w .on) in
+      let m : length (advanced t r .points) ≡ 32 = a .3 ∙ h .count in
+      let k = done-rest (advanced t r) m t (b .contracts) (shown v) (c .action) in
+      record {
+        settings = g .settings ∙ sym s ∙ sym (k .0);
+        day = d ∙ sym (a .1) ∙ sym (k .1);
+        contracts = ap (signed (c .action)) (g .contracts ∙ h .contracts ∙ sym (a .2)) ∙ sym (k .2);
+        count = done-count (advanced t r) m t (b .contracts) (shown v) (c .action);
+        lasting = rw (g .settings) (h .lasting);
+        points = λ p lo hi. rw (d, g .settings, done-points (advanced t r) m t (b .contracts) (shown v) (c .action) (rw s (w .rest)) p lo hi, s)
+            (turned w p lo hi);
+      }
+
+  pub call-agree : Agree (λ p. l p ++ readNow p) (λ p. n p ++ enrolledNow p) (DayBook.next b c) (applied r c .register)
+  unfolding DayBook.next applied
+  call-agree = rw (← says-agree) (go (isAccepted (DayBook.says b c)) refl)
+    where
+      go : (x : Bool) → isAccepted (DayBook.says b c) ≡ x
+          → Agree (λ p. l p ++ cond x (spans t (c .action) p (upToDay t b .page p .fields)) [])
+          (λ p. n p ++ cond x (cond (enrols (c .action) p) (t ∷ []) []) [])
+          (cond x (DayBook.entered c (upToDay t b)) b) (cond x (done t (c .action) (advanced t r)) r)
+      go true ok = accepted-agree ok
+      go false ok = record {
+        settings = h .settings;
+        day = h .day;
+        contracts = h .contracts;
+        count = h .count;
+        lasting = h .lasting;
+        points = λ p lo hi. rw (append-nil (l p), append-nil (n p)) (h .points p lo hi);
+      }

@@ -1,0 +1,68 @@
+-- Demand 3: the theorem `day-book-agrees`. Its statement is specs/Demand3.antt.
+use mathlib.Core.Path.{_≡_, refl, sym, _∙_, ap}
+use mathlib.Core.Bool.{Bool, true, false}
+use mathlib.Core.List.{List, [], _∷_}
+use Prim.Native.Nat.{ℕ, suc, _+_, _^_, _≤_, min}
+use native.Mathlib.Omega.{arith}
+use lib.ListN.{length, take}
+use Rattle.rules.specs.declared.Fields.{Fields}
+use Rattle.rules.specs.declared.Meter.{Meter}
+use Rattle.rules.specs.declared.Point.{Point}
+use Rattle.rules.specs.declared.Span.{Span}
+use Rattle.rules.specs.Volumes.{fullTurn, volume}
+use Rattle.rules.specs.Rejections.{due}
+use Rattle.rules.specs.DayBook.{Page}
+use Rattle.rules.specs.Demand3.{DayBookAgrees, Demand3, PointAgrees, startsOf}
+use Rattle.rules.proofs.Tally.{tally-length, oldest}
+use Rattle.rules.proofs.Slots.{listed, length-listed}
+use Rattle.rules.proofs.Cover.{starts-read, volumes-read, total-read, first-read, first-read-none, covered-read}
+use Rattle.rules.proofs.Good.{Wheels}
+use Rattle.rules.proofs.Tied.{Tied, Since}
+use Rattle.rules.proofs.Step.{Agree}
+use Rattle.rules.proofs.Run.{run-agrees, run-answers}
+
+turn-exact : (m : Meter) → Wheels m → fullTurn m ≡ 10 ^ (m .before + m .after)
+unfolding fullTurn
+turn-exact m w = ap (λ (n : ℕ). 10 ^ n) (omega arith)
+
+-- One point beside its page on day t, with its readings l and its enrolments n.
+module _ (t : ℕ) (l : List Span) (n : List ℕ) (g : Page) (r : Point) (h : Tied t l n g r) where
+  first-start : (b : Bool) → g .fields .enrolled ≡ b → take 1 (startsOf r) ≡ n
+  first-start true y =
+      let s = h .point .born .inside y in first-read r (h .point .sized) (s .enrolment) (s .start) ∙ sym (s .one)
+  first-start false z =
+      let b = h .point .born .outside z in first-read-none r (h .point .sized) (b .1) ∙ sym (b .0)
+
+  -- an enrolment day is where the oldest period starts
+  oldest-by : (e d : ℕ) → n ≡ e ∷ [] → e ≤ d → (b : Bool) → g .fields .enrolled ≡ b → (x : ℕ) → oldest (listed (r .history)) x ≤ d
+  oldest-by e d q le true y x =
+      let s = h .point .born .inside y in
+      let z : s .enrolment ≡ e = cc (s .one) in
+      rw (s .start x) (omega arith)
+  oldest-by e d q le false z x = let b = h .point .born .outside z in let w : _≡_ {A = ℕ} 0 1 = cc (b .0) in absurd (omega arith)
+
+  point-agrees : PointAgrees t l n g r
+  point-agrees =
+      let p = h .point in
+      record {
+        fields = sym (p .same);
+        starts = starts-read r (p .sized) (volume l) (g .cells) (p .told);
+        first = first-start (g .fields .enrolled) refl;
+        covered = λ e d q lo hi. covered-read r (p .sized) (volume l) (g .cells) (p .told) t (p .live) (g .fields .supply .holder) (p .held) d
+            (oldest-by e d q lo (g .fields .enrolled) refl) hi;
+        volumes = volumes-read r (p .sized) (volume l) (g .cells) (p .told) t (p .live);
+        advance = total-read r (p .sized) ∙ p .sum;
+        room =
+            rw (← (p .same), ← (length-listed (r .history)), p .told, tally-length (volume l) (g .cells) 0) (h .fine .fit);
+        turn = rw (← (p .same)) (turn-exact (g .fields .meter) (h .fine .wheels));
+      }
+
+pub day-book-agrees : DayBookAgrees
+day-book-agrees o ok calls =
+    let h = run-agrees o ok calls in
+    record {
+      answers = run-answers o ok calls;
+      day = sym (h .day);
+      contracts = sym (h .contracts);
+      points = λ p lo hi. rw (← (h .day)) (point-agrees _ _ _ _ _ (h .points p lo hi));
+    }

@@ -1,0 +1,274 @@
+-- A point of the register beside its page in the day book, and what an effect does to the two.
+--
+-- Told   the point says what the page says, by the readings l and the enrolments n of the list so far
+-- Tied   besides, all that is due lies ahead and there is room for it
+use mathlib.Core.Path.{_≡_, refl, sym, _∙_, ap, subst, fun-ext}
+use mathlib.Core.Bool.{Bool, true, false, cond, true≢false, false≢true}
+use mathlib.Core.List.{List, [], _∷_, _++_, append-nil}
+use Prim.Native.Nat.{ℕ, zero, suc, _+_, _-_, _*_, _^_, _≤_, _<_}
+use native.Mathlib.Omega.{arith}
+use native.Mathlib.Nat.{add-zero, le-trans}
+use native.Mathlib.Numerals.{add-one}
+use lib.ListN.{length}
+use Rattle.dates.specs.Dates.{lastDay}
+use Rattle.rules.specs.declared.Fields.{Fields}
+use Rattle.rules.specs.declared.History.{History}
+use Rattle.rules.specs.declared.Period.{Period}
+use Rattle.rules.specs.declared.Point.{Point}
+use Rattle.rules.specs.declared.Span.{Span}
+use Rattle.rules.specs.Effects.{Effect, keep, name, fieldsOf}
+use Rattle.rules.specs.Volumes.{volume, registered}
+use Rattle.rules.specs.Rejections.{View, due, marksAfter}
+use Rattle.rules.specs.Register.{startsOn, named, entered, bookedAll, view, used}
+use Rattle.rules.specs.DayBook.{Cell, cell, Page, overwritten, written, countMarks, isMarked, look}
+use Rattle.rules.proofs.Shares.{All, all-map, volume-append, registered-append, volume-after}
+use Rattle.rules.proofs.Tally.{
+  begin,
+  beganOn,
+  bookTotals,
+  tally,
+  Runs,
+  Live,
+  live-runs,
+  live-overwritten,
+  Held,
+  held-overwritten,
+  tally-length,
+  began,
+  begin-tally,
+  bookTotals-tally,
+  sumVolumes,
+  oldest,
+  Desc,
+  tally-desc,
+  oldest-begin,
+  sum-begin,
+  sum-bookTotals,
+  oldest-bookTotals,
+}
+use Rattle.rules.proofs.Slots.{
+  listed,
+  Sized,
+  used-count,
+  length-listed,
+  starts-listed,
+  named-listed,
+  named-sized,
+  bookedAll-listed,
+  bookedAll-sized,
+}
+use Rattle.rules.proofs.Good.{perDay, Wheels, Fine, Keeps, Names, Enrols, Good}
+
+-- The oldest period starts on the one enrolment day, at or before the last reading.
+pub record Since (n : List ℕ) (ps : List Period) (d : ℕ) : Type 0 where
+  pub enrolment : ℕ
+  pub one : n ≡ enrolment ∷ []
+  pub start : (x : ℕ) → oldest ps x ≡ enrolment
+  pub read : enrolment ≤ d
+
+-- A point that is not enrolled has no enrolment and no period.
+pub record Born (f : Fields) (n : List ℕ) (ps : List Period) : Type 0 where
+  pub outside : f .enrolled ≡ false → (n ≡ []) × (ps ≡ [])
+  pub inside : f .enrolled ≡ true → Since n ps (f .reading .day)
+
+pub record Told (t : ℕ) (l : List Span) (n : List ℕ) (g : Page) (r : Point) : Type 0 where
+  pub same : g .fields ≡ r .fields
+  pub sized : Sized (r .history)
+  pub live : Live t (g .cells)
+  pub told : listed (r .history) ≡ tally (volume l) (g .cells) 0
+  -- no gas is booked from the last reading's day on
+  pub still : (d : ℕ) → g .fields .reading .day ≤ d → volume l d ≡ 0
+  pub sum : sumVolumes (listed (r .history)) ≡ registered l
+  pub most : registered l ≤ perDay * g .fields .reading .day
+  pub held : Held (g .fields .supply .holder) (g .cells)
+  pub born : Born (g .fields) n (listed (r .history))
+
+pub record Tied (t : ℕ) (l : List Span) (n : List ℕ) (g : Page) (r : Point) : Type 0 where
+  pub point : Told t l n g r
+  pub fine : Fine t (look g)
+
+-- The checks see the same.
+pub views-agree : (t : ℕ) (l : List Span) (n : List ℕ) (g : Page) (r : Point) → Told t l n g r → look g ≡ view t r
+views-agree t l n g r h = λ i. record {
+  fields = h .same i;
+  marks = (sym (used-count (r .history) (h .sized) ∙ sym (length-listed (r .history)) ∙ ap length (h .told)
+      ∙ tally-length (volume l) (g .cells) 0)) i;
+  marked = (sym (starts-listed t (r .history) (h .sized) ∙ ap (beganOn t) (h .told) ∙ began (volume l) t (g .cells) (h .live))) i;
+}
+
+marks-overwritten : (t h : ℕ) (cs : List Cell) → Live t cs → countMarks (overwritten h cs) ≡ countMarks cs + cond (isMarked cs) 0 1
+marks-overwritten t h (cell d k true ∷ cs) r = sym (add-zero _)
+marks-overwritten t h (cell d k false ∷ cs) r = sym (add-one _)
+
+-- The marks after an effect are those of the cells after it.
+marks-written : (t : ℕ) (g : Page) (e : Effect) → Live t (g .cells) → countMarks (written e (g .cells) .cells) ≡ marksAfter (look g) e
+marks-written t g (keep f) r = refl
+marks-written t g (name f) r = marks-overwritten t (f .supply .holder) (g .cells) r
+
+pub written-fields : (e : Effect) (cs : List Cell) → written e cs .fields ≡ fieldsOf e
+written-fields (keep f) cs = refl
+written-fields (name f) cs = refl
+
+-- The history with an effect's readings booked: l are all readings, d is the day of the last one.
+pub record Booked (t : ℕ) (l : List Span) (d : ℕ) (g : Page) (r : Point) (H : History) : Type 0 where
+  pub sized : Sized H
+  pub told : listed H ≡ tally (volume l) (g .cells) 0
+  pub still : (x : ℕ) → d ≤ x → volume l x ≡ 0
+  pub sum : sumVolumes (listed H) ≡ registered l
+  pub most : registered l ≤ perDay * d
+  pub start : (x : ℕ) → oldest (listed H) x ≡ oldest (listed (r .history)) x
+  pub none : g .fields .enrolled ≡ false → listed H ≡ []
+
+module _ (t : ℕ) (l : List Span) (n : List ℕ) (g : Page) (r : Point) (h : Told t l n g r) (e : Effect) (sp : List Span) (j : List ℕ)
+    (k : Good t (look g) e sp j) (cal : t ≤ lastDay) where
+  abbrev ps : List Period
+  ps = listed (r .history)
+
+  falling : Desc (suc t) ps
+  falling = rw (h .told) (tally-desc (volume l) (g .cells) (suc t) 0 (live-runs t (g .cells) (h .live)))
+
+  forward : All (λ (s : Span). (s .from < s .to) × (s .to ≤ suc t)) sp
+  forward = all-map sp (λ s w. (w .1, omega (arith, w .2, k .hi))) (k .made)
+
+  fits : sumVolumes ps + registered sp < 2 ^ 64
+  fits = omega (arith, h .sum, h .most, k .most, k .hi)
+
+  books : listed (bookedAll sp (r .history)) ≡ bookTotals sp (suc t) ps
+  books = bookedAll-listed sp (suc t) (r .history) (h .sized) forward falling fits
+
+  sums : (b : Bool) → g .fields .enrolled ≡ b → sumVolumes (bookTotals sp (suc t) ps) ≡ registered l + registered sp
+  unfolding bookTotals registered
+  sums true y =
+      let s = h .born .inside y in
+      sum-bookTotals sp ps (suc t) (g .fields .reading .day) falling (rw (s .start (suc t)) (s .read))
+      (all-map sp (λ s w. (w .0, w .1, omega (arith, w .2, k .hi))) (k .made))
+      ∙ omega (arith, h .sum)
+  sums false z = rw (k .once z) (omega (arith, h .sum))
+
+  books-none : g .fields .enrolled ≡ false → bookTotals sp (suc t) ps ≡ []
+  unfolding bookTotals
+  books-none z = rw (k .once z) (h .born .outside z .1)
+
+  booked-effect : Booked t (l ++ sp) (fieldsOf e .reading .day) g r (bookedAll sp (r .history))
+  booked-effect =
+      record {
+        sized = bookedAll-sized sp (r .history) (h .sized);
+        told =
+            books ∙ ap (bookTotals sp (suc t)) (h .told)
+            ∙ bookTotals-tally sp (volume l) (g .cells) (suc t) (live-runs t (g .cells) (h .live)) (all-map sp (λ s w. w .0) forward)
+            ∙ ap (λ (v : ℕ → ℕ). tally v (g .cells) 0) (fun-ext (λ d. sym (volume-append l sp d)));
+        still = λ d le. volume-append l sp d
+            ∙ omega (arith, h .still d (le-trans (k .lo) le), volume-after sp d (all-map sp (λ s w. (w .1, le-trans (w .2) le)) (k .made)));
+        sum = ap sumVolumes books ∙ sums (g .fields .enrolled) refl ∙ sym (registered-append l sp);
+        most = rw (registered-append l sp) (omega (arith, h .most, k .most));
+        start = λ x. ap (λ (q : List Period). oldest q x) books ∙ oldest-bookTotals sp ps x (suc t);
+        none = λ z. books ∙ books-none z;
+      }
+
+  fine-after : Fine t (look (written e (g .cells)))
+  fine-after =
+      let m = marks-written t g e (h .live) in
+      let f = written-fields e (g .cells) in
+      record {
+        past = rw f (k .hi);
+        wheels = rw f (k .wheels);
+        ahead = rw f (k .ahead);
+        fit = rw (m, f) (k .fit);
+        blank = rw (m, f) (k .blank);
+      }
+
+module _ (t : ℕ) (l : List Span) (n : List ℕ) (g : Page) (r : Point) (h : Told t l n g r) (f : Fields) (sp : List Span) (j : List ℕ)
+    (cal : t ≤ lastDay) where
+  abbrev after : History
+  after = bookedAll sp (r .history)
+
+  -- an effect that keeps the holder
+  told-keep : Good t (look g) (keep f) sp j → Told t (l ++ sp) (n ++ j) (written (keep f) (g .cells)) (entered t (keep f) after)
+  told-keep k =
+      let b = booked-effect t l n g r h (keep f) sp j k cal in
+      let m : n ++ j ≡ n = ap (λ (x : List ℕ). n ++ x) (k .enrols .1) ∙ append-nil n in
+      let y = sym (k .enrols .0) in
+      record {
+        same = refl;
+        sized = b .sized;
+        live = h .live;
+        told = b .told;
+        still = b .still;
+        sum = b .sum;
+        most = b .most;
+        held = rw (k .keeps) (h .held);
+        born = record {
+          outside = λ z. (m ∙ h .born .outside (y ∙ z) .0, b .none (y ∙ z));
+          inside = λ z. let s = h .born .inside (y ∙ z) in
+              record { enrolment = s .enrolment; one = m ∙ s .one; start = λ x. b .start x ∙ s .start x; read = le-trans (s .read) (k .lo) };
+        };
+      }
+
+  -- an effect that names one
+  module _ (k : Good t (look g) (name f) sp j) where
+    abbrev s : ℕ
+    s = f .supply .holder
+
+    abbrev b : Booked t (l ++ sp) (f .reading .day) g r after
+    b = booked-effect t l n g r h (name f) sp j k cal
+
+    room : after .count + cond (startsOn t after) 0 1 ≤ 24
+    room =
+        let c : after .count ≡ countMarks (g .cells)
+        = sym (length-listed after) ∙ ap length (b .told) ∙ tally-length (volume (l ++ sp)) (g .cells) 0 in
+        let m : startsOn t after ≡ isMarked (g .cells)
+        = starts-listed t after (b .sized) ∙ ap (beganOn t) (b .told) ∙ began (volume (l ++ sp)) t (g .cells) (h .live) in
+        rw (c, m) (omega (arith, k .fit))
+
+    names : listed (named t s after) ≡ begin t s (listed after)
+    names = named-listed t s after (b .sized) room
+
+    first-period : (q : List Period) → q ≡ [] → (x : ℕ) → oldest (begin t s q) x ≡ t
+    unfolding oldest
+    first-period q z x = rw z
+
+    since : (y : Bool) → g .fields .enrolled ≡ y → Names t y f j → Since (n ++ j) (listed (named t s after)) (f .reading .day)
+    since true y m =
+        let o = h .born .inside y in
+        record {
+          enrolment = o .enrolment;
+          one = ap (λ (x : List ℕ). n ++ x) (m .1) ∙ append-nil n ∙ o .one;
+          start = λ x. ap (λ (q : List Period). oldest q x) names ∙ oldest-begin t s (listed after) x ∙ b .start t ∙ o .start t;
+          read = le-trans (o .read) (k .lo);
+        }
+    since false z m =
+        record {
+          enrolment = t;
+          one = ap (λ (x : List ℕ). n ++ x) (m .1) ∙ ap (λ (x : List ℕ). x ++ (t ∷ [])) (h .born .outside z .0);
+          start = λ x. ap (λ (q : List Period). oldest q x) names ∙ first-period (listed after) (b .none z) x;
+          read = omega (arith, m .2);
+        }
+
+    names-enrolled : (y : Bool) → Names t y f j → f .enrolled ≡ true
+    names-enrolled true m = m .0
+    names-enrolled false m = m .0
+
+    told-name : Told t (l ++ sp) (n ++ j) (written (name f) (g .cells)) (entered t (name f) after)
+    told-name =
+        record {
+          same = refl;
+          sized = named-sized t s after (b .sized) room;
+          live = live-overwritten t s (g .cells) (h .live);
+          told = names ∙ ap (begin t s) (b .told) ∙ begin-tally (volume (l ++ sp)) t s (g .cells) (b .still t (k .hi)) (h .live);
+          still = b .still;
+          sum = ap sumVolumes names ∙ sum-begin t s (listed after) ∙ b .sum;
+          most = b .most;
+          held = held-overwritten s (g .fields .supply .holder) (g .cells) (h .held);
+          born = record {
+            outside = λ z. absurd (true≢false (sym (names-enrolled (g .fields .enrolled) (k .enrols)) ∙ z));
+            inside = λ z. since (g .fields .enrolled) refl (k .enrols);
+          };
+        }
+
+-- An effect on both sides: the page is written, the readings are booked and the effect is entered.
+pub effect-tied : (t : ℕ) (l : List Span) (n : List ℕ) (g : Page) (r : Point) → Told t l n g r → (e : Effect) (sp : List Span) (j : List ℕ)
+    → Good t (look g) e sp j → t ≤ lastDay → Tied t (l ++ sp) (n ++ j) (written e (g .cells)) (entered t e (bookedAll sp (r .history)))
+effect-tied t l n g r h (keep f) sp j k cal =
+    record { point = told-keep t l n g r h f sp j cal k; fine = fine-after t l n g r h (keep f) sp j k cal }
+effect-tied t l n g r h (name f) sp j k cal =
+    record { point = told-name t l n g r h f sp j cal k; fine = fine-after t l n g r h (name f) sp j k cal }

@@ -1,0 +1,171 @@
+-- Document 01, "The day book": the reference machine. Definitions only.
+--
+-- Cell     a point's gas day: its holder and its start mark
+-- Page     a point: its fields, and its cells, today's first and the first day's last
+-- Book     the register's day, who is under contract, and the page of each point
+-- newDay   one point on a new gas day; `goOn`: all points, n days one at a time
+-- says     the answer to a call; `next`: the book after it
+-- answers  the answers to a list of calls; `after`: the book after it
+-- readings, enrolments   what the list's accepted calls say of a point, worked out from the list
+use mathlib.Core.Bool.{Bool, true, false, cond}
+use mathlib.Core.List.{List, [], _∷_, _++_}
+use Prim.Native.Nat.{ℕ, zero, suc, _-_}
+use lib.Dec.{eqb}
+use lib.ListN.{set}
+use Rattle.rules.specs.declared.Fields.{Fields}
+use Rattle.rules.specs.declared.Settings.{Settings}
+use Rattle.rules.specs.declared.Span.{Span}
+use Rattle.rules.specs.declared.Opening.{Opening}
+use Rattle.rules.specs.declared.Call.{Call}
+use Rattle.rules.specs.declared.Action.{Action}
+use Rattle.rules.specs.declared.Action.the-variants.{SignContract, Failure, At, Day}
+use Rattle.rules.specs.declared.PointAction.{PointAction}
+use Rattle.rules.specs.declared.PointAction.the-variants.{
+  Enrol,
+  IntoService,
+  DefaultSupply,
+  AskSwitch,
+  Cancel,
+  Read,
+  ChangeMeter,
+  OutOfService,
+  Suspend,
+}
+use Rattle.rules.specs.declared.Answer.{Answer}
+use Rattle.rules.specs.Fields.{blank}
+use Rattle.rules.specs.Effects.{Effect, keep, name, event, effect}
+use Rattle.rules.specs.Volumes.{spans}
+use Rattle.rules.specs.Answers.{isAccepted}
+use Rattle.rules.specs.Rejections.{View, answer}
+use Rattle.rules.specs.Opening.{settingsOf, firstContracts}
+
+-- "one cell for each point and gas day: a holder and a start mark"
+pub data Cell : Type 0 where
+  cell : ℕ → ℕ → Bool → Cell
+
+-- "It has the fields above except periods"
+pub record Page : Type 0 where
+  pub fields : Fields
+  pub cells : List Cell
+
+pub record Book : Type 0 where
+  pub settings : Settings
+  pub day : ℕ
+  pub contracts : List Bool
+  pub page : ℕ → Page
+
+-- "that day's cell is overwritten with it and marked"
+abbrev pub overwritten : ℕ → List Cell → List Cell
+overwritten h [] = []
+overwritten h (cell d k m ∷ cs) = cell d h true ∷ cs
+
+-- "Wherever an event or an accepted call names a holder, even the present one"
+abbrev pub written : Effect → List Cell → Page
+written (keep f) cs = record { fields = f; cells = cs }
+written (name f) cs = record { fields = f; cells = overwritten (f .supply .holder) cs }
+
+-- "On each new day the cell takes the holder, unmarked; then, per point:" the event of the day.
+unfoldable pub newDay : Settings → ℕ → Page → Page
+newDay S t g = written (event S t (g .fields)) (cell t (g .fields .supply .holder) false ∷ g .cells)
+
+-- "It goes one day at a time to the day of the call."
+unfoldable pub goOn : ℕ → Book → Book
+goOn zero b = b
+goOn (suc n) b =
+    goOn n
+    (record {
+      settings = b .settings;
+      day = suc (b .day);
+      contracts = b .contracts;
+      page = λ p. newDay (b .settings) (suc (b .day)) (b .page p);
+    })
+
+abbrev pub upToDay : ℕ → Book → Book
+upToDay t b = goOn (t - b .day) b
+
+abbrev pub countMarks : List Cell → ℕ
+countMarks [] = 0
+countMarks (cell d h true ∷ cs) = suc (countMarks cs)
+countMarks (cell d h false ∷ cs) = countMarks cs
+
+abbrev pub isMarked : List Cell → Bool
+isMarked [] = false
+isMarked (cell d h m ∷ cs) = m
+
+abbrev pub look : Page → View
+look g = record { fields = g .fields; marks = countMarks (g .cells); marked = isMarked (g .cells) }
+
+-- "Checks look at the state brought up to today"
+unfoldable pub says : Book → Call → Answer
+says b c = answer (b .settings) (b .day) (b .contracts) c (λ p. look (upToDay (c .today) b .page p))
+
+-- 1: "s is under contract"; 2: "s loses its contract"
+abbrev pub signed : Action → List Bool → List Bool
+signed (SignContract s) u = set u s true
+signed (Failure s) u = set u s false
+signed (At p a) u = u
+signed Day u = u
+
+-- "Then the call."
+abbrev pub entered : Call → Book → Book
+entered c b =
+    record {
+      settings = b .settings;
+      day = b .day;
+      contracts = signed (c .action) (b .contracts);
+      page = λ p. written (effect (b .settings) (c .today) (c .action) p (b .page p .fields)) (b .page p .cells);
+    }
+
+-- "a refused call changes nothing, the register's day included"
+unfoldable pub next : Book → Call → Book
+next b c = cond (isAccepted (says b c)) (entered c (upToDay (c .today) b)) b
+
+unfoldable pub answers : Book → List Call → List Answer
+answers b [] = []
+answers b (c ∷ cs) = says b c ∷ answers (next b c) cs
+
+unfoldable pub after : Book → List Call → Book
+after b [] = b
+after b (c ∷ cs) = after (next b c) cs
+
+-- "It starts from an accepted opening, with no point enrolled and no cell marked"
+unfoldable pub opened : Opening → Book
+opened o =
+    record {
+      settings = settingsOf o;
+      day = o .day;
+      contracts = firstContracts (settingsOf o);
+      page = λ p. record { fields = blank; cells = cell (o .day) 0 false ∷ [] };
+    }
+
+-- The readings of point p that the list's accepted calls make, in their order.
+unfoldable pub readings : Book → List Call → ℕ → List Span
+readings b [] p = []
+readings b (c ∷ cs) p =
+    cond (isAccepted (says b c)) (spans (c .today) (c .action) p (upToDay (c .today) b .page p .fields)) []
+    ++ readings (next b c) cs p
+
+-- "A point's enrolment is the day of its accepted call 3."
+unfoldable pub enrolsAt : PointAction → Bool
+enrolsAt (Enrol b a x) = true
+enrolsAt (IntoService s k) = false
+enrolsAt (DefaultSupply k) = false
+enrolsAt (AskSwitch s k r) = false
+enrolsAt (Cancel s) = false
+enrolsAt (Read d x z) = false
+enrolsAt (ChangeMeter x z b a y) = false
+enrolsAt OutOfService = false
+enrolsAt (Suspend m) = false
+
+unfoldable pub enrols : Action → ℕ → Bool
+enrols (SignContract s) p = false
+enrols (Failure s) p = false
+enrols (At q a) p = cond (eqb p q) (enrolsAt a) false
+enrols Day p = false
+
+-- The days of the accepted enrolments of point p.
+unfoldable pub enrolments : Book → List Call → ℕ → List ℕ
+enrolments b [] p = []
+enrolments b (c ∷ cs) p =
+    cond (isAccepted (says b c)) (cond (enrols (c .action) p) (c .today ∷ []) []) []
+    ++ enrolments (next b c) cs p

@@ -1,0 +1,14 @@
+pub mod Fields
+pub mod Effects
+pub mod Volumes
+pub mod Answers
+pub mod Rejections
+pub mod Opening
+pub mod Register
+pub mod Questions
+pub mod DayBook
+pub mod Demand3
+pub mod Scenes
+pub mod Examples
+pub mod RowExamples
+pub mod Seen

@@ -1,0 +1,191 @@
+-- Document 01, "What the register holds" and the twelve calls, as the register does them: periods in slots, caught up from event to event.
+-- Total for every value of the types: a count past 24 counts as 24, a volume wraps at 2^64; on every register that calls reach neither
+-- happens (Demand3). Slots beyond the count keep what they hold. Definitions only.
+--
+-- named     a holder is named on a day: a new period, or the newest replaced where it starts on that day
+-- catchUp   a point brought up to a day by the events that fell due
+-- booked    a reading booked over the periods
+-- view      what the checks see
+-- applied   a call: its answer and the whole register after it
+use mathlib.Core.Bool.{Bool, true, false, cond, not, _&&_}
+use mathlib.Core.List.{List, [], _∷_, map}
+use Prim.Native.Nat.{ℕ, zero, suc, _+_, _-_, _*_, _%_, _^_, min}
+use lib.Dec.{eqb, leb, ltb}
+use lib.ListN.{getD, set, replicate}
+use Rattle.rules.specs.declared.Period.{Period}
+use Rattle.rules.specs.declared.History.{History}
+use Rattle.rules.specs.declared.Point.{Point}
+use Rattle.rules.specs.declared.Register.{Register}
+use Rattle.rules.specs.declared.Settings.{Settings}
+use Rattle.rules.specs.declared.Supply.{Supply}
+use Rattle.rules.specs.declared.SupplyKind.{SupplyKind}
+use Rattle.rules.specs.declared.SupplyKind.the-variants.{None, Contract, Default, LastResort}
+use Rattle.rules.specs.declared.Pending.{Pending}
+use Rattle.rules.specs.declared.Pending.the-variants as pending
+use Rattle.rules.specs.declared.Due.{Due}
+use Rattle.rules.specs.declared.Due.the-variants as event
+use Rattle.rules.specs.declared.Span.{Span}
+use Rattle.rules.specs.declared.Opening.{Opening}
+use Rattle.rules.specs.declared.Call.{Call}
+use Rattle.rules.specs.declared.Action.{Action}
+use Rattle.rules.specs.declared.Action.the-variants.{SignContract, Failure, At, Day}
+use Rattle.rules.specs.declared.PointAction.{PointAction}
+use Rattle.rules.specs.declared.Answer.{Answer}
+use Rattle.rules.specs.declared.Outcome.{Outcome}
+use Rattle.rules.specs.Fields.{supply, withSupply, blank}
+use Rattle.rules.specs.Effects.{Effect, keep, name, effectOf, failed}
+use Rattle.rules.specs.Volumes.{upTo, spansOf}
+use Rattle.rules.specs.Answers.{isAccepted}
+use Rattle.rules.specs.Rejections.{View, answer}
+use Rattle.rules.specs.Opening.{settingsOf, firstContracts}
+
+-- "It also keeps up to 24 periods, each a start day, a holder and a booked volume."
+abbrev pub period : ℕ → ℕ → ℕ → Period
+period d h v = record { start = d; holder = h; volume = v }
+
+abbrev pub history : ℕ → List Period → History
+history n ps = record { count = n; periods = ps }
+
+abbrev pub noPeriod : Period
+noPeriod = period 0 0 0
+
+abbrev pub used : History → ℕ
+used h = min (h .count) 24
+
+abbrev pub newest : History → Period
+newest h = getD (h .periods) (used h - 1) noPeriod
+
+unfoldable pub startsOn : ℕ → History → Bool
+startsOn d h = ltb 0 (used h) && eqb (newest h .start) d
+
+unfoldable pub replaced : ℕ → ℕ → History → History
+replaced d s h = history (h .count) (set (h .periods) (used h - 1) (period d s (newest h .volume)))
+
+unfoldable pub appended : ℕ → ℕ → History → History
+appended d s h = cond (ltb (used h) 24) (history (used h + 1) (set (h .periods) (used h) (period d s 0))) h
+
+-- "A second holder on one day therefore replaces the first."
+unfoldable pub named : ℕ → ℕ → History → History
+named d s h = cond (startsOn d h) (replaced d s h) (appended d s h)
+
+abbrev pub entered : ℕ → Effect → History → Point
+entered d (keep f) h = record { fields = f; history = h }
+entered d (name f) h = record { fields = f; history = named d (f .supply .holder) h }
+
+-- What ends a supply kind by day t.
+unfoldable pub expiryBy : Settings → ℕ → SupplyKind → Due
+expiryBy S t None = event.Nothing
+expiryBy S t Contract = event.Nothing
+expiryBy S t (Default d) = cond (leb d t) (event.Fallback d (S .resort) (LastResort (d + S .b))) event.Nothing
+expiryBy S t (LastResort d) = cond (leb d t) (event.End d 0 None) event.Nothing
+
+-- A supply kind ends before day e.
+unfoldable pub endsBefore : SupplyKind → ℕ → Bool
+endsBefore None e = false
+endsBefore Contract e = false
+endsBefore (Default d) e = ltb d e
+endsBefore (LastResort d) e = ltb d e
+
+-- What falls due first by day t; a request and a deadline on one day: the request.
+unfoldable pub dueBy : Settings → ℕ → SupplyKind → Pending → Due
+dueBy S t k pending.Nothing = expiryBy S t k
+dueBy S t k (pending.Request s e) =
+    cond (leb e t && not (endsBefore k e)) (event.Switch e s Contract) (expiryBy S t k)
+
+unfoldable pub happened : Due → Point → Point
+happened event.Nothing g = g
+happened (event.Switch d h k) g = entered d (name (withSupply (g .fields) (supply h k pending.Nothing))) (g .history)
+happened (event.Fallback d h k) g =
+    entered d (name (withSupply (g .fields) (supply h k (g .fields .supply .pending)))) (g .history)
+happened (event.End d h k) g = entered d (name (withSupply (g .fields) (supply h k pending.Nothing))) (g .history)
+
+unfoldable pub nextEvent : Settings → ℕ → Point → Point
+nextEvent S t g = happened (dueBy S t (g .fields .supply .kind) (g .fields .supply .pending)) g
+
+-- A switch and the end of last resort leave nothing due, and default supply goes over to last resort: two events at the most.
+unfoldable pub catchUp : Settings → ℕ → Point → Point
+catchUp S t g = nextEvent S t (nextEvent S t g)
+
+-- What a reading gives to the days before day d: floor(V × k / D) at the days of the reading that lie before d.
+unfoldable pub sharesBefore : Span → ℕ → ℕ
+sharesBefore s d = upTo s (min (d - s .from) (s .to - s .from))
+
+-- A period that ends before day e gets the difference of two floors, times U.
+unfoldable pub bookedPeriod : Span → ℕ → Period → Period
+bookedPeriod s e q =
+    period (q .start) (q .holder) ((q .volume + (sharesBefore s e - sharesBefore s (q .start)) * s .unit) % 2 ^ 64)
+
+-- The first n slots, the newest first; done with the period that holds the reading's first day. e is where the n-th ends.
+unfoldable pub bookedSlots : Span → ℕ → ℕ → List Period → List Period
+bookedSlots s e zero ps = ps
+bookedSlots s e (suc n) ps =
+    cond (leb (getD ps n noPeriod .start) (s .from))
+    (set ps n (bookedPeriod s e (getD ps n noPeriod)))
+    (bookedSlots s (getD ps n noPeriod .start) n (set ps n (bookedPeriod s e (getD ps n noPeriod))))
+
+unfoldable pub booked : Span → History → History
+booked s h = history (h .count) (bookedSlots s (s .to) (used h) (h .periods))
+
+abbrev pub bookedAll : List Span → History → History
+bookedAll [] h = h
+bookedAll (s ∷ l) h = bookedAll l (booked s h)
+
+abbrev pub view : ℕ → Point → View
+view t g = record { fields = g .fields; marks = used (g .history); marked = startsOn t (g .history) }
+
+abbrev pub blankPoint : Point
+blankPoint = record { fields = blank; history = history 0 (replicate 24 noPeriod) }
+
+abbrev pub register : Settings → ℕ → List Bool → List Point → Register
+register S d u ps = record { settings = S; day = d; contracts = u; points = ps }
+
+abbrev pub pointAt : ℕ → List Point → Point
+pointAt p ps = getD ps (p - 1) blankPoint
+
+-- The register brought up to day t.
+unfoldable pub advanced : ℕ → Register → Register
+advanced t r =
+    cond (eqb (r .day) t) r (register (r .settings) t (r .contracts) (map (catchUp (r .settings) t) (r .points)))
+
+unfoldable pub says : Register → Call → Answer
+says r c =
+    answer (r .settings) (r .day) (r .contracts) c (λ p. view (c .today) (pointAt p (advanced (c .today) r .points)))
+
+-- A call that names a point, there: readings are booked, then the effect.
+unfoldable pub acted : Settings → ℕ → PointAction → Point → Point
+acted S t a g = entered t (effectOf S t a (g .fields)) (bookedAll (spansOf t a (g .fields)) (g .history))
+
+-- A failure, at any point.
+unfoldable pub failedPoint : Settings → ℕ → ℕ → Point → Point
+failedPoint S t s g = entered t (failed S t s (g .fields)) (g .history)
+
+-- An accepted call on a register that has been brought up to today.
+unfoldable pub done : ℕ → Action → Register → Register
+done t (SignContract s) r = register (r .settings) (r .day) (set (r .contracts) s true) (r .points)
+done t (Failure s) r =
+    register (r .settings) (r .day) (set (r .contracts) s false) (map (failedPoint (r .settings) t s) (r .points))
+done t (At p a) r =
+    register (r .settings) (r .day) (r .contracts)
+    (set (r .points) (p - 1) (acted (r .settings) t a (pointAt p (r .points))))
+done t Day r = r
+
+abbrev pub outcome : Answer → Register → Outcome
+outcome a r = record { answer = a; register = r }
+
+-- "a refused call changes nothing, the register's day included"
+unfoldable pub applied : Register → Call → Outcome
+applied r c =
+    outcome (says r c) (cond (isAccepted (says r c)) (done (c .today) (c .action) (advanced (c .today) r)) r)
+
+-- The answers to a list of calls, and the register after it.
+unfoldable pub answers : Register → List Call → List Answer
+answers r [] = []
+answers r (c ∷ cs) = applied r c .answer ∷ answers (applied r c .register) cs
+
+unfoldable pub after : Register → List Call → Register
+after r [] = r
+after r (c ∷ cs) = after (applied r c .register) cs
+
+-- A newly opened register: "the register's day (at first the first day)", no point enrolled.
+unfoldable pub opened : Opening → Register
+opened o = register (settingsOf o) (o .day) (firstContracts (settingsOf o)) (replicate 32 blankPoint)

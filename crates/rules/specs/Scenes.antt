@@ -1,0 +1,76 @@
+-- The form of the examples: small lists of calls, each with its answer beside it, and what the register and the day
+-- book show after them. Definitions only.
+--
+-- Line     a call and the answer that it gets
+-- Plays    both machines give these answers
+-- Shows    a point's periods and total after the list, in both machines
+-- Keeps    a point's fields after the list, in both machines
+-- IsOn     the register's day after the list, in both machines
+use mathlib.Core.Path.{_≡_}
+use mathlib.Core.Bool.{Bool}
+use mathlib.Core.List.{List, [], _∷_, map}
+use Prim.Native.Nat.{ℕ}
+use Rattle.rules.specs.declared.Period.{Period}
+use Rattle.rules.specs.declared.Fields.{Fields}
+use Rattle.rules.specs.declared.Opening.{Opening}
+use Rattle.rules.specs.declared.Call.{Call}
+use Rattle.rules.specs.declared.Action.{Action}
+use Rattle.rules.specs.declared.Answer.{Answer}
+use Rattle.rules.specs.declared.AdvanceAnswer.the-variants.{Volume}
+use Rattle.rules.specs.Volumes.{volume, registered}
+use Rattle.rules.specs.Register
+use Rattle.rules.specs.Register.{pointAt}
+use Rattle.rules.specs.Questions.{advanceAnswer}
+use Rattle.rules.specs.DayBook
+use Rattle.rules.specs.DayBook.{Cell}
+use Rattle.rules.specs.Demand3.{periodsOf, markedDays, holderOn, dailySums, book, register}
+
+-- First day, W, A, B, the default and the last-resort supplier: the fields of a line `set`, in its order.
+abbrev pub opening : ℕ → ℕ → ℕ → ℕ → ℕ → ℕ → Opening
+opening d w a b s l = record { day = d; w = w; a = a; b = b; default = s; resort = l }
+
+abbrev pub on : ℕ → Action → Call
+on t a = record { today = t; action = a }
+
+infix 70 _gives_
+pub data Line : Type 0 where
+  _gives_ : Call → Answer → Line
+
+abbrev pub calls : List Line → List Call
+calls [] = []
+calls ((c gives a) ∷ ls) = c ∷ calls ls
+
+abbrev pub said : List Line → List Answer
+said [] = []
+said ((c gives a) ∷ ls) = a ∷ said ls
+
+abbrev startsIn : List Period → List ℕ
+startsIn ps = map (λ (q : Period). q .start) ps
+
+abbrev holdersOn : List ℕ → List Cell → List ℕ
+holdersOn ds cs = map (λ (d : ℕ). holderOn d cs) ds
+
+module _ (o : Opening) (ls : List Line) where
+  pub record Plays : Type 0 where
+    pub by-register : Register.answers (Register.opened o) (calls ls) ≡ said ls
+    pub by-book : DayBook.answers (DayBook.opened o) (calls ls) ≡ said ls
+
+  pub record IsOn (d : ℕ) : Type 0 where
+    pub by-register : register o (calls ls) .day ≡ d
+    pub by-book : book o (calls ls) .day ≡ d
+
+  pub record Keeps (p : ℕ) (f : Fields) : Type 0 where
+    pub by-register : pointAt p (register o (calls ls) .points) .fields ≡ f
+    pub by-book : book o (calls ls) .page p .fields ≡ f
+
+  -- The closing lines: a point's periods and its total. Of the book: the marked days, their holders, and the sums of
+  -- the days' volumes that the list's readings give.
+  pub record Shows (p : ℕ) (ps : List Period) (v : ℕ) : Type 0 where
+    pub periods : periodsOf (pointAt p (register o (calls ls) .points)) ≡ ps
+    pub advance : advanceAnswer (register o (calls ls)) p ≡ Volume v
+    pub starts : markedDays (book o (calls ls) .page p .cells) [] ≡ startsIn ps
+    pub holders : holdersOn (startsIn ps) (book o (calls ls) .page p .cells) ≡ map (λ (q : Period). q .holder) ps
+    pub volumes :
+        dailySums (volume (DayBook.readings (DayBook.opened o) (calls ls) p)) (book o (calls ls) .day) (startsIn ps)
+        ≡ map (λ (q : Period). q .volume) ps
+    pub total : registered (DayBook.readings (DayBook.opened o) (calls ls) p) ≡ v

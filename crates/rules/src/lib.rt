@@ -1,0 +1,203 @@
+// The register's types. Every value of them is allowed everywhere: the definitions in specs/ are total.
+// Days are gas days, 0 is 1 January 2000; holder 0 is the operator's account; volumes are thousandths of a cubic metre.
+
+// A supplier period: it starts on a day and runs to the next period's start.
+pub struct Period {
+    pub start: u32,
+    pub holder: u8,
+    pub volume: u64,
+}
+
+// A point's periods, the oldest first, in the first count slots.
+pub struct History {
+    pub count: usize,
+    pub periods: [Period; 24],
+}
+
+// How a point is supplied; default and last-resort supply end on a deadline, the first day of what comes after.
+pub enum SupplyKind {
+    None,
+    Contract,
+    Default(u32),
+    LastResort(u32),
+}
+
+// The pending request of a point: supplier and effective day.
+pub enum Pending {
+    Nothing,
+    Request(u8, u32),
+}
+
+// What events change of a point.
+pub struct Supply {
+    pub holder: u8,
+    pub kind: SupplyKind,
+    pub pending: Pending,
+}
+
+// A meter: its wheels before and after the comma.
+pub struct Meter {
+    pub before: u8,
+    pub after: u8,
+}
+
+// A reading: its day, and the index in units of the last wheel.
+pub struct Reading {
+    pub day: u32,
+    pub index: u64,
+}
+
+// What the register and the day book keep of a point alike.
+pub struct Fields {
+    pub enrolled: bool,
+    pub supply: Supply,
+    pub key: u32,
+    pub mark: u8,
+    pub meter: Meter,
+    pub reading: Reading,
+}
+
+pub struct Point {
+    pub fields: Fields,
+    pub history: History,
+}
+
+// W working days to cancel, A and B days of default and of last-resort supply, and the two suppliers.
+pub struct Settings {
+    pub w: u8,
+    pub a: u16,
+    pub b: u16,
+    pub default: u8,
+    pub resort: u8,
+}
+
+// contracts[s] says that supplier s is under contract; points[p - 1] is point p.
+pub struct Register {
+    pub settings: Settings,
+    pub day: u32,
+    pub contracts: [bool; 100],
+    pub points: [Point; 32],
+}
+
+// An opening, with any numbers.
+pub struct Opening {
+    pub day: u64,
+    pub w: u64,
+    pub a: u64,
+    pub b: u64,
+    pub default: u64,
+    pub resort: u64,
+}
+
+// One of the twelve calls with its day, today, and any numbers. Nine of them name a point.
+pub struct Call {
+    pub today: u64,
+    pub action: Action,
+}
+
+pub enum Action {
+    SignContract { supplier: u64 },
+    Failure { supplier: u64 },
+    At { point: u64, act: PointAction },
+    Day,
+}
+
+pub enum PointAction {
+    Enrol {
+        before: u64,
+        after: u64,
+        index: u64,
+    },
+    IntoService {
+        supplier: u64,
+        key: u64,
+    },
+    DefaultSupply {
+        key: u64,
+    },
+    AskSwitch {
+        supplier: u64,
+        key: u64,
+        day: u64,
+    },
+    Cancel {
+        supplier: u64,
+    },
+    Read {
+        day: u64,
+        index: u64,
+        zero: u64,
+    },
+    ChangeMeter {
+        index: u64,
+        zero: u64,
+        before: u64,
+        after: u64,
+        fresh: u64,
+    },
+    OutOfService,
+    Suspend {
+        mark: u64,
+    },
+}
+
+// The answer to a call: accepted, accepted with its effective day, refused with a number, or refused with number 8 and the deadline.
+pub enum Answer {
+    Accepted,
+    AcceptedOn(u32),
+    Refused(u8),
+    RefusedUntil(u32),
+}
+
+// The answer, and the whole register after the call.
+pub struct Outcome {
+    pub answer: Answer,
+    pub register: Register,
+}
+
+// What falls due first at a point by a day: the day, and the holder and kind that it brings.
+pub enum Due {
+    Nothing,
+    // The pending request takes effect.
+    Switch {
+        day: u32,
+        holder: u8,
+        kind: SupplyKind,
+    },
+    // Default supply goes over to last resort; a pending request stays.
+    Fallback {
+        day: u32,
+        holder: u8,
+        kind: SupplyKind,
+    },
+    // Last resort ends; a pending request is dropped.
+    End {
+        day: u32,
+        holder: u8,
+        kind: SupplyKind,
+    },
+}
+
+// What a reading books: an advance of the wheels from one day to a later one, and the volume of one unit.
+pub struct Span {
+    pub from: u32,
+    pub to: u32,
+    pub advance: u64,
+    pub unit: u64,
+}
+
+// The answers to questions; a question off its range is refused.
+pub enum HolderAnswer {
+    Holder(u8),
+    OffRange,
+}
+
+pub enum PeriodAnswer {
+    Of(Period),
+    OffRange,
+}
+
+pub enum AdvanceAnswer {
+    Volume(u64),
+    OffRange,
+}

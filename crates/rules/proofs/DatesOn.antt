@@ -1,77 +1,59 @@
--- The date of a day counted on from that of an earlier day, so that examples at late days need not count from the
--- first.
-use mathlib.Core.Path.{_≡_, refl, ap, _∙_}
-use Prim.Native.Nat.{ℕ, zero, suc, _+_}
-use native.Mathlib.Numerals.{unary-clauses}
-use Rattle.dates.specs.declared.Date.{Date}
-use Rattle.dates.specs.Dates.{date, next, dateOf}
+-- Three months after, and working days between, at days that lie far from the first: from their dates, since days and dates are one to one.
+-- No day is counted up to.
+use mathlib.Core.Path.{_≡_, refl}
+use Prim.Native.Nat.{ℕ}
+use Rattle.dates.specs.declared.DayAnswer.the-variants.{Day}
+use Rattle.dates.specs.Dates.{date, dateOf}
+use Rattle.dates.specs.Numbers.{dayAnswer}
 use Rattle.dates.specs.Months.{threeMonthsAfter}
+use Rattle.dates.proofs.OneToOne.{one-to-one}
 use Rattle.holidays.specs.Working.{workingBetween}
 use Rattle.rules.proofs.Computes.{calendar, workingDays}
 
-daysOn : ℕ → Date → Date
-daysOn zero x = x
-daysOn (suc k) x = next (daysOn k x)
-
-dates-on : (n k : ℕ) → dateOf (n + k) ≡ daysOn k (dateOf n)
-unfolding dateOf daysOn
-dates-on n zero = simp unary-clauses
-dates-on n (suc k) = simp unary-clauses (ap next (dates-on n k))
-
-may-3-2021 : dateOf 7793 ≡ date 2021 5 3
-unfolding calendar dateOf
-may-3-2021 = refl
-
-after-may-3 : (k : ℕ) → dateOf (7793 + k) ≡ daysOn k (date 2021 5 3)
-after-may-3 k = dates-on 7793 k ∙ ap (daysOn k) may-3-2021
+date-of : (y m d n : ℕ) → dayAnswer y m d ≡ Day n → dateOf n ≡ date y m d
+date-of y m d n e = one-to-one .day-has-date y m d n e .1
 
 pub three-months-after-may-3 : threeMonthsAfter 7793 ≡ 7885
 unfolding calendar
-three-months-after-may-3 = rw may-3-2021
+three-months-after-may-3 = rw (date-of 2021 5 3 7793 refl)
 
 pub three-months-after-june-1 : threeMonthsAfter 7822 ≡ 7914
-unfolding calendar daysOn
-three-months-after-june-1 = rw (after-may-3 29)
-
-pub three-months-after-8008 : threeMonthsAfter 8008 ≡ 8098
-unfolding calendar daysOn
-three-months-after-8008 = rw (after-may-3 215)
-
-pub three-months-after-8009 : threeMonthsAfter 8009 ≡ 8099
-unfolding calendar daysOn
-three-months-after-8009 = rw (after-may-3 216)
+unfolding calendar
+three-months-after-june-1 = rw (date-of 2021 6 1 7822 refl)
 
 pub three-months-after-november-30 : threeMonthsAfter 8004 ≡ 8094
-unfolding calendar daysOn
-three-months-after-november-30 = rw (after-may-3 211)
+unfolding calendar
+three-months-after-november-30 = rw (date-of 2021 11 30 8004 refl)
+
+pub three-months-after-8008 : threeMonthsAfter 8008 ≡ 8098
+unfolding calendar
+three-months-after-8008 = rw (date-of 2021 12 4 8008 refl)
+
+pub three-months-after-8009 : threeMonthsAfter 8009 ≡ 8099
+unfolding calendar
+three-months-after-8009 = rw (date-of 2021 12 5 8009 refl)
 
 pub working-days-after-19-may : workingBetween 7809 7815 ≡ 2
-unfolding calendar workingDays daysOn
-working-days-after-19-may = rw (after-may-3 17, after-may-3 18, after-may-3 21)
+unfolding calendar workingDays
+working-days-after-19-may =
+    rw (date-of 2021 5 20 7810 refl, date-of 2021 5 21 7811 refl, date-of 2021 5 24 7814 refl)
 
 pub working-days-after-20-may : workingBetween 7810 7815 ≡ 1
-unfolding calendar workingDays daysOn
-working-days-after-20-may = rw (after-may-3 18, after-may-3 21)
-
-september-30-2199 : dateOf 72956 ≡ date 2199 9 30
-unfolding calendar dateOf
-september-30-2199 = refl
-
-after-september-30 : (k : ℕ) → dateOf (72956 + k) ≡ daysOn k (date 2199 9 30)
-after-september-30 k = dates-on 72956 k ∙ ap (daysOn k) september-30-2199
+unfolding calendar workingDays
+working-days-after-20-may = rw (date-of 2021 5 21 7811 refl, date-of 2021 5 24 7814 refl)
 
 pub three-months-after-september-30-2199 : threeMonthsAfter 72956 ≡ 73047
 unfolding calendar
-three-months-after-september-30-2199 = rw september-30-2199
+three-months-after-september-30-2199 = rw (date-of 2199 9 30 72956 refl)
 
 pub three-months-after-october-1-2199 : threeMonthsAfter 72957 ≡ 73048
-unfolding calendar daysOn
-three-months-after-october-1-2199 = rw (after-september-30 1)
+unfolding calendar
+three-months-after-october-1-2199 = rw (date-of 2199 10 1 72957 refl)
 
 pub three-months-after-december-10-2199 : threeMonthsAfter 73027 ≡ 73048
-unfolding calendar daysOn
-three-months-after-december-10-2199 = rw (after-september-30 71)
+unfolding calendar
+three-months-after-december-10-2199 = rw (date-of 2199 12 10 73027 refl)
 
 pub three-months-after-december-11-2199 : threeMonthsAfter 73028 ≡ 73048
-unfolding calendar daysOn
-three-months-after-december-11-2199 = rw (after-september-30 72)
+unfolding calendar
+three-months-after-december-11-2199 = rw (date-of 2199 12 11 73028 refl)

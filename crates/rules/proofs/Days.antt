@@ -16,7 +16,7 @@ use Rattle.rules.specs.declared.Settings.{Settings}
 use Rattle.rules.specs.declared.Span.{Span}
 use Rattle.rules.specs.Effects.{Effect, event}
 use Rattle.rules.specs.Volumes.{volume}
-use Rattle.rules.specs.Register.{catchUp, register, pointAt, blankPoint, advanced}
+use Rattle.rules.specs.Register.{catchUp, register, pointAt, noPoint, advanced}
 use Rattle.rules.specs.DayBook.{Cell, cell, Page, Book, newDay, goOn, upToDay, look}
 use Rattle.rules.proofs.Tally.{live-runs, dawn}
 use Rattle.rules.proofs.Jump.{Ahead, onDay, daily, daily-catchUp}
@@ -106,7 +106,7 @@ getD-map f (x ∷ l) zero d e h = refl
 getD-map f (x ∷ l) (suc k) d e h = getD-map f l k d e (omega arith)
 
 pub point-map : (f : Point → Point) (ps : List Point) (p : ℕ) → 1 ≤ p → p ≤ length ps → pointAt p (map f ps) ≡ f (pointAt p ps)
-point-map f ps p lo hi = getD-map f ps (p - 1) blankPoint blankPoint (omega arith)
+point-map f ps p lo hi = getD-map f ps (p - 1) noPoint noPoint (omega arith)
 
 -- The page and the point brought up to day t.
 module _ (b : Book) (r : Register) (same : b .settings ≡ r .settings) (days : b .day ≡ r .day) (B : 0 < b .settings .b) (t : ℕ)

@@ -174,9 +174,11 @@ reading-examples =
       reading-index = record { by-register = refl; by-book = refl };
       reading-lowest-number = record { by-register = refl; by-book = refl };
       change-day = record { by-register = refl; by-book = refl };
+      change-on-day-0 = record { by-register = refl; by-book = refl };
       change-index = record { by-register = refl; by-book = refl };
       read = record { by-register = refl; by-book = refl };
       changed = record { by-register = refl; by-book = refl };
+      read-suspended = record { by-register = refl; by-book = refl };
       past-zero =
           record { periods = refl; advance = refl; starts = refl; holders = refl; volumes = refl; total = refl };
       no-advance =
@@ -191,6 +193,10 @@ reading-examples =
       late-reading =
           record { periods = refl; advance = refl; starts = refl; holders = refl; volumes = refl; total = refl };
       own-day-not-booked =
+          record { periods = refl; advance = refl; starts = refl; holders = refl; volumes = refl; total = refl };
+      reading-before-the-newest-period =
+          record { periods = refl; advance = refl; starts = refl; holders = refl; volumes = refl; total = refl };
+      other-point-not-booked =
           record { periods = refl; advance = refl; starts = refl; holders = refl; volumes = refl; total = refl };
       two-readings =
           record { periods = refl; advance = refl; starts = refl; holders = refl; volumes = refl; total = refl };

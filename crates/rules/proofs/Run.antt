@@ -16,7 +16,7 @@ use Rattle.rules.specs.Volumes.{volume, registered}
 use Rattle.rules.specs.Answers.{isAccepted}
 use Rattle.rules.specs.Rejections.{openingAnswer}
 use Rattle.rules.specs.Register
-use Rattle.rules.specs.Register.{blankPoint, applied}
+use Rattle.rules.specs.Register.{blankPoint, noPoint, applied}
 use Rattle.rules.specs.DayBook
 use Rattle.rules.specs.DayBook.{Book}
 use Rattle.rules.proofs.Tally.{tally, sumVolumes}
@@ -44,7 +44,7 @@ opened-agree o ok =
       contracts = refl;
       count = refl;
       lasting = lasting o ok;
-      points = λ p lo hi. rw (getD-replicate 32 (p - 1) blankPoint blankPoint (omega arith)) (record {
+      points = λ p lo hi. rw (getD-replicate 32 (p - 1) blankPoint noPoint (omega arith)) (record {
         point = record {
           same = refl;
           sized = record { slots = refl; some = omega arith };

@@ -17,14 +17,14 @@ use Rattle.rules.specs.Fields.{withPending}
 use Rattle.rules.specs.Effects.{effectiveDay, effectOf}
 use Rattle.rules.specs.Volumes.{spansOf}
 use Rattle.rules.specs.Answers.{isAccepted}
-use Rattle.rules.specs.Register.{blankPoint, pointAt, advanced, says, acted, done, applied}
+use Rattle.rules.specs.Register.{noPoint, pointAt, advanced, says, acted, done, applied}
 use Rattle.rules.specs.Scenes.{on}
 use Rattle.rules.specs.Questions.{holderAnswer, periodAnswer, advanceAnswer}
 use Rattle.rules.specs.Seen.{notAsked, withoutPending, SameAnswers, PendingUnseen, RequestUnseen}
 
 -- The point that stands for none has no request already.
 point-unseen : (p : ℕ) (ps : List Point) → pointAt p (map notAsked ps) ≡ notAsked (pointAt p ps)
-point-unseen p ps = List·getD-map notAsked ps (p - 1) blankPoint
+point-unseen p ps = List·getD-map notAsked ps (p - 1) noPoint
 
 holder-unseen : (r : Register) (p d : ℕ) → holderAnswer (withoutPending r) p d ≡ holderAnswer r p d
 unfolding holderAnswer withoutPending
@@ -55,7 +55,7 @@ own-day r = rw (eq-eqb (r .day) (r .day) refl)
 stored-unseen : (p : ℕ) (q : Pending) (ps : List Point)
     → map notAsked (set ps (p - 1) (record { fields = withPending (pointAt p ps .fields) q; history = pointAt p ps .history }))
     ≡ map notAsked ps
-stored-unseen p q ps = map-set-same notAsked ps (p - 1) _ blankPoint refl
+stored-unseen p q ps = map-set-same notAsked ps (p - 1) _ noPoint refl
 
 request-done : (r : Register) (p s k d : ℕ) → withoutPending (done (r .day) (At p (AskSwitch s k d)) r) ≡ withoutPending r
 unfolding withoutPending done acted effectOf spansOf

@@ -57,7 +57,7 @@ use Rattle.rules.specs.Register.{
   view,
   register,
   pointAt,
-  blankPoint,
+  noPoint,
   advanced,
   acted,
   failedPoint,
@@ -123,10 +123,10 @@ module _ (r : Register) (count : length (r .points) ≡ 32) (t : ℕ) (u : List 
           (bookedAll (cond b (spansOf t a (pointAt p (r .points) .fields)) []) (pointAt p (r .points) .history))
       go true e =
           let w : p ≡ q = eqb-true p q e in
-          rw w (getD-set-same (r .points) (q - 1) new blankPoint (omega (arith, at .0, at .1)))
+          rw w (getD-set-same (r .points) (q - 1) new noPoint (omega (arith, at .0, at .1)))
       go false e =
           let w : p ≡ q → ⊥ = eqb-false p q e in
-          getD-set-other (r .points) (q - 1) (p - 1) new blankPoint (λ z. w (omega (arith, at .0, at .1)))
+          getD-set-other (r .points) (q - 1) (p - 1) new noPoint (λ z. w (omega (arith, at .0, at .1)))
   done-points Day ok p lo hi = refl
 
   done-rest : (c : Action) → (done t c r .settings ≡ r .settings) × (done t c r .day ≡ r .day) × (done t c r .contracts ≡ signed c (r .contracts))

@@ -139,8 +139,12 @@ blankPoint = record { fields = blank; history = history 0 (replicate 24 noPeriod
 abbrev pub register : Settings → ℕ → List Bool → List Point → Register
 register S d u ps = record { settings = S; day = d; contracts = u; points = ps }
 
+-- What stands where there is no point.
+abbrev pub noPoint : Point
+noPoint = record { fields = blank; history = history 0 [] }
+
 abbrev pub pointAt : ℕ → List Point → Point
-pointAt p ps = getD ps (p - 1) blankPoint
+pointAt p ps = getD ps (p - 1) noPoint
 
 -- The register brought up to day t.
 unfoldable pub advanced : ℕ → Register → Register

@@ -4,11 +4,18 @@ use mathlib.Core.List.{List, [], _∷_}
 use Rattle.rules.specs.declared.SupplyKind.the-variants.{Contract}
 use Rattle.rules.specs.declared.Pending.the-variants.{Nothing}
 use Rattle.rules.specs.declared.Action.the-variants.{At, Day}
-use Rattle.rules.specs.declared.PointAction.the-variants.{Enrol, IntoService, Read, ChangeMeter, OutOfService}
+use Rattle.rules.specs.declared.PointAction.the-variants.{
+  Enrol,
+  IntoService,
+  Read,
+  ChangeMeter,
+  OutOfService,
+  Suspend,
+}
 use Rattle.rules.specs.declared.Answer.the-variants.{Accepted, Refused}
 use Rattle.rules.specs.Fields.{supply, meter, reading, fields}
 use Rattle.rules.specs.Register.{period}
-use Rattle.rules.specs.Scenes.{_gives_, on}
+use Rattle.rules.specs.Scenes.{_gives_, opening, on, Plays}
 use Rattle.rules.specs.RowExamples.Scene.{Then, ThenKeeps, ThenShows}
 
 pub record ReadingExamples : Type 0 where
@@ -38,6 +45,10 @@ pub record ReadingExamples : Type 0 where
       on 10 (At 1 (ChangeMeter 1000 0 3 0 1000)) gives Refused 27 ∷
       on 11 (At 1 (ChangeMeter 995 0 3 0 0)) gives Accepted ∷
       on 11 (At 1 (ChangeMeter 0 0 3 0 0)) gives Refused 27 ∷ on 11 (At 1 (Read 11 0 0)) gives Refused 27 ∷ [])
+  -- 2 before 27, also on the calendar's first day
+  pub change-on-day-0 : Plays (opening 0 2 30 40 1 2)
+      (on 0 (At 1 (ChangeMeter 0 0 3 0 0)) gives Refused 2 ∷ on 0 (At 1 (Enrol 3 0 0)) gives Accepted ∷
+      on 0 (At 1 (ChangeMeter 0 0 3 0 0)) gives Refused 27 ∷ [])
   pub change-index : Then
       (on 11 (At 1 (ChangeMeter 1000 0 5 0 0)) gives Refused 28 ∷
       on 11 (At 1 (ChangeMeter 989 0 5 0 0)) gives Refused 28 ∷
@@ -51,6 +62,11 @@ pub record ReadingExamples : Type 0 where
       (fields true (supply 5 Contract Nothing) 77 0 (meter 3 0) (reading 12 995))
   pub changed : ThenKeeps (on 12 (At 1 (ChangeMeter 995 0 4 2 123)) gives Accepted ∷ []) 1
       (fields true (supply 5 Contract Nothing) 77 0 (meter 4 2) (reading 12 123))
+  -- and nothing else: the suspension mark stays
+  pub read-suspended : ThenKeeps
+      (on 11 (At 1 (Suspend 1)) gives Accepted ∷ on 12 (At 1 (Read 12 995 0)) gives Accepted ∷
+      on 14 (At 1 (ChangeMeter 996 0 4 2 123)) gives Accepted ∷ []) 1
+      (fields true (supply 5 Contract Nothing) 77 1 (meter 4 2) (reading 14 123))
   -- V = x2 − x1 + z × 10^w, times U: 10 − 990 + 1000 at U = 1000; a reading names no holder
   pub past-zero : ThenShows (on 20 (At 1 (Read 20 10 1)) gives Accepted ∷ []) 1 (period 10 5 20000 ∷ []) 20000
   pub no-advance : ThenShows (on 20 (At 1 (Read 20 990 0)) gives Accepted ∷ []) 1 (period 10 5 0 ∷ []) 0
@@ -76,6 +92,14 @@ pub record ReadingExamples : Type 0 where
   pub own-day-not-booked : ThenShows
       (on 12 (At 2 (IntoService 5 77)) gives Accepted ∷ on 12 (At 2 (Read 12 999 0)) gives Accepted ∷ []) 2
       (period 10 0 9000 ∷ period 12 5 0 ∷ []) 9000
+  -- a period that starts after the reading's day gets nothing of it, and the one before it no more than its days up to
+  -- there
+  pub reading-before-the-newest-period : ThenShows
+      (on 12 (At 2 (IntoService 5 77)) gives Accepted ∷ on 16 (At 2 OutOfService) gives Accepted ∷
+      on 30 (At 2 (Read 14 994 0)) gives Accepted ∷ []) 2
+      (period 10 0 2000 ∷ period 12 5 2000 ∷ period 16 0 0 ∷ []) 4000
+  -- another point's reading books nothing here
+  pub other-point-not-booked : ThenShows (on 20 (At 1 (Read 20 10 1)) gives Accepted ∷ []) 2 (period 10 0 0 ∷ []) 0
   -- the second reading is split like the first, also where a period holds days of both: 4 units, then 6, over holders
   -- 0, 5 and 0
   pub two-readings : ThenShows

@@ -45,9 +45,13 @@ pub record RequestExamples : Type 0 where
       (on 19 (At 3 (AskSwitch 6 77 19)) gives RefusedUntil 40 ∷ on 19 (At 3 (AskSwitch 6 77 60)) gives RefusedUntil 40 ∷
       on 18 (At 3 (AskSwitch 6 77 60)) gives AcceptedOn 60 ∷ [])
   pub default-on-its-last-day : Then (on 39 (At 3 (AskSwitch 6 77 39)) gives RefusedUntil 40 ∷ [])
-  -- on the deadline last resort has come, and it refuses no request; nor does contract supply
+  -- on the deadline last resort has come, and it refuses no request, not even where e is at or past its own end, day
+  -- 80; nor does contract supply
   pub not-under-last-resort : Then
-      (on 40 (At 3 (AskSwitch 6 77 40)) gives AcceptedOn 61 ∷ on 40 (At 1 (AskSwitch 6 77 40)) gives AcceptedOn 61 ∷ [])
+      (on 40 (At 3 (AskSwitch 6 77 40)) gives AcceptedOn 61 ∷ on 40 (At 3 (Cancel 6)) gives Accepted ∷
+      on 59 (At 3 (AskSwitch 6 77 59)) gives AcceptedOn 80 ∷ on 59 (At 3 (Cancel 6)) gives Accepted ∷
+      on 79 (At 3 (AskSwitch 6 77 79)) gives AcceptedOn 100 ∷
+      on 79 (At 1 (AskSwitch 6 77 79)) gives AcceptedOn 100 ∷ [])
   -- the lowest number: 1 before 2 before 3 before 4 before 5 before 7 before 8, and 4 before 6
   pub lowest-number : Then
       (on 11 (At 5 (AskSwitch 7 77 11)) gives Refused 1 ∷ on 11 (At 5 (AskSwitch 6 77 10)) gives Refused 2 ∷

@@ -1,0 +1,4 @@
+pub mod Starts
+pub mod Shares
+pub mod Booking
+pub mod Fairness

@@ -1,0 +1,4 @@
+pub mod Accepted
+pub mod Fairness
+pub mod Powers
+pub mod Tests

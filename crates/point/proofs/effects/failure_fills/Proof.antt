@@ -1,0 +1,49 @@
+-- Number 30 of a failure at one point: where the supplier holds it, where it has a request there, and elsewhere.
+use borrow.Author.Tests.{eq-eqb, ne-eqb}
+use Rattle.rules.specs.Effects.{failed}
+use Rattle.point.specs.Turn.{failureFills}
+use borrow.Author.Needs.{needs}
+use Rattle.point.proofs.effects.failure_fills.Statement.{statement}
+use Rattle.point.proofs.effects.failure_fills.Tie as tie
+use Rattle.point.proofs.effects.failure_fills.Reads as reads
+use Rattle.point.proofs.effects.failure_fills.Lts as lts
+use Rattle.point.proofs.checks.is_full_kept.Reads as is-full-kept-reads
+use Rattle.point.proofs.checks.is_full_named.Reads as is-full-named-reads
+use Rattle.point.proofs.effects.dropped.Reads as dropped-reads
+use Rattle.point.proofs.effects.is_by.Reads as is-by-reads
+
+dropped-requires : tie.Need-dropped-requires
+dropped-requires c κs = search needs
+
+is-full-named-requires : tie.Need-is-full-named-requires
+is-full-named-requires c κs = search needs
+
+returns : tie.Need-returns
+unfolding failureFills failed
+returns c = rw (eq-eqb _ _ (c .before .if1 .taken), ← (c .before .before .before .dropped .ensures)) (c .is-full-named .ensures)
+
+is-by-requires : tie.Need-is-by-requires
+is-by-requires c κs = search needs
+
+is-full-kept-requires : tie.Need-is-full-kept-requires
+is-full-kept-requires c κs = search needs
+
+returns-2 : tie.Need-returns-2
+unfolding failureFills failed
+returns-2 c = rw (ne-eqb _ _ (c .before .before .before .if1 .left), ← (c .before .before .is-by .ensures), c .before .if2 .taken, ← (c .before .before .before .before .before .dropped .ensures)) (c .is-full-kept .ensures)
+
+returns-3 : tie.Need-returns-3
+unfolding failureFills failed
+returns-3 c = rw (ne-eqb _ _ (c .before .before .if1 .left), ← (c .before .is-by .ensures), c .if2 .left)
+
+pub failure-fills-spec : {M : Type 1} → statement M
+failure-fills-spec =
+    tie.close
+    (tie.spec
+    dropped-requires
+    is-full-named-requires
+    returns
+    is-by-requires
+    is-full-kept-requires
+    returns-2
+    returns-3)

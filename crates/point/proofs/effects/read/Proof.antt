@@ -1,0 +1,35 @@
+use Prim.Native.Nat.{_≤_, _<_}
+use Rattle.dates.specs.Dates.{lastDay}
+use Rattle.rules.specs.declared.Span.{Span}
+use Rattle.rules.specs.Register.{booked}
+-- A reading is booked, and it becomes the last one.
+use mathlib.Core.Path.{_≡_, _∙_, ap, sym}
+use native.Mathlib.Omega.{arith}
+use Rattle.rules.specs.Volumes.{spanTo}
+use Rattle.point.proofs.Fairness.{fair-booked}
+use borrow.Author.Needs.{needs}
+use Rattle.point.proofs.effects.read.Statement.{statement}
+use Rattle.point.proofs.effects.read.Tie as tie
+use Rattle.point.proofs.effects.read.Reads as reads
+use Rattle.point.proofs.effects.read.Lts as lts
+use Rattle.periods.proofs.book.Reads as book-reads
+use Rattle.point.proofs.meter.span_to.Reads as span-to-reads
+
+span-to-requires : tie.Need-span-to-requires
+span-to-requires c κs = search needs
+
+book-requires : tie.Need-book-requires
+book-requires c κs = search needs
+
+returns : tie.Need-returns
+unfolding spanTo
+returns c = let e = c .before .before .span-to .ensures .0 in
+    let s = c .before .before .span-to .result in
+    let h = c .before .before .before .before .before .args .g .history in
+    let forward : s .from < s .to = rw e (c .before .before .before .before .before .pre .3) in
+    let within : s .to ≤ lastDay = rw e (c .before .before .before .before .before .pre .0) in
+    let books : c .book .result ≡ booked s h = c .book .ensures ∙ fair-booked s h forward within (c .before .before .span-to .ensures .1) (c .before .before .span-to .ensures .2) in
+    rw (books, e)
+
+pub read-spec : {M : Type 1} → statement M
+read-spec = tie.close (tie.spec span-to-requires book-requires returns)

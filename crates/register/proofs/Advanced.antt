@@ -1,0 +1,49 @@
+-- The register brought up to a day, and a point of it.
+use mathlib.Core.Path.{_≡_, refl, sym, _∙_, ap, fun-ext}
+use mathlib.Core.Bool.{Bool, true, false, cond}
+use mathlib.Core.List.{List, map}
+use Prim.Native.Nat.{ℕ, _-_, _≤_, _<_}
+use native.Mathlib.Omega.{arith}
+use lib.Dec.{eqb, leb}
+use lib.ListN.{getD, List·getD-map}
+use borrow.Author.Tests.{le-leb, lt-leb, eq-eqb, ne-eqb}
+use Rattle.dates.specs.Dates.{lastDay}
+use Rattle.rules.specs.declared.Point.{Point}
+use Rattle.rules.specs.declared.Register.{Register}
+use Rattle.rules.specs.declared.Settings.{Settings}
+use Rattle.rules.specs.Register.{catchUp, nextEvent, dueBy, expiryBy, happened, register, pointAt, noPoint, advanced}
+use Rattle.point.specs.Turn.{caughtUp}
+use Rattle.register.specs.Calls.{advancedTo}
+
+-- On the calendar catching up is the definition's.
+pub caughtUp-on : (S : Settings) (t : ℕ) → t ≤ lastDay → caughtUp S t ≡ catchUp S t
+unfolding caughtUp
+caughtUp-on S t h = fun-ext (λ g. rw (le-leb t lastDay h))
+
+pub advanced-off : (t : ℕ) (r : Register) → lastDay < t → advancedTo t r ≡ r
+unfolding advancedTo
+advanced-off t r h = rw (lt-leb t lastDay h)
+
+module _ (t : ℕ) (r : Register) (h : t ≤ lastDay) where
+  pub advanced-same : r .day ≡ t → advancedTo t r ≡ r
+  unfolding advancedTo advanced
+  advanced-same e = rw (le-leb t lastDay h, eq-eqb (r .day) t e)
+
+  pub advanced-new : (r .day ≡ t → ⊥) → advancedTo t r
+      ≡ register (r .settings) t (r .contracts) (map (caughtUp (r .settings) t) (r .points))
+  unfolding advancedTo advanced
+  advanced-new n = rw (le-leb t lastDay h, ne-eqb (r .day) t n, caughtUp-on (r .settings) t h)
+
+-- Nothing falls due where there is no point.
+caughtUp-none : (S : Settings) (t : ℕ) → caughtUp S t noPoint ≡ noPoint
+unfolding caughtUp catchUp nextEvent dueBy expiryBy happened
+caughtUp-none S t = go (leb t lastDay)
+  where
+    go : (b : Bool) → cond b noPoint noPoint ≡ noPoint
+    go true = refl
+    go false = refl
+
+pub point-caughtUp : (S : Settings) (t p : ℕ) (ps : List Point) → pointAt p (map (caughtUp S t) ps) ≡ caughtUp S t (pointAt p ps)
+point-caughtUp S t p ps =
+    ap (λ (d : Point). getD (map (caughtUp S t) ps) (p - 1) d) (sym (caughtUp-none S t))
+    ∙ List·getD-map (caughtUp S t) ps (p - 1) noPoint

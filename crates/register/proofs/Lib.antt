@@ -1,0 +1,5 @@
+pub mod Advanced
+pub mod AtPoint
+pub mod Failing
+pub mod Search
+pub mod Sweep

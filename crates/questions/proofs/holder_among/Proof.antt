@@ -1,0 +1,63 @@
+-- The periods are looked at from the newest down: what is left to look at decides.
+use mathlib.Core.Path.{_≡_, refl, sym, _∙_, ap}
+use Prim.Native.Nat.{ℕ, _≤_}
+use native.Mathlib.Omega.{arith}
+use Rattle.rules.specs.Questions.{holderAmong}
+use Rattle.questions.proofs.Walks.{among-found, among-passed, among-none}
+use borrow.Author.Needs.{needs}
+use Rattle.questions.proofs.holder_among.Statement.{statement}
+use Rattle.questions.proofs.holder_among.Tie as tie
+
+abbrev Inv-loop : tie.InvT-loop
+Inv-loop d n ps i₀ i = (i ≤ 24) × (holderAmong d i ps ≡ holderAmong d n ps)
+
+abbrev μ-loop : tie.MeasureT-loop
+μ-loop d n ps i₀ i = i
+
+loop-holds : tie.Need-loop-holds Inv-loop μ-loop
+loop-holds c = (search needs, refl)
+
+sub-q : tie.Need-sub-q Inv-loop μ-loop
+sub-q c = search needs
+
+mul-q : tie.Need-mul-q Inv-loop μ-loop
+mul-q c = search needs
+
+array-copy-out-q : tie.Need-array-copy-out-q Inv-loop μ-loop
+array-copy-out-q c = search needs
+
+cast-if1 : tie.Need-cast-if1 Inv-loop μ-loop
+cast-if1 c = search needs
+
+returns : tie.Need-returns Inv-loop μ-loop
+returns c = sym (among-found (c .before .before .before .before .before .args .d) (c .before .before .before .before .before .args .t3) (c .before .before .before .before .loop .i) (omega arith) (c .if1 .taken)) ∙ c .before .before .before .before .loop .inv .1
+
+sub-i : tie.Need-sub-i Inv-loop μ-loop
+sub-i c = search needs
+
+loop-less : tie.Need-loop-less Inv-loop μ-loop
+loop-less c = search needs
+
+loop-again : tie.Need-loop-again Inv-loop μ-loop
+loop-again c = (search needs, sym (among-passed (c .before .before .before .before .before .args .d) (c .before .before .before .before .before .args .t3) (c .before .before .before .before .loop .i) (omega arith) (c .if1 .left)) ∙ c .before .before .before .before .loop .inv .1)
+
+returns-2 : tie.Need-returns-2 Inv-loop μ-loop
+returns-2 c = let z : c .before .loop .i ≡ 0 = omega arith in
+    sym (among-none (c .before .before .args .d) (c .before .before .args .t3)) ∙ ap (λ (k : ℕ). holderAmong (c .before .before .args .d) k (c .before .before .args .t3)) (sym z) ∙ c .before .loop .inv .1
+
+pub holder-among-spec : {M : Type 1} → statement M
+holder-among-spec =
+    tie.close
+    (tie.spec
+    Inv-loop
+    μ-loop
+    loop-holds
+    sub-q
+    mul-q
+    array-copy-out-q
+    cast-if1
+    returns
+    sub-i
+    loop-less
+    loop-again
+    returns-2)

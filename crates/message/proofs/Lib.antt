@@ -1,0 +1,7 @@
+pub mod Naming
+pub mod Rows
+pub mod OneLine
+pub mod FieldLoops
+pub mod LineTexts
+pub mod WrittenLines
+pub mod Examples

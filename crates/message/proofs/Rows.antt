@@ -1,0 +1,186 @@
+-- The table of kinds agrees with the lines: for each kind, the line of its message is its word and the row of its fields.
+use Prim.Native.Nat.{ℕ, zero, suc, _+_, _-_, _*_, _≤_}
+use mathlib.Core.Path.{_≡_, refl, sym, ap, ap₂, _∙_}
+use mathlib.Core.Bool.{Bool, true, false}
+use mathlib.Core.List.{List, [], _∷_, _++_}
+use native.Mathlib.Omega.{arith}
+use native.Mathlib.Nat.{add-zero}
+use lib.Dec.{lit≤}
+use lib.ListN.{length, take, drop, getD, replicate}
+use lib.Seq.{drop-cons}
+use Rattle.rules.specs.declared.Action.{Action}
+use Rattle.rules.specs.declared.Action.the-variants.{SignContract, Failure, At, Day}
+use Rattle.rules.specs.declared.PointAction.{PointAction}
+use Rattle.rules.specs.declared.PointAction.the-variants.{Enrol, IntoService, DefaultSupply, AskSwitch, Cancel, Read, ChangeMeter, OutOfService, Suspend}
+use Rattle.text.specs.Words.{isSame}
+use Rattle.text.specs.Fields.{fieldsText, fitAll, sortsFrom, sortsOf}
+use Rattle.text.proofs.FieldTexts.{widths}
+use Rattle.message.specs.declared.Kind.{Kind}
+use Rattle.message.specs.declared.Kind.the-variants.{Set, Ctr, Def, Enr, Demmespc, I, Demcf, Adc, Ri, Cdt, Demmhs, Sus, Jour, Unknown}
+use Rattle.message.specs.declared.Word.{Word}
+use Rattle.message.specs.declared.Message.{Message}
+use Rattle.message.specs.declared.Message.the-variants.{Open, Ask, Unreadable}
+use Rattle.message.specs.Kinds.{word, paddedWord, shapeOf}
+use Rattle.message.specs.Lines.{lineOf, kindOf, partsOf, messageOf, ask, askAt}
+use Rattle.message.specs.Reading.{wordEnd, kindIn, kindNamed}
+use Rattle.message.specs.Writing.{isWritable, fitParts}
+
+-- n values from the one at i on
+abbrev pub firsts : ℕ → ℕ → List ℕ → List ℕ
+firsts i zero v = []
+firsts i (suc n) v = getD v i 0 ∷ firsts (suc i) n v
+
+pub firsts-take : (n i : ℕ) (v : List ℕ) → i + n ≤ length v → firsts i n v ≡ take n (drop i v)
+firsts-take zero i v h = refl
+firsts-take (suc n) i v h =
+    let here : i + 0 ≤ length v = omega arith in
+    rw (drop-cons v i 0 (omega arith)) (ap (_∷_ (getD v i 0)) (firsts-take n (suc i) v (omega arith)))
+
+-- the values of a kind's fields
+abbrev pub own : Kind → List ℕ → List ℕ
+own k v = firsts 0 (shapeOf k .count) v
+
+-- a kind has at most seven fields
+pub few : (k : Kind) → shapeOf k .count ≤ 7
+few Set = lit≤ tt
+few Ctr = lit≤ tt
+few Def = lit≤ tt
+few Enr = lit≤ tt
+few Demmespc = lit≤ tt
+few I = lit≤ tt
+few Demcf = lit≤ tt
+few Adc = lit≤ tt
+few Ri = lit≤ tt
+few Cdt = lit≤ tt
+few Demmhs = lit≤ tt
+few Sus = lit≤ tt
+few Jour = lit≤ tt
+few Unknown = lit≤ tt
+
+-- what holds of each kind
+pub record Row (k : Kind) (v : List ℕ) : Type 0 where
+  pub text : lineOf (messageOf k v) ≡ word k ++ fieldsText (sortsOf (shapeOf k)) (own k v)
+  pub fit : isWritable (messageOf k v) ≡ fitAll (sortsOf (shapeOf k)) (own k v)
+  pub back : messageOf k (own k v ++ replicate (7 - length (own k v)) 0) ≡ messageOf k v
+  pub ends : wordEnd (word k ++ fieldsText (sortsOf (shapeOf k)) (own k v)) ≡ length (word k)
+  pub named : kindNamed (word k) ≡ k
+  pub small : length (word k) + widths (sortsOf (shapeOf k)) ≤ 90
+  pub room : length (word k) + 13 * shapeOf k .count ≤ 96
+
+pub row : (k : Kind) (v : List ℕ) → (k ≡ Unknown → ⊥) → Row k v
+unfolding sortsFrom fitAll wordEnd kindIn isSame isWritable
+row Set v h = record { text = refl; fit = refl; back = refl; ends = refl; named = refl; small = lit≤ tt; room = lit≤ tt }
+row Ctr v h = record { text = refl; fit = refl; back = refl; ends = refl; named = refl; small = lit≤ tt; room = lit≤ tt }
+row Def v h = record { text = refl; fit = refl; back = refl; ends = refl; named = refl; small = lit≤ tt; room = lit≤ tt }
+row Enr v h = record { text = refl; fit = refl; back = refl; ends = refl; named = refl; small = lit≤ tt; room = lit≤ tt }
+row Demmespc v h = record { text = refl; fit = refl; back = refl; ends = refl; named = refl; small = lit≤ tt; room = lit≤ tt }
+row I v h = record { text = refl; fit = refl; back = refl; ends = refl; named = refl; small = lit≤ tt; room = lit≤ tt }
+row Demcf v h = record { text = refl; fit = refl; back = refl; ends = refl; named = refl; small = lit≤ tt; room = lit≤ tt }
+row Adc v h = record { text = refl; fit = refl; back = refl; ends = refl; named = refl; small = lit≤ tt; room = lit≤ tt }
+row Ri v h = record { text = refl; fit = refl; back = refl; ends = refl; named = refl; small = lit≤ tt; room = lit≤ tt }
+row Cdt v h = record { text = refl; fit = refl; back = refl; ends = refl; named = refl; small = lit≤ tt; room = lit≤ tt }
+row Demmhs v h = record { text = refl; fit = refl; back = refl; ends = refl; named = refl; small = lit≤ tt; room = lit≤ tt }
+row Sus v h = record { text = refl; fit = refl; back = refl; ends = refl; named = refl; small = lit≤ tt; room = lit≤ tt }
+row Jour v h = record { text = refl; fit = refl; back = refl; ends = refl; named = refl; small = lit≤ tt; room = lit≤ tt }
+row Unknown v h = absurd (h refl)
+
+-- a message is that of its parts
+parts-back-call : (t : ℕ) (a : Action) → messageOf (kindOf (ask t a)) (partsOf (ask t a) .values) ≡ ask t a
+parts-back-call t (SignContract s) = refl
+parts-back-call t (Failure s) = refl
+parts-back-call t Day = refl
+parts-back-call t (At p (Enrol b a x)) = refl
+parts-back-call t (At p (IntoService s k)) = refl
+parts-back-call t (At p (DefaultSupply k)) = refl
+parts-back-call t (At p (AskSwitch s k r)) = refl
+parts-back-call t (At p (Cancel s)) = refl
+parts-back-call t (At p (Read d x z)) = refl
+parts-back-call t (At p (ChangeMeter x z b a y)) = refl
+parts-back-call t (At p OutOfService) = refl
+parts-back-call t (At p (Suspend m)) = refl
+
+pub parts-back : (m : Message) → messageOf (kindOf m) (partsOf m .values) ≡ m
+parts-back (Open o) = refl
+parts-back (Ask c) = parts-back-call (c .today) (c .action)
+parts-back Unreadable = refl
+
+-- its parts are seven values, of which its kind takes the first
+parts-own-call : (t : ℕ) (a : Action) →
+    take (shapeOf (kindOf (ask t a)) .count) (partsOf (ask t a) .values) ≡ own (kindOf (ask t a)) (partsOf (ask t a) .values)
+parts-own-call t (SignContract s) = refl
+parts-own-call t (Failure s) = refl
+parts-own-call t Day = refl
+parts-own-call t (At p (Enrol b a x)) = refl
+parts-own-call t (At p (IntoService s k)) = refl
+parts-own-call t (At p (DefaultSupply k)) = refl
+parts-own-call t (At p (AskSwitch s k r)) = refl
+parts-own-call t (At p (Cancel s)) = refl
+parts-own-call t (At p (Read d x z)) = refl
+parts-own-call t (At p (ChangeMeter x z b a y)) = refl
+parts-own-call t (At p OutOfService) = refl
+parts-own-call t (At p (Suspend m)) = refl
+
+pub parts-own : (m : Message) → take (shapeOf (kindOf m) .count) (partsOf m .values) ≡ own (kindOf m) (partsOf m .values)
+parts-own (Open o) = refl
+parts-own (Ask c) = parts-own-call (c .today) (c .action)
+parts-own Unreadable = refl
+
+-- only Unreadable is of no kind
+known-call : (t : ℕ) (a : Action) → kindOf (ask t a) ≡ Unknown → ⊥
+known-call t (SignContract s) e = let z : _≡_ {A = ℕ} 0 1 = cc in omega arith
+known-call t (Failure s) e = let z : _≡_ {A = ℕ} 0 1 = cc in omega arith
+known-call t Day e = let z : _≡_ {A = ℕ} 0 1 = cc in omega arith
+known-call t (At p (Enrol b a x)) e = let z : _≡_ {A = ℕ} 0 1 = cc in omega arith
+known-call t (At p (IntoService s k)) e = let z : _≡_ {A = ℕ} 0 1 = cc in omega arith
+known-call t (At p (DefaultSupply k)) e = let z : _≡_ {A = ℕ} 0 1 = cc in omega arith
+known-call t (At p (AskSwitch s k r)) e = let z : _≡_ {A = ℕ} 0 1 = cc in omega arith
+known-call t (At p (Cancel s)) e = let z : _≡_ {A = ℕ} 0 1 = cc in omega arith
+known-call t (At p (Read d x z)) e = let z : _≡_ {A = ℕ} 0 1 = cc in omega arith
+known-call t (At p (ChangeMeter x z b a y)) e = let z : _≡_ {A = ℕ} 0 1 = cc in omega arith
+known-call t (At p OutOfService) e = let z : _≡_ {A = ℕ} 0 1 = cc in omega arith
+known-call t (At p (Suspend m)) e = let z : _≡_ {A = ℕ} 0 1 = cc in omega arith
+
+pub known : (m : Message) → isWritable m ≡ true → kindOf m ≡ Unknown → ⊥
+unfolding isWritable
+known (Open o) h e = let z : _≡_ {A = ℕ} 0 1 = cc in omega arith
+known (Ask c) h e = known-call (c .today) (c .action) e
+known Unreadable h e = let z : _≡_ {A = ℕ} 0 1 = cc in omega arith
+
+-- a message is writable if its parts fit, unless it is Unreadable
+pub writable-parts : (m : Message) → (m ≡ Unreadable → ⊥) → isWritable m ≡ fitParts (partsOf m)
+unfolding isWritable
+writable-parts (Open o) n = refl
+writable-parts (Ask c) n = refl
+writable-parts Unreadable n = absurd (n refl)
+
+pub writable-fit : (m : Message) → isWritable m ≡ true → fitParts (partsOf m) ≡ true
+unfolding isWritable
+writable-fit (Open o) h = h
+writable-fit (Ask c) h = h
+writable-fit Unreadable h = absurd (let z : _≡_ {A = ℕ} 0 1 = cc in omega arith)
+
+-- the word that the code holds is the kind's
+pub record Padded (k : Kind) (w : Word) : Type 0 where
+  pub word-is : take (w .len) (w .bytes) ≡ word k
+  pub inside : w .len ≤ length (w .bytes)
+  pub long : w .len ≡ length (word k)
+  pub short : w .len ≤ 8
+
+padded-is : (k : Kind) → Padded k (paddedWord k)
+padded-is Set = record { word-is = refl; inside = lit≤ tt; long = refl; short = lit≤ tt }
+padded-is Ctr = record { word-is = refl; inside = lit≤ tt; long = refl; short = lit≤ tt }
+padded-is Def = record { word-is = refl; inside = lit≤ tt; long = refl; short = lit≤ tt }
+padded-is Enr = record { word-is = refl; inside = lit≤ tt; long = refl; short = lit≤ tt }
+padded-is Demmespc = record { word-is = refl; inside = lit≤ tt; long = refl; short = lit≤ tt }
+padded-is I = record { word-is = refl; inside = lit≤ tt; long = refl; short = lit≤ tt }
+padded-is Demcf = record { word-is = refl; inside = lit≤ tt; long = refl; short = lit≤ tt }
+padded-is Adc = record { word-is = refl; inside = lit≤ tt; long = refl; short = lit≤ tt }
+padded-is Ri = record { word-is = refl; inside = lit≤ tt; long = refl; short = lit≤ tt }
+padded-is Cdt = record { word-is = refl; inside = lit≤ tt; long = refl; short = lit≤ tt }
+padded-is Demmhs = record { word-is = refl; inside = lit≤ tt; long = refl; short = lit≤ tt }
+padded-is Sus = record { word-is = refl; inside = lit≤ tt; long = refl; short = lit≤ tt }
+padded-is Jour = record { word-is = refl; inside = lit≤ tt; long = refl; short = lit≤ tt }
+padded-is Unknown = record { word-is = refl; inside = lit≤ tt; long = refl; short = lit≤ tt }
+
+pub word-padded : (k : Kind) (w : Word) → w ≡ paddedWord k → Padded k w
+word-padded k w e = rw e (padded-is k)

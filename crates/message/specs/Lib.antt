@@ -1,0 +1,7 @@
+pub mod Kinds
+pub mod Lines
+pub mod Reading
+pub mod Writing
+pub mod OneLine
+pub mod Answers
+pub mod Examples

@@ -1,0 +1,39 @@
+-- 01, Message lines: what a line says. `OneLine` pins these definitions to `lineOf`. Definitions only.
+use Prim.Native.Nat.{ℕ, zero, suc}
+use mathlib.Core.Bool.{cond}
+use mathlib.Core.List.{List, [], _∷_}
+use lib.Dec.{leb, eqb}
+use lib.ListN.{length, take, drop}
+use Rattle.text.specs.declared.Fields.{Fields}
+use Rattle.text.specs.Words.{isSame}
+use Rattle.text.specs.Fields.{fieldsIn}
+use Rattle.message.specs.declared.Kind.{Kind}
+use Rattle.message.specs.declared.Kind.the-variants.{Unknown}
+use Rattle.message.specs.declared.Message.{Message}
+use Rattle.message.specs.declared.Message.the-variants.{Unreadable}
+use Rattle.message.specs.Kinds.{word, kinds, shapeOf}
+use Rattle.message.specs.Lines.{messageOf}
+
+-- How many bytes stand before the first `;`.
+unfoldable pub wordEnd : List ℕ → ℕ
+wordEnd [] = 0
+wordEnd (c ∷ l) = cond (eqb c 59) 0 (suc (wordEnd l))
+
+-- The first kind of a list that has this word.
+unfoldable pub kindIn : List Kind → List ℕ → Kind
+kindIn [] w = Unknown
+kindIn (k ∷ ks) w = cond (isSame w (word k)) k (kindIn ks w)
+
+abbrev pub kindNamed : List ℕ → Kind
+kindNamed w = kindIn kinds w
+
+-- A line of a kind with the fields that follow its word.
+abbrev pub messageWith : Kind → Fields → Message
+messageWith k f = cond (f .ok) (messageOf k (f .values)) Unreadable
+
+abbrev pub messageAs : Kind → List ℕ → Message
+messageAs k l = messageWith k (fieldsIn (shapeOf k) l)
+
+-- 01: "A line has at most 96 bytes without its line feed".
+unfoldable pub readLine : List ℕ → Message
+readLine l = cond (leb (length l) 96) (messageAs (kindNamed (take (wordEnd l) l)) (drop (wordEnd l) l)) Unreadable

@@ -1,0 +1,30 @@
+-- `text::write::put_byte` meets its contract: one store, or none.
+use mathlib.Core.Path.{_≡_, refl}
+use mathlib.Core.List.{[], _∷_}
+use native.Mathlib.Omega.{arith}
+use Rattle.text.proofs.Appends.{put-sets, appended, not-appended}
+use borrow.Author.Needs.{needs}
+use Rattle.text.proofs.write.put_byte.Statement.{statement}
+use Rattle.text.proofs.write.put_byte.Tie as tie
+
+returns : tie.Need-returns
+returns c =
+    let a = c .before .args in
+    not-appended (a .at) (a .b ∷ []) (a .out .now) (omega arith)
+
+slice-write-out : tie.Need-slice-write-out
+slice-write-out c = search needs
+
+add-result : tie.Need-add-result
+add-result c = search needs
+
+same-length : tie.Need-same-length
+same-length c = search needs
+
+returns-2 : tie.Need-returns-2
+returns-2 c =
+    let a = c .before .args in
+    appended (a .at) (a .b ∷ []) (a .out .now) _ _ (omega arith) (put-sets (a .at) (a .b ∷ []) (a .out .now) (omega arith)) refl
+
+pub put-byte-spec : {M : Type 1} → statement M
+put-byte-spec = tie.close (tie.spec returns slice-write-out add-result same-length returns-2)

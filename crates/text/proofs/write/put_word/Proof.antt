@@ -1,0 +1,107 @@
+-- `text::write::put_word` meets its contract: the bytes copied so far stand behind the position.
+use Prim.Native.Nat.{ℕ, _≤_, _<_, _+_, _-_}
+use mathlib.Core.Path.{_≡_, refl, sym, ap, _∙_}
+use mathlib.Core.List.{append-assoc}
+use native.Mathlib.Omega.{arith}
+use native.Mathlib.Numerals.{add-one}
+use lib.ListN.{length, take, drop}
+use lib.Seq.{paste, paste-zero, paste-suc, length-paste, take-length}
+use Rattle.text.specs.Appending.{put}
+use Rattle.text.proofs.Appends.{appended, not-appended, word-pasted}
+use borrow.Author.Needs.{needs}
+use Rattle.text.proofs.write.put_word.Statement.{statement}
+use Rattle.text.proofs.write.put_word.Tie as tie
+
+abbrev Inv-loop : tie.InvT-loop
+Inv-loop out₀ at word n i₀ out i = (i ≤ n) × (n ≡ length word) × (at + n ≤ length out₀) × (out ≡ paste out₀ at word i)
+
+abbrev μ-loop : tie.MeasureT-loop
+μ-loop out₀ at word n i₀ out i = n - i
+
+returns : tie.Need-returns Inv-loop μ-loop
+returns c =
+    let a = c .before .args in
+    not-appended (a .at) (a .word .now) (a .out .now) (omega arith)
+
+sub-if2 : tie.Need-sub-if2 Inv-loop μ-loop
+sub-if2 c = search needs
+
+returns-2 : tie.Need-returns-2 Inv-loop μ-loop
+returns-2 c =
+    let a = c .before .before .args in
+    not-appended (a .at) (a .word .now) (a .out .now) (omega arith)
+
+loop-holds : tie.Need-loop-holds Inv-loop μ-loop
+loop-holds c =
+    let a = c .before .before .args in
+    (omega arith, refl, omega arith, paste-zero (a .out .now) (a .at) (a .word .now))
+
+shared-slice-read-out : tie.Need-shared-slice-read-out Inv-loop μ-loop
+shared-slice-read-out c = search needs
+
+add-out : tie.Need-add-out Inv-loop μ-loop
+add-out c = search needs
+
+slice-write-out : tie.Need-slice-write-out Inv-loop μ-loop
+slice-write-out c =
+    let c₂ = c .before .before in
+    let c₅ = c₂ .before .before .before in
+    let a = c₅ .args in
+    let l = c₂ .loop in
+    let pasted = length-paste (a .out .now) (a .at) (a .word .now) (l .i) (omega arith) (omega arith) in
+    let e : length (l .out) ≡ length (a .out .now) = ap length (l .inv .3) ∙ pasted in
+    omega arith
+
+add-i : tie.Need-add-i Inv-loop μ-loop
+add-i c = search needs
+
+loop-less : tie.Need-loop-less Inv-loop μ-loop
+loop-less c = search needs
+
+loop-again : tie.Need-loop-again Inv-loop μ-loop
+loop-again c =
+    let c₂ = c .before .before in
+    let c₅ = c₂ .before .before .before in
+    let a = c₅ .args in
+    let l = c₂ .loop in (
+      omega arith,
+      l .inv .1,
+      l .inv .2,
+      rw (l .inv .3, add-one (l .i)) (paste-suc (a .out .now) (a .at) (a .word .now) (l .i) 0 (omega arith) (omega arith)),
+    )
+
+add-result : tie.Need-add-result Inv-loop μ-loop
+add-result c = search needs
+
+same-length : tie.Need-same-length Inv-loop μ-loop
+same-length c =
+    let a = c .before .before .before .before .args in
+    let l = c .before .loop in
+    ap length (l .inv .3) ∙ length-paste (a .out .now) (a .at) (a .word .now) (l .i) (omega arith) (omega arith)
+
+returns-3 : tie.Need-returns-3 Inv-loop μ-loop
+returns-3 c =
+    let a = c .before .before .before .before .args in
+    let l = c .before .loop in
+    appended (a .at) (a .word .now) (a .out .now) _ _ (omega arith)
+    (l .inv .3 ∙ word-pasted (a .at) (a .word .now) (a .out .now) (l .i) (omega arith)) refl
+
+pub put-word-spec : {M : Type 1} → statement M
+put-word-spec =
+    tie.close
+    (tie.spec
+    Inv-loop
+    μ-loop
+    returns
+    sub-if2
+    returns-2
+    loop-holds
+    shared-slice-read-out
+    add-out
+    slice-write-out
+    add-i
+    loop-less
+    loop-again
+    add-result
+    same-length
+    returns-3)

@@ -1,0 +1,83 @@
+-- 01, Message lines: "Fields are separated by `;`". The fields behind a line's kind, each with its `;`. Definitions only.
+use Prim.Native.Nat.{ℕ, zero, suc, _-_, _^_}
+use mathlib.Core.Bool.{Bool, true, false, cond, _&&_}
+use mathlib.Core.List.{List, [], _∷_, _++_}
+use lib.Dec.{leb, ltb, eqb}
+use lib.ListN.{length, replicate}
+use Rattle.dates.specs.Dates.{lastDay}
+use Rattle.text.specs.declared.Sort.{Sort}
+use Rattle.text.specs.declared.Sort.the-variants.{Date, Number}
+use Rattle.text.specs.declared.Shape.{Shape}
+use Rattle.text.specs.declared.Fields.{Fields}
+use Rattle.text.specs.Decimal.{decimal, Read, number, bad, numberOf}
+use Rattle.text.specs.Days.{dayText, dayIn}
+
+-- A field's text in front of l: 59 is the byte of `;`.
+abbrev pub fieldText : Sort → ℕ → List ℕ → List ℕ
+fieldText Date n l = 59 ∷ dayText n l
+fieldText Number n l = 59 ∷ decimal n l
+
+-- What a field can hold: a day of the calendar, a number of at most 12 digits.
+abbrev pub fits : Sort → ℕ → Bool
+fits Date n = leb n lastDay
+fits Number n = ltb n (10 ^ 12)
+
+-- The text of the values of a row of fields.
+abbrev pub fieldsText : List Sort → List ℕ → List ℕ
+fieldsText [] ns = []
+fieldsText (k ∷ ks) [] = []
+fieldsText (k ∷ ks) (n ∷ ns) = fieldText k n (fieldsText ks ns)
+
+-- There is a value for each field, and it fits.
+unfoldable pub fitAll : List Sort → List ℕ → Bool
+fitAll [] [] = true
+fitAll [] (n ∷ ns) = false
+fitAll (k ∷ ks) [] = false
+fitAll (k ∷ ks) (n ∷ ns) = fits k n && fitAll ks ns
+
+-- The value that a text holds, as a field of its sort.
+abbrev pub valueOf : Sort → List ℕ → Read
+valueOf Date l = dayIn l
+valueOf Number l = numberOf l
+
+-- The field that a text begins with.
+unfoldable pub fieldOf : Sort → List ℕ → Read
+fieldOf k [] = bad
+fieldOf k (c ∷ l) = cond (eqb c 59) (valueOf k l) bad
+
+-- The values of a row of fields, or none.
+pub data Values : Type 0 where
+  values : List ℕ → Values
+  unread : Values
+
+abbrev pub atEnd : List ℕ → List ℕ → Values
+atEnd acc [] = values acc
+atEnd acc (c ∷ l) = unread
+
+abbrev pub andThen : Read → (ℕ → List ℕ → Values) → Values
+andThen (number n r) f = f n r
+andThen bad f = unread
+
+-- The values of all the fields of a row, where nothing follows them; acc has those already read.
+unfoldable pub fieldsOf : List Sort → List ℕ → List ℕ → Values
+fieldsOf [] acc l = atEnd acc l
+fieldsOf (k ∷ ks) acc l = andThen (fieldOf k l) (λ n r. fieldsOf ks (acc ++ (n ∷ [])) r)
+
+-- The sorts of a shape's n fields from the one at i on: the first is a date, and so is the one at second.
+abbrev pub sortAt : ℕ → ℕ → Sort
+sortAt second i = cond (eqb i 0) Date (cond (eqb i second) Date Number)
+
+unfoldable pub sortsFrom : ℕ → ℕ → ℕ → List Sort
+sortsFrom second i zero = []
+sortsFrom second i (suc n) = sortAt second i ∷ sortsFrom second (suc i) n
+
+abbrev pub sortsOf : Shape → List Sort
+sortsOf s = sortsFrom (s .second) 0 (s .count)
+
+-- The values in the first of seven places; a shape of more fields is not read.
+abbrev pub placed : Values → Fields
+placed (values vs) = record { ok = true; values = vs ++ replicate (7 - length vs) 0 }
+placed unread = record { ok = false; values = replicate 7 0 }
+
+unfoldable pub fieldsIn : Shape → List ℕ → Fields
+fieldsIn s l = placed (cond (leb (s .count) 7) (fieldsOf (sortsOf s) [] l) unread)

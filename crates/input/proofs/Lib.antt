@@ -1,0 +1,4 @@
+pub mod Feeds
+pub mod Parts
+pub mod Runs
+pub mod LineLaws

@@ -1,0 +1,4 @@
+pub mod Lines
+pub mod Part
+pub mod Machine
+pub mod Laws

@@ -1,14 +1,14 @@
--- The examples of lines and of answers, each by computing.
+-- The examples of lines, each by computing.
 use mathlib.Core.Path.{refl}
-use Rattle.dates.specs.Dates.{leapRow, monthLength, next, dateOf}
-use Rattle.dates.specs.Numbers.{monthStart, yearStart, dayNumber, isReal, dayAnswer, dateAnswer}
+use Rattle.dates.specs.Dates.{leapRow, monthLength}
+use Rattle.dates.specs.Numbers.{monthStart, yearStart, dayNumber, isReal, dayAnswer}
 use Rattle.text.specs.Words.{isSame}
-use Rattle.text.specs.Decimal.{spell, fixed, moreOf, numberOf, fixedOf}
+use Rattle.text.specs.Decimal.{moreOf, numberOf, fixedOf}
 use Rattle.text.specs.Days.{dayIn}
 use Rattle.text.specs.Fields.{fieldOf, fieldsOf, sortsFrom, fieldsIn}
-use Rattle.message.specs.Reading.{wordEnd, kindIn, readLine}
-use Rattle.message.specs.Answers.{answerLine, periodLine, totalLine}
-use Rattle.message.specs.Examples.{LineExamples, AnswerExamples}
+use Rattle.kinds.specs.Kinds.{kindIn}
+use Rattle.message.specs.Reading.{wordEnd, readLine}
+use Rattle.message.specs.Examples.{LineExamples}
 
 pub line-examples : LineExamples
 unfolding leapRow monthLength monthStart yearStart dayNumber isReal dayAnswer isSame moreOf numberOf fixedOf dayIn fieldOf fieldsOf sortsFrom fieldsIn wordEnd kindIn readLine
@@ -92,21 +92,4 @@ line-examples =
       carriage-return = refl;
       line-feed-inside = refl;
       ninety-seven-bytes = refl;
-    }
-
-pub answer-examples : AnswerExamples
-unfolding leapRow monthLength next dateOf dateAnswer spell fixed answerLine periodLine totalLine
-answer-examples =
-    record {
-      set-accepted = refl;
-      i-already-served = refl;
-      request-accepted = refl;
-      last-resort-under-way = refl;
-      unreadable-line = refl;
-      number-30 = refl;
-      off-the-calendar = refl;
-      first-period = refl;
-      second-period = refl;
-      total-of-1 = refl;
-      largest-volume = refl;
     }

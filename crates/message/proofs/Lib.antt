@@ -1,4 +1,4 @@
-pub mod Naming
+pub mod WordEnds
 pub mod Rows
 pub mod OneLine
 pub mod FieldLoops

@@ -11,17 +11,18 @@ use borrow.Author.Tests.{le-leb, leb-true}
 use Rattle.text.specs.Fields.{Values, values, unread, fieldsText, fitAll, fieldsOf, sortsFrom, sortsOf, placed, fieldsIn}
 use Rattle.text.proofs.FieldTexts.{fields-back, FieldsAre, fields-only, fields-short, fit-count}
 use Rattle.text.proofs.FieldSteps.{fields-are}
-use Rattle.message.specs.declared.Kind.{Kind}
-use Rattle.message.specs.declared.Kind.the-variants.{Unknown}
+use Rattle.kinds.specs.declared.Kind.{Kind}
+use Rattle.kinds.specs.declared.Kind.the-variants.{Unknown}
 use Rattle.message.specs.declared.Message.{Message}
 use Rattle.message.specs.declared.Message.the-variants.{Open, Ask, Unreadable}
-use Rattle.message.specs.Kinds.{word, kinds, shapeOf}
+use Rattle.kinds.specs.Kinds.{word, kinds, kindNamed, shapeOf}
 use Rattle.message.specs.Lines.{lineOf, kindOf, partsOf, messageOf}
-use Rattle.message.specs.Reading.{wordEnd, kindNamed, messageWith, messageAs, readLine}
+use Rattle.message.specs.Reading.{wordEnd, messageWith, messageAs, readLine}
 use Rattle.message.specs.Writing.{isWritable, textOf}
 use Rattle.message.specs.OneLine.{OneLine}
-use Rattle.message.proofs.Naming.{Found, named, unnamed, found}
-use Rattle.message.proofs.Rows.{firsts-take, own, few, Row, row, parts-back, known}
+use Rattle.kinds.proofs.Naming.{Found, named, unnamed, found}
+use Rattle.kinds.proofs.KindTable.{few}
+use Rattle.message.proofs.Rows.{firsts-take, own, Row, row, parts-back, known}
 
 -- the line of a kind and its values
 module _ (k : Kind) (v : List ℕ) (h : k ≡ Unknown → ⊥) (fit : isWritable (messageOf k v) ≡ true) where

@@ -15,14 +15,13 @@ use Rattle.rules.specs.declared.PointAction.the-variants.{Enrol, IntoService, D
 use Rattle.text.specs.Words.{isSame}
 use Rattle.text.specs.Fields.{fieldsText, fitAll, sortsFrom, sortsOf}
 use Rattle.text.proofs.FieldTexts.{widths}
-use Rattle.message.specs.declared.Kind.{Kind}
-use Rattle.message.specs.declared.Kind.the-variants.{Set, Ctr, Def, Enr, Demmespc, I, Demcf, Adc, Ri, Cdt, Demmhs, Sus, Jour, Unknown}
-use Rattle.message.specs.declared.Word.{Word}
+use Rattle.kinds.specs.declared.Kind.{Kind}
+use Rattle.kinds.specs.declared.Kind.the-variants.{Set, Ctr, Def, Enr, Demmespc, I, Demcf, Adc, Ri, Cdt, Demmhs, Sus, Jour, Unknown}
 use Rattle.message.specs.declared.Message.{Message}
 use Rattle.message.specs.declared.Message.the-variants.{Open, Ask, Unreadable}
-use Rattle.message.specs.Kinds.{word, paddedWord, shapeOf}
+use Rattle.kinds.specs.Kinds.{word, kindIn, kindNamed, shapeOf}
 use Rattle.message.specs.Lines.{lineOf, kindOf, partsOf, messageOf, ask, askAt}
-use Rattle.message.specs.Reading.{wordEnd, kindIn, kindNamed}
+use Rattle.message.specs.Reading.{wordEnd}
 use Rattle.message.specs.Writing.{isWritable, fitParts}
 
 -- n values from the one at i on
@@ -39,23 +38,6 @@ firsts-take (suc n) i v h =
 -- the values of a kind's fields
 abbrev pub own : Kind → List ℕ → List ℕ
 own k v = firsts 0 (shapeOf k .count) v
-
--- a kind has at most seven fields
-pub few : (k : Kind) → shapeOf k .count ≤ 7
-few Set = lit≤ tt
-few Ctr = lit≤ tt
-few Def = lit≤ tt
-few Enr = lit≤ tt
-few Demmespc = lit≤ tt
-few I = lit≤ tt
-few Demcf = lit≤ tt
-few Adc = lit≤ tt
-few Ri = lit≤ tt
-few Cdt = lit≤ tt
-few Demmhs = lit≤ tt
-few Sus = lit≤ tt
-few Jour = lit≤ tt
-few Unknown = lit≤ tt
 
 -- what holds of each kind
 pub record Row (k : Kind) (v : List ℕ) : Type 0 where
@@ -158,29 +140,3 @@ unfolding isWritable
 writable-fit (Open o) h = h
 writable-fit (Ask c) h = h
 writable-fit Unreadable h = absurd (let z : _≡_ {A = ℕ} 0 1 = cc in omega arith)
-
--- the word that the code holds is the kind's
-pub record Padded (k : Kind) (w : Word) : Type 0 where
-  pub word-is : take (w .len) (w .bytes) ≡ word k
-  pub inside : w .len ≤ length (w .bytes)
-  pub long : w .len ≡ length (word k)
-  pub short : w .len ≤ 8
-
-padded-is : (k : Kind) → Padded k (paddedWord k)
-padded-is Set = record { word-is = refl; inside = lit≤ tt; long = refl; short = lit≤ tt }
-padded-is Ctr = record { word-is = refl; inside = lit≤ tt; long = refl; short = lit≤ tt }
-padded-is Def = record { word-is = refl; inside = lit≤ tt; long = refl; short = lit≤ tt }
-padded-is Enr = record { word-is = refl; inside = lit≤ tt; long = refl; short = lit≤ tt }
-padded-is Demmespc = record { word-is = refl; inside = lit≤ tt; long = refl; short = lit≤ tt }
-padded-is I = record { word-is = refl; inside = lit≤ tt; long = refl; short = lit≤ tt }
-padded-is Demcf = record { word-is = refl; inside = lit≤ tt; long = refl; short = lit≤ tt }
-padded-is Adc = record { word-is = refl; inside = lit≤ tt; long = refl; short = lit≤ tt }
-padded-is Ri = record { word-is = refl; inside = lit≤ tt; long = refl; short = lit≤ tt }
-padded-is Cdt = record { word-is = refl; inside = lit≤ tt; long = refl; short = lit≤ tt }
-padded-is Demmhs = record { word-is = refl; inside = lit≤ tt; long = refl; short = lit≤ tt }
-padded-is Sus = record { word-is = refl; inside = lit≤ tt; long = refl; short = lit≤ tt }
-padded-is Jour = record { word-is = refl; inside = lit≤ tt; long = refl; short = lit≤ tt }
-padded-is Unknown = record { word-is = refl; inside = lit≤ tt; long = refl; short = lit≤ tt }
-
-pub word-padded : (k : Kind) (w : Word) → w ≡ paddedWord k → Padded k w
-word-padded k w e = rw e (padded-is k)

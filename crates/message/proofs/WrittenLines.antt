@@ -13,12 +13,13 @@ use Rattle.text.proofs.Appends.{room-put, appended-length, rest-start, rest-nex
 use Rattle.message.specs.declared.Line.{Line}
 use Rattle.message.specs.declared.Message.{Message}
 use Rattle.message.specs.declared.Parts.{Parts}
-use Rattle.message.specs.Kinds.{word, shapeOf}
+use Rattle.kinds.specs.Kinds.{word, shapeOf}
 use Rattle.message.specs.Lines.{kindOf, partsOf}
 use Rattle.message.specs.Writing.{isWritable, textOf, writtenLine, fitParts}
 use Rattle.message.proofs.LineTexts.{line-pieces, put-zeros}
 use Rattle.message.proofs.OneLine.{text-short}
-use Rattle.message.proofs.Rows.{row, few, known, writable-fit}
+use Rattle.kinds.proofs.KindTable.{few}
+use Rattle.message.proofs.Rows.{row, known, writable-fit}
 
 abbrev blank : List ℕ
 blank = replicate 96 0

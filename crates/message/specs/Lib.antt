@@ -1,7 +1,5 @@
-pub mod Kinds
 pub mod Lines
 pub mod Reading
 pub mod Writing
 pub mod OneLine
-pub mod Answers
 pub mod Examples

@@ -9,12 +9,12 @@ use Rattle.rules.specs.declared.PointAction.{PointAction}
 use Rattle.rules.specs.declared.PointAction.the-variants.{Enrol, IntoService, DefaultSupply, AskSwitch, Cancel, Read, ChangeMeter, OutOfService, Suspend}
 use Rattle.text.specs.declared.Sort.the-variants.{Date, Number}
 use Rattle.text.specs.Fields.{fieldText}
-use Rattle.message.specs.declared.Kind.{Kind}
-use Rattle.message.specs.declared.Kind.the-variants.{Set, Ctr, Def, Enr, Demmespc, I, Demcf, Adc, Ri, Cdt, Demmhs, Sus, Jour, Unknown}
+use Rattle.kinds.specs.declared.Kind.{Kind}
+use Rattle.kinds.specs.declared.Kind.the-variants.{Set, Ctr, Def, Enr, Demmespc, I, Demcf, Adc, Ri, Cdt, Demmhs, Sus, Jour, Unknown}
 use Rattle.message.specs.declared.Message.{Message}
 use Rattle.message.specs.declared.Message.the-variants.{Open, Ask, Unreadable}
 use Rattle.message.specs.declared.Parts.{Parts}
-use Rattle.message.specs.Kinds.{word}
+use Rattle.kinds.specs.Kinds.{word}
 
 -- A `;` and a date, or a `;` and a number, and then the text l.
 abbrev pub date : ℕ → List ℕ → List ℕ

@@ -5,27 +5,17 @@ use mathlib.Core.List.{List, [], _∷_}
 use lib.Dec.{leb, eqb}
 use lib.ListN.{length, take, drop}
 use Rattle.text.specs.declared.Fields.{Fields}
-use Rattle.text.specs.Words.{isSame}
 use Rattle.text.specs.Fields.{fieldsIn}
-use Rattle.message.specs.declared.Kind.{Kind}
-use Rattle.message.specs.declared.Kind.the-variants.{Unknown}
+use Rattle.kinds.specs.declared.Kind.{Kind}
 use Rattle.message.specs.declared.Message.{Message}
 use Rattle.message.specs.declared.Message.the-variants.{Unreadable}
-use Rattle.message.specs.Kinds.{word, kinds, shapeOf}
+use Rattle.kinds.specs.Kinds.{kindNamed, shapeOf}
 use Rattle.message.specs.Lines.{messageOf}
 
 -- How many bytes stand before the first `;`.
 unfoldable pub wordEnd : List ℕ → ℕ
 wordEnd [] = 0
 wordEnd (c ∷ l) = cond (eqb c 59) 0 (suc (wordEnd l))
-
--- The first kind of a list that has this word.
-unfoldable pub kindIn : List Kind → List ℕ → Kind
-kindIn [] w = Unknown
-kindIn (k ∷ ks) w = cond (isSame w (word k)) k (kindIn ks w)
-
-abbrev pub kindNamed : List ℕ → Kind
-kindNamed w = kindIn kinds w
 
 -- A line of a kind with the fields that follow its word.
 abbrev pub messageWith : Kind → Fields → Message

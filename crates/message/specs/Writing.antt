@@ -8,7 +8,7 @@ use Rattle.message.specs.declared.Message.{Message}
 use Rattle.message.specs.declared.Message.the-variants.{Open, Ask, Unreadable}
 use Rattle.message.specs.declared.Parts.{Parts}
 use Rattle.message.specs.declared.Line.{Line}
-use Rattle.message.specs.Kinds.{shapeOf}
+use Rattle.kinds.specs.Kinds.{shapeOf}
 use Rattle.message.specs.Lines.{lineOf, partsOf}
 
 -- Each day is in the calendar, and each number has at most 12 digits.

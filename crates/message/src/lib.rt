@@ -1,9 +1,8 @@
-// Message lines: what a line says, the line of a call or of an opening, and the lines that the register answers with.
-pub mod answer;
+// Message lines: what a line says, and the line of a call or of an opening.
 pub mod read;
-mod words;
 pub mod write;
 
+use kinds::Kind;
 use rules::Call;
 use rules::Opening;
 
@@ -12,30 +11,6 @@ pub enum Message {
     Open(Opening),
     Ask(Call),
     Unreadable,
-}
-
-// The kind of a line, named by the word it begins with; Unknown is printed for a line that is unreadable.
-pub enum Kind {
-    Set,
-    Ctr,
-    Def,
-    Enr,
-    Demmespc,
-    I,
-    Demcf,
-    Adc,
-    Ri,
-    Cdt,
-    Demmhs,
-    Sus,
-    Jour,
-    Unknown,
-}
-
-// A kind's word: the first len of the bytes.
-pub struct Word {
-    pub bytes: [u8; 8],
-    pub len: usize,
 }
 
 // A line's kind and the values of its fields; the places past its fields hold 0.

@@ -1,8 +1,8 @@
 // Reading a line.
-use crate::Kind;
 use crate::Message;
-use crate::words::kind_named;
-use crate::words::shape_of;
+use kinds::Kind;
+use kinds::words::kind_named;
+use kinds::words::shape_of;
 use rules::Action;
 use rules::Call;
 use rules::Opening;

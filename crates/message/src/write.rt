@@ -1,11 +1,11 @@
 // Writing a line.
-use crate::Kind;
 use crate::Line;
 use crate::Message;
 use crate::Parts;
-use crate::words::put_kind;
-use crate::words::shape_of;
 use dates::LAST_DAY;
+use kinds::Kind;
+use kinds::words::put_kind;
+use kinds::words::shape_of;
 use rules::Action;
 use rules::PointAction;
 use text::Shape;

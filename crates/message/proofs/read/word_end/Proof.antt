@@ -4,7 +4,7 @@ use mathlib.Core.Path.{_≡_, refl, sym, _∙_}
 use native.Mathlib.Omega.{arith}
 use lib.ListN.{length, drop}
 use Rattle.message.specs.Reading.{wordEnd}
-use Rattle.message.proofs.Naming.{end-here, end-past, end-none}
+use Rattle.message.proofs.WordEnds.{end-here, end-past, end-none}
 use borrow.Author.Needs.{needs}
 use Rattle.message.proofs.read.word_end.Statement.{statement}
 use Rattle.message.proofs.read.word_end.Tie as tie

@@ -4,7 +4,8 @@ use mathlib.Core.Logic.{⊎-elim}
 use native.Mathlib.Omega.{arith}
 use Rattle.message.specs.declared.Message.the-variants.{Unreadable}
 use Rattle.message.specs.Writing.{isWritable}
-use Rattle.message.proofs.Rows.{few, writable-parts}
+use Rattle.kinds.proofs.KindTable.{few}
+use Rattle.message.proofs.Rows.{writable-parts}
 use borrow.Author.Needs.{needs}
 use Rattle.message.proofs.write.is_writable.Statement.{statement}
 use Rattle.message.proofs.write.is_writable.Tie as tie

@@ -1,4 +1,2 @@
 pub mod Accepted
 pub mod Fairness
-pub mod Powers
-pub mod Tests

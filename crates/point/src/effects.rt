@@ -1,8 +1,8 @@
 // What accepted calls do to a point.
-use crate::checks::effective_day;
-use crate::checks::is_full_kept;
-use crate::checks::is_full_named;
 use crate::meter::span_to;
+use answers::effective_day;
+use answers::is_full_kept;
+use answers::is_full_named;
 use dates::LAST_DAY;
 use periods::book;
 use periods::named;
@@ -22,7 +22,8 @@ ghost use Rattle.rules.specs.Fields.{reading, withPending, withMark, withReadin
 ghost use Rattle.rules.specs.Volumes.{spanTo};
 ghost use Rattle.rules.specs.Rejections.{isBy};
 ghost use Rattle.rules.specs.Register.{acted as Register·acted, booked};
-ghost use Rattle.point.specs.Ranges.{InRange, Readable};
+ghost use Rattle.answers.specs.Ranges.{InRange};
+ghost use Rattle.point.specs.Ranges.{Readable};
 ghost use Rattle.point.specs.Turn.{failureFills, failedBy};
 
 fn enrol(set: Settings, t: u32, before: u64, after: u64, index: u64, g: Point) -> Point
@@ -193,10 +194,8 @@ pub(crate) fn acted(set: Settings, t: u32, a: PointAction, g: Point) -> Point
             key: _,
             day,
         } => {
-            with_pending(
-                Pending::Request(supplier as u8, effective_day(t, day as u32)),
-                g,
-            )
+            let e = effective_day(t, day as u32) as u32;
+            with_pending(Pending::Request(supplier as u8, e), g)
         }
         PointAction::Cancel { supplier: _ } => with_pending(Pending::Nothing, g),
         PointAction::Read { day, index, zero } => read(day as u32, index, zero, m, index, g),

@@ -1,54 +1,11 @@
-// Meters and their readings: the full turn, the unit, and what a reading advances.
+// What a reading advances.
+use answers::full_turn;
+use answers::unit_of;
 use rules::Fields;
-use rules::Meter;
 use rules::Span;
 ghost use mathlib.Core.Path.{_≡_};
-ghost use Prim.Native.Nat.{_+_, _-_, _^_, _≤_, _<_};
-ghost use Rattle.rules.specs.Volumes.{fullTurn, unitOf, advanceOf, spanTo};
-
-const POWERS: [u64; 12] = [
-    1,
-    10,
-    100,
-    1000,
-    10000,
-    100000,
-    1000000,
-    10000000,
-    100000000,
-    1000000000,
-    10000000000,
-    100000000000,
-];
-
-fn power(n: usize) -> u64
-    requires { ⌜ n ≤ 11 ⌝ }
-    ensures { λ r. ⌜ (r ≡ 10 ^ n) × (r ≤ 100000000000) ⌝ }
-{
-    POWERS[n]
-}
-
-// 10^w, with w the wheels before and after the comma.
-pub(crate) fn full_turn(m: Meter) -> u64
-    ensures { λ r. ⌜ (r ≡ fullTurn m) × (r ≤ 100000000000) ⌝ }
-{
-    let w = m.before as usize + m.after as usize;
-    if w < 11 {
-        return power(w);
-    }
-    power(11)
-}
-
-// U, in thousandths of a cubic metre.
-fn unit_of(m: Meter) -> u64
-    ensures { λ r. ⌜ (r ≡ unitOf m) × (r ≤ 1000) ⌝ }
-{
-    let after = m.after as usize;
-    if after < 3 {
-        return power(3 - after);
-    }
-    1
-}
+ghost use Prim.Native.Nat.{_+_, _-_, _≤_, _<_};
+ghost use Rattle.rules.specs.Volumes.{advanceOf, spanTo};
 
 fn less(a: u64, b: u64) -> u64
     ensures { λ r. ⌜ r ≡ a - b ⌝ }

@@ -1,6 +1,6 @@
 -- An accepted call, at the point that it names, call by call.
 use native.Mathlib.Omega.{arith}
-use Rattle.rules.specs.Effects.{effectOf}
+use Rattle.rules.specs.Effects.{effectOf, effectiveDay}
 use Rattle.rules.specs.Volumes.{spansOf}
 use Rattle.rules.specs.Register.{acted}
 use borrow.Author.Needs.{needs}
@@ -8,7 +8,7 @@ use Rattle.point.proofs.effects.acted.Statement.{statement}
 use Rattle.point.proofs.effects.acted.Tie as tie
 use Rattle.point.proofs.effects.acted.Reads as reads
 use Rattle.point.proofs.effects.acted.Lts as lts
-use Rattle.point.proofs.checks.effective_day.Reads as effective-day-reads
+use Rattle.answers.proofs.effective_day.Reads as effective-day-reads
 use Rattle.point.proofs.effects.default_supply.Reads as default-supply-reads
 use Rattle.point.proofs.effects.enrol.Reads as enrol-reads
 use Rattle.point.proofs.effects.into_service.Reads as into-service-reads
@@ -38,14 +38,19 @@ default-supply-requires c κs = (c .before .before .before .before .before .pre 
 enum-known-a-4 : tie.Need-enum-known-a-4
 enum-known-a-4 c = search needs
 
-cast-t25 : tie.Need-cast-t25
-cast-t25 c = let k = rw (c .before .a4 .given .1) at (c .before .before .before .before .before .pre .1) in omega (arith, k .0)
-
 cast-effective-day : tie.Need-cast-effective-day
 cast-effective-day c = let k = rw (c .before .a4 .given .1) at (c .before .before .before .before .before .pre .1) in omega (arith, k .2)
 
 effective-day-requires : tie.Need-effective-day-requires
 effective-day-requires c κs = search needs
+
+cast-e : tie.Need-cast-e
+unfolding effectiveDay
+cast-e c = let k = rw (c .before .before .a4 .given .1) at (c .before .before .before .before .before .before .pre .1) in
+    omega (arith, k .2, c .effective-day .ensures)
+
+cast-t28 : tie.Need-cast-t28
+cast-t28 c = let k = rw (c .before .before .a4 .given .1) at (c .before .before .before .before .before .before .pre .1) in omega (arith, k .0)
 
 with-pending-requires : tie.Need-with-pending-requires
 with-pending-requires c κs = search needs
@@ -69,11 +74,11 @@ read-requires c κs = let k = rw (c .before .a5 .given .1) at (c .before .before
 enum-known-a-6 : tie.Need-enum-known-a-6
 enum-known-a-6 c = search needs
 
-cast-t31 : tie.Need-cast-t31
-cast-t31 c = let k = rw (c .before .a6 .given .1) at (c .before .before .before .before .before .pre .1) in omega (arith, k .1)
-
 cast-t32 : tie.Need-cast-t32
-cast-t32 c = let k = rw (c .before .a6 .given .1) at (c .before .before .before .before .before .pre .1) in omega (arith, k .2)
+cast-t32 c = let k = rw (c .before .a6 .given .1) at (c .before .before .before .before .before .pre .1) in omega (arith, k .1)
+
+cast-t33 : tie.Need-cast-t33
+cast-t33 c = let k = rw (c .before .a6 .given .1) at (c .before .before .before .before .before .pre .1) in omega (arith, k .2)
 
 read-requires-2 : tie.Need-read-requires-2
 read-requires-2 c κs = let k = rw (c .before .a6 .given .1) at (c .before .before .before .before .before .pre .1) in
@@ -134,9 +139,10 @@ acted-spec =
     enum-known-a-3
     default-supply-requires
     enum-known-a-4
-    cast-t25
     cast-effective-day
     effective-day-requires
+    cast-e
+    cast-t28
     with-pending-requires
     enum-told
     with-pending-requires-2
@@ -144,8 +150,8 @@ acted-spec =
     cast-read
     read-requires
     enum-known-a-6
-    cast-t31
     cast-t32
+    cast-t33
     read-requires-2
     enum-told-2
     out-of-service-requires

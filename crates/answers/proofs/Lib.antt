@@ -1,0 +1,3 @@
+pub mod Powers
+pub mod Ranges
+pub mod Tests

@@ -1,0 +1,3 @@
+pub mod OnePoint
+pub mod Openings
+pub mod Dues

@@ -1,0 +1,95 @@
+-- Messages that concern one point at the most, on a day on which nothing has fallen due anywhere: they need no look at the other points.
+-- How `replied` can then be had from that point alone is proved in proofs/OnePoint. Definitions only.
+use mathlib.Core.Bool.{Bool, true, false, cond, not, _&&_, _||_}
+use mathlib.Core.List.{List, [], _∷_}
+use Prim.Native.Nat.{ℕ, _-_, min}
+use lib.Dec.{ltb, leb}
+use Rattle.dates.specs.Dates.{lastDay}
+use Rattle.rules.specs.declared.Point.{Point}
+use Rattle.rules.specs.declared.Settings.{Settings}
+use Rattle.rules.specs.declared.Supply.{Supply}
+use Rattle.rules.specs.declared.SupplyKind.{SupplyKind}
+use Rattle.rules.specs.declared.SupplyKind.the-variants.{None, Contract, Default, LastResort}
+use Rattle.rules.specs.declared.Pending.{Pending}
+use Rattle.rules.specs.declared.Pending.the-variants.{Nothing, Request}
+use Rattle.rules.specs.declared.Action.{Action}
+use Rattle.rules.specs.declared.Action.the-variants.{SignContract, Failure, At, Day}
+use Rattle.rules.specs.declared.Answer.{Answer}
+use Rattle.rules.specs.Answers.{isAccepted}
+use Rattle.rules.specs.Rejections.{notPoint}
+use Rattle.point.specs.declared.Ruling.{Ruling}
+use Rattle.point.specs.Turn.{turned}
+use Rattle.message.specs.declared.Message.{Message}
+use Rattle.message.specs.declared.Message.the-variants.{Open, Ask, Unreadable}
+use Rattle.desk.specs.Desk.{unreadable}
+
+-- The first day past the calendar: nothing falls due on it.
+abbrev pub never : ℕ
+never = 73049
+
+abbrev pub kindEnds : SupplyKind → ℕ
+kindEnds None = never
+kindEnds Contract = never
+kindEnds (Default d) = d
+kindEnds (LastResort d) = d
+
+abbrev pub requestFalls : Pending → ℕ
+requestFalls Nothing = never
+requestFalls (Request s e) = e
+
+-- The first day on which something falls due at a point.
+unfoldable pub dueDay : Supply → ℕ
+dueDay s = min (kindEnds (s .kind)) (requestFalls (s .pending))
+
+-- The same over points.
+unfoldable pub firstDue : List Point → ℕ
+firstDue [] = never
+firstDue (g ∷ gs) = min (dueDay (g .fields .supply)) (firstDue gs)
+
+abbrev pub namesPoint : Action → Bool
+namesPoint (SignContract s) = false
+namesPoint (Failure s) = false
+namesPoint (At p a) = not (notPoint p)
+namesPoint Day = false
+
+-- Nothing falls due before the day quiet.
+unfoldable pub isQuick : Bool → ℕ → Message → Bool
+isQuick ready quiet (Open o) = ready
+isQuick ready quiet (Ask c) = not ready || (namesPoint (c .action) && ltb (c .today) quiet)
+isQuick ready quiet Unreadable = true
+
+-- The place of the point that a message names; the first where it names none.
+abbrev pub placeIn : Action → ℕ
+placeIn (SignContract s) = 0
+placeIn (Failure s) = 0
+placeIn (At p a) = cond (notPoint p) 0 (p - 1)
+placeIn Day = 0
+
+unfoldable pub placeOf : Message → ℕ
+placeOf (Open o) = 0
+placeOf (Ask c) = placeIn (c .action)
+placeOf Unreadable = 0
+
+abbrev pub leaves : Point → Ruling
+leaves g = record { answer = unreadable; point = g }
+
+abbrev pub turnIn : Settings → ℕ → List Bool → ℕ → Action → Point → Ruling
+turnIn S day u t (SignContract s) g = leaves g
+turnIn S day u t (Failure s) g = leaves g
+turnIn S day u t (At p a) g = turned S day u t p a g
+turnIn S day u t Day g = leaves g
+
+-- What the point g makes of a message.
+unfoldable pub turnOf : Settings → ℕ → List Bool → Bool → Message → Point → Ruling
+turnOf S day u ready (Open o) g = leaves g
+turnOf S day u ready (Ask c) g = cond ready (turnIn S day u (c .today) (c .action) g) (leaves g)
+turnOf S day u ready Unreadable g = leaves g
+
+abbrev pub dayBy : ℕ → ℕ → Answer → ℕ
+dayBy day t a = cond (isAccepted a && leb t lastDay) t day
+
+-- The register's day after the answer.
+unfoldable pub dayAfter : ℕ → Message → Answer → ℕ
+dayAfter day (Open o) a = day
+dayAfter day (Ask c) a = dayBy day (c .today) a
+dayAfter day Unreadable a = day

@@ -1,3 +1,4 @@
-pub mod OnePoint
 pub mod Openings
+pub mod Tabled
 pub mod Dues
+pub mod OnePoint

@@ -15,8 +15,9 @@ use Rattle.rules.specs.declared.Pending.the-variants.{Nothing, Request}
 use Rattle.rules.specs.declared.Action.{Action}
 use Rattle.rules.specs.declared.Action.the-variants.{SignContract, Failure, At, Day}
 use Rattle.rules.specs.declared.Answer.{Answer}
+use Rattle.rules.specs.declared.Answer.the-variants.{Accepted}
 use Rattle.rules.specs.Answers.{isAccepted}
-use Rattle.rules.specs.Rejections.{notPoint}
+use Rattle.rules.specs.Rejections.{_⇒_, firstOf, notPoint, notSupplier}
 use Rattle.point.specs.declared.Ruling.{Ruling}
 use Rattle.point.specs.Turn.{turned}
 use Rattle.message.specs.declared.Message.{Message}
@@ -46,16 +47,17 @@ unfoldable pub firstDue : List Point → ℕ
 firstDue [] = never
 firstDue (g ∷ gs) = min (dueDay (g .fields .supply)) (firstDue gs)
 
-abbrev pub namesPoint : Action → Bool
-namesPoint (SignContract s) = false
-namesPoint (Failure s) = false
-namesPoint (At p a) = not (notPoint p)
-namesPoint Day = false
+-- What a call may touch: one point, who is under contract, or the day alone. A failure looks at every point.
+abbrev pub isSmall : Action → Bool
+isSmall (SignContract s) = true
+isSmall (Failure s) = false
+isSmall (At p a) = not (notPoint p)
+isSmall Day = true
 
 -- Nothing falls due before the day quiet.
 unfoldable pub isQuick : Bool → ℕ → Message → Bool
 isQuick ready quiet (Open o) = ready
-isQuick ready quiet (Ask c) = not ready || (namesPoint (c .action) && ltb (c .today) quiet)
+isQuick ready quiet (Ask c) = not ready || (isSmall (c .action) && ltb (c .today) quiet)
 isQuick ready quiet Unreadable = true
 
 -- The place of the point that a message names; the first where it names none.
@@ -70,20 +72,55 @@ placeOf (Open o) = 0
 placeOf (Ask c) = placeIn (c .action)
 placeOf Unreadable = 0
 
-abbrev pub leaves : Point → Ruling
-leaves g = record { answer = unreadable; point = g }
+-- The place of the supplier that a call puts under contract; 0, which is no supplier, where it puts none.
+abbrev pub supplierIn : Action → ℕ
+supplierIn (SignContract s) = cond (notSupplier s) 0 s
+supplierIn (Failure s) = 0
+supplierIn (At p a) = 0
+supplierIn Day = 0
+
+unfoldable pub supplierOf : Message → ℕ
+supplierOf (Open o) = 0
+supplierOf (Ask c) = supplierIn (c .action)
+supplierOf Unreadable = 0
+
+-- That place after the answer, where it held b.
+abbrev pub signsIn : Action → Answer → Bool → Bool
+signsIn (SignContract s) a b = isAccepted a || b
+signsIn (Failure s) a b = b
+signsIn (At p x) a b = b
+signsIn Day a b = b
+
+unfoldable pub signedAfter : Message → Answer → Bool → Bool
+signedAfter (Open o) a b = b
+signedAfter (Ask c) a b = signsIn (c .action) a b
+signedAfter Unreadable a b = b
+
+abbrev pub leaves : Point → Answer → Ruling
+leaves g a = record { answer = a; point = g }
+
+-- 22, of a call that names no point.
+abbrev pub smallRange : Action → Bool
+smallRange (SignContract s) = notSupplier s
+smallRange (Failure s) = notSupplier s
+smallRange (At p a) = false
+smallRange Day = false
+
+-- The answer to a call that looks at no point: 22, 20 and 21.
+unfoldable pub plainAnswer : ℕ → ℕ → Action → Answer
+plainAnswer day t a = firstOf ((smallRange a ⇒ 22) ∷ (ltb lastDay t ⇒ 20) ∷ (ltb t day ⇒ 21) ∷ []) Accepted
 
 abbrev pub turnIn : Settings → ℕ → List Bool → ℕ → Action → Point → Ruling
-turnIn S day u t (SignContract s) g = leaves g
-turnIn S day u t (Failure s) g = leaves g
+turnIn S day u t (SignContract s) g = leaves g (plainAnswer day t (SignContract s))
+turnIn S day u t (Failure s) g = leaves g unreadable
 turnIn S day u t (At p a) g = turned S day u t p a g
-turnIn S day u t Day g = leaves g
+turnIn S day u t Day g = leaves g (plainAnswer day t Day)
 
 -- What the point g makes of a message.
 unfoldable pub turnOf : Settings → ℕ → List Bool → Bool → Message → Point → Ruling
-turnOf S day u ready (Open o) g = leaves g
-turnOf S day u ready (Ask c) g = cond ready (turnIn S day u (c .today) (c .action) g) (leaves g)
-turnOf S day u ready Unreadable g = leaves g
+turnOf S day u ready (Open o) g = leaves g unreadable
+turnOf S day u ready (Ask c) g = cond ready (turnIn S day u (c .today) (c .action) g) (leaves g unreadable)
+turnOf S day u ready Unreadable g = leaves g unreadable
 
 abbrev pub dayBy : ℕ → ℕ → Answer → ℕ
 dayBy day t a = cond (isAccepted a && leb t lastDay) t day

@@ -7,6 +7,8 @@ pub use quick::due_day;
 pub use quick::first_due;
 pub use quick::is_quick;
 pub use quick::place_of;
+pub use quick::signed_after;
+pub use quick::supplier_of;
 pub use quick::turn_of;
 use register::Opened;
 use register::apply;

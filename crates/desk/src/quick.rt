@@ -14,7 +14,7 @@ use rules::Supply;
 use rules::SupplyKind;
 ghost use mathlib.Core.Path.{_≡_};
 ghost use Prim.Native.Nat.{min};
-ghost use Rattle.desk.specs.Quick.{dueDay, firstDue, kindEnds, requestFalls, namesPoint, isQuick, placeIn, placeOf, turnIn, turnOf, dayBy, dayAfter, leaves};
+ghost use Rattle.desk.specs.Quick.{dueDay, firstDue, kindEnds, requestFalls, isSmall, isQuick, placeIn, placeOf, turnIn, turnOf, dayBy, dayAfter, leaves, smallRange, plainAnswer, supplierIn, supplierOf, signsIn, signedAfter};
 
 // The first day past the calendar: nothing falls due on it.
 const NEVER: u32 = 73049;
@@ -73,14 +73,15 @@ pub fn first_due(ps: [Point; 32]) -> u32
     first
 }
 
-fn names_point(a: Action) -> bool
-    ensures { λ r. ⌜ r ≡ namesPoint a ⌝ }
+// A call that touches one point, who is under contract, or the day alone.
+fn is_small(a: Action) -> bool
+    ensures { λ r. ⌜ r ≡ isSmall a ⌝ }
 {
     match a {
-        Action::SignContract { supplier: _ } => false,
+        Action::SignContract { supplier: _ } => true,
         Action::Failure { supplier: _ } => false,
         Action::At { point, act: _ } => !outside(1, 32, point),
-        Action::Day => false,
+        Action::Day => true,
     }
 }
 
@@ -95,7 +96,7 @@ pub fn is_quick(ready: bool, quiet: u32, m: Message) -> bool
                 return true;
             }
             let a = c.action;
-            if names_point(a) {
+            if is_small(a) {
                 return c.today < quiet as u64;
             }
             false
@@ -134,13 +135,101 @@ pub fn place_of(m: Message) -> usize
     }
 }
 
-fn leave(g: Point) -> Ruling
-    ensures { λ r. ⌜ r ≡ leaves g ⌝ }
+fn supplier_in(a: Action) -> usize
+    ensures { λ r. ⌜ r ≡ supplierIn a ⌝ }
+{
+    match a {
+        Action::SignContract { supplier } => {
+            if outside(1, 99, supplier) {
+                return 0;
+            }
+            supplier as usize
+        }
+        Action::Failure { supplier: _ } => 0,
+        Action::At { point: _, act: _ } => 0,
+        Action::Day => 0,
+    }
+}
+
+// The place of the supplier that a message puts under contract; 0, which is no supplier, where it puts none.
+pub fn supplier_of(m: Message) -> usize
+    ensures { λ r. ⌜ r ≡ supplierOf m ⌝ }
+{
+    match m {
+        Message::Open(_) => 0,
+        Message::Ask(c) => {
+            let a = c.action;
+            supplier_in(a)
+        }
+        Message::Unreadable => 0,
+    }
+}
+
+fn signs_in(a: Action, answer: Answer, held: bool) -> bool
+    ensures { λ r. ⌜ r ≡ signsIn a answer held ⌝ }
+{
+    match a {
+        Action::SignContract { supplier: _ } => {
+            if is_accepted(answer) {
+                return true;
+            }
+            held
+        }
+        Action::Failure { supplier: _ } => held,
+        Action::At { point: _, act: _ } => held,
+        Action::Day => held,
+    }
+}
+
+// Whether that supplier is under contract after the answer.
+pub fn signed_after(m: Message, answer: Answer, held: bool) -> bool
+    ensures { λ r. ⌜ r ≡ signedAfter m answer held ⌝ }
+{
+    match m {
+        Message::Open(_) => held,
+        Message::Ask(c) => {
+            let a = c.action;
+            signs_in(a, answer, held)
+        }
+        Message::Unreadable => held,
+    }
+}
+
+fn leave(g: Point, answer: Answer) -> Ruling
+    ensures { λ r. ⌜ r ≡ leaves g answer ⌝ }
 {
     Ruling {
-        answer: Answer::Refused(31),
+        answer: answer,
         point: g,
     }
+}
+
+// The supplier that a call names is none.
+fn is_out_of_range(a: Action) -> bool
+    ensures { λ r. ⌜ r ≡ smallRange a ⌝ }
+{
+    match a {
+        Action::SignContract { supplier } => outside(1, 99, supplier),
+        Action::Failure { supplier } => outside(1, 99, supplier),
+        Action::At { point: _, act: _ } => false,
+        Action::Day => false,
+    }
+}
+
+// The answer to a call that looks at no point.
+fn plain_answer(day: u32, today: u64, a: Action) -> Answer
+    ensures { λ r. ⌜ r ≡ plainAnswer day today a ⌝ }
+{
+    if is_out_of_range(a) {
+        return Answer::Refused(22);
+    }
+    if today > LAST_DAY as u64 {
+        return Answer::Refused(20);
+    }
+    if today < day as u64 {
+        return Answer::Refused(21);
+    }
+    Answer::Accepted
 }
 
 fn turn_in(
@@ -154,10 +243,13 @@ fn turn_in(
     ensures { λ r. ⌜ r ≡ turnIn set day contracts today a g ⌝ }
 {
     match a {
-        Action::SignContract { supplier: _ } => leave(g),
-        Action::Failure { supplier: _ } => leave(g),
+        Action::SignContract { supplier } => {
+            let b = Action::SignContract { supplier };
+            leave(g, plain_answer(day, today, b))
+        }
+        Action::Failure { supplier: _ } => leave(g, Answer::Refused(31)),
         Action::At { point, act } => turn(set, day, contracts, today, point, act, g),
-        Action::Day => leave(g),
+        Action::Day => leave(g, plain_answer(day, today, Action::Day)),
     }
 }
 
@@ -173,15 +265,15 @@ pub fn turn_of(
     ensures { λ r. ⌜ r ≡ turnOf set day contracts ready m g ⌝ }
 {
     match m {
-        Message::Open(_) => leave(g),
+        Message::Open(_) => leave(g, Answer::Refused(31)),
         Message::Ask(c) => {
             if ready {
                 let a = c.action;
                 return turn_in(set, day, contracts, c.today, a, g);
             }
-            leave(g)
+            leave(g, Answer::Refused(31))
         }
-        Message::Unreadable => leave(g),
+        Message::Unreadable => leave(g, Answer::Refused(31)),
     }
 }
 

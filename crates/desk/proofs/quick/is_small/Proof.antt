@@ -1,8 +1,8 @@
 use borrow.Author.Needs.{needs}
-use Rattle.desk.proofs.quick.names_point.Statement.{statement}
-use Rattle.desk.proofs.quick.names_point.Tie as tie
-use Rattle.desk.proofs.quick.names_point.Reads as reads
-use Rattle.desk.proofs.quick.names_point.Lts as lts
+use Rattle.desk.proofs.quick.is_small.Statement.{statement}
+use Rattle.desk.proofs.quick.is_small.Tie as tie
+use Rattle.desk.proofs.quick.is_small.Reads as reads
+use Rattle.desk.proofs.quick.is_small.Lts as lts
 use Rattle.answers.proofs.outside.Reads as outside-reads
 
 enum-told : tie.Need-enum-told
@@ -32,8 +32,8 @@ returns-3 c = rw ((c .before .before .a) .given .1, ← ((c .outside) .ensures))
 returns-4 : tie.Need-returns-4
 returns-4 c = search needs
 
-pub names-point-spec : {M : Type 1} → statement M
-names-point-spec =
+pub is-small-spec : {M : Type 1} → statement M
+is-small-spec =
     tie.close
     (tie.spec
     enum-told

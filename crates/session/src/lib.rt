@@ -1,0 +1,67 @@
+// A whole input: pieces are handed in, answer lines come out, and the desk stands where the lines have brought it.
+mod pieces;
+
+use desk::Desk;
+use input::Part;
+use input::fitting;
+use input::no_part;
+use register::Start;
+use register::begin;
+use rules::Settings;
+ghost use mathlib.Core.Path.{_≡_};
+ghost use Rattle.session.specs.Session.{FedBy, startSession};
+
+// The most bytes that an answer line can have.
+const LONGEST_ANSWER: usize = 24;
+
+// The desk, and the start of the line that is under way.
+pub struct Session {
+    pub desk: Desk,
+    pub part: Part,
+}
+
+// The session after a piece, how many bytes of the piece were taken, and how many were written.
+pub struct Fed {
+    pub session: Session,
+    pub taken: usize,
+    pub written: usize,
+}
+
+// Before any input: no register is open.
+pub fn start() -> Session
+    ensures { λ r. ⌜ r ≡ startSession ⌝ }
+{
+    let settings = Settings {
+        w: 0,
+        a: 0,
+        b: 0,
+        default: 0,
+        resort: 0,
+    };
+    let desk = Desk {
+        ready: false,
+        register: begin(Start {
+            settings: settings,
+            day: 0,
+        }),
+    };
+    Session {
+        desk: desk,
+        part: no_part(),
+    }
+}
+
+// Answers every line that ends in the piece, in order, and keeps the start of the next. With too little room for the answers it takes
+// fewer bytes.
+pub fn feed(s: Session, piece: &[u8], out: &mut [u8]) -> Fed
+    ensures { λ r. ⌜ FedBy s (now (piece .entry)) (now (out .entry)) (now (out .exit)) r ⌝ }
+{
+    let taken = fitting(piece, out.len() / LONGEST_ANSWER);
+    let x = pieces::answer_lines(s, &piece[..taken], out);
+    let after = x.session;
+    Fed {
+        session: after,
+        taken: taken,
+        written: x.written,
+    }
+}

@@ -9,7 +9,7 @@ use rules::PeriodAnswer;
 use rules::Register;
 ghost use mathlib.Core.Path.{_≡_};
 ghost use Prim.Native.Nat.{_≤_};
-ghost use Rattle.rules.specs.Register.{pointAt};
+ghost use Rattle.rules.specs.Register.{used, pointAt};
 ghost use Rattle.rules.specs.Questions.{unasked, holderAmong, holderAnswer, periodAnswer, sumOf, advanceAnswer};
 
 // No point, or one that is not enrolled.
@@ -96,6 +96,14 @@ fn sum_of(n: usize, ps: [Period; 24]) -> u64
     sum
 }
 
+// What the volumes of a point's periods add up to.
+pub fn advance_in(h: History) -> u64
+    ensures { λ x. ⌜ x ≡ sumOf (used h) (h .periods) ⌝ }
+{
+    let ps = h.periods;
+    sum_of(marks(h), ps)
+}
+
 // The registered advance of point p.
 pub fn advance_of(r: Register, p: u64) -> AdvanceAnswer
     ensures { λ x. ⌜ x ≡ advanceAnswer r p ⌝ }
@@ -104,6 +112,5 @@ pub fn advance_of(r: Register, p: u64) -> AdvanceAnswer
         return AdvanceAnswer::OffRange;
     }
     let h = history_of(r, p);
-    let ps = h.periods;
-    AdvanceAnswer::Volume(sum_of(marks(h), ps))
+    AdvanceAnswer::Volume(advance_in(h))
 }

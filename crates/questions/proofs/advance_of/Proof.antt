@@ -18,23 +18,12 @@ returns c = rw (← (c .before .is-unasked .ensures), c .if1 .taken)
 history-of-requires : tie.Need-history-of-requires
 history-of-requires c κs = asked-in (c .before .before .args .r) (c .before .before .args .p) (sym (c .before .is-unasked .ensures) ∙ c .if1 .left)
 
-marks-requires : tie.Need-marks-requires
-marks-requires c κs = search needs
-
-sum-of-requires : tie.Need-sum-of-requires
-sum-of-requires c κs = search needs
+advance-in-requires : tie.Need-advance-in-requires
+advance-in-requires c κs = search needs
 
 returns-2 : tie.Need-returns-2
 unfolding advanceAnswer
-returns-2 c = rw (← (c .before .before .before .before .before .is-unasked .ensures), c .before .before .before .before .if1 .left, ← (c .before .before .before .history-of .ensures), ← (c .before .marks .ensures), c .sum-of .ensures)
+returns-2 c = rw (← (c .before .before .before .is-unasked .ensures), c .before .before .if1 .left, ← (c .before .history-of .ensures), c .advance-in .ensures)
 
 pub advance-of-spec : {M : Type 1} → statement M
-advance-of-spec =
-    tie.close
-    (tie.spec
-    is-unasked-requires
-    returns
-    history-of-requires
-    marks-requires
-    sum-of-requires
-    returns-2)
+advance-of-spec = tie.close (tie.spec is-unasked-requires returns history-of-requires advance-in-requires returns-2)

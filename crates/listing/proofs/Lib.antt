@@ -1,0 +1,4 @@
+pub mod Growing
+pub mod Rising
+pub mod Pieces
+pub mod Examples

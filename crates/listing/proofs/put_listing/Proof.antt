@@ -1,0 +1,35 @@
+-- `listing::put_listing` meets its contract.
+use Prim.Native.Nat.{_*_}
+use native.Mathlib.Omega.{arith}
+use Rattle.listing.proofs.Growing.{within-length}
+use Rattle.listing.proofs.Rising.{listed}
+use borrow.Author.Needs.{needs}
+use Rattle.listing.proofs.put_listing.Statement.{statement}
+use Rattle.listing.proofs.put_listing.Tie as tie
+
+taken-from-requires : tie.Need-taken-from-requires
+taken-from-requires c κs = search needs
+
+put-points-requires : tie.Need-put-points-requires
+put-points-requires c κs = search needs
+
+add-t7 : tie.Need-add-t7
+add-t7 c = search needs
+
+same-length : tie.Need-same-length
+same-length c =
+    let c₂ = c .before .before in
+    let c₄ = c₂ .before .before in
+    within-length (c₄ .taken-from .result * 918) 0 _ _ _ _ (c₂ .put-points .ensures)
+    (omega (arith, c₄ .taken-from .ensures))
+
+returns : tie.Need-returns
+returns c =
+    let c₂ = c .before .before in
+    let c₄ = c₂ .before .before in
+    let c₇ = c₄ .before .before .before in
+    listed (c₇ .args .r) (c₇ .args .from) (c₄ .taken-from .result) _ _ _ (c₄ .taken-from .ensures)
+    (c₂ .put-points .ensures)
+
+pub put-listing-spec : {M : Type 1} → statement M
+put-listing-spec = tie.close (tie.spec taken-from-requires put-points-requires add-t7 same-length returns)

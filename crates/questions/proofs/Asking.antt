@@ -45,20 +45,26 @@ module _ (r : Register) (l : List Span) (n : List ℕ) (g : Page) (p : ℕ) (lo 
     where
       go : (b : Bool) → point .fields .enrolled ≡ b → b ≡ true
       go true y = refl
-      go false z = let b = h .point .born .outside (rw (h .point .same) z) in let w : _≡_ {A = ℕ} 0 1 = cc (b .0, q) in absurd (omega arith)
+      go false z =
+          let b = h .point .born .outside (rw (h .point .same) z) in
+          let w : _≡_ {A = ℕ} 0 1 = cc (b .0, q) in absurd (omega arith)
 
   unborn : n ≡ [] → point .fields .enrolled ≡ false
   unborn q = go (point .fields .enrolled) refl
     where
       go : (b : Bool) → point .fields .enrolled ≡ b → b ≡ false
-      go true y = let s = h .point .born .inside (rw (h .point .same) y) in let w : _≡_ {A = ℕ} 0 1 = cc (s .one, q) in absurd (omega arith)
+      go true y =
+          let s = h .point .born .inside (rw (h .point .same) y) in
+          let w : _≡_ {A = ℕ} 0 1 = cc (s .one, q) in absurd (omega arith)
       go false z = refl
 
   used-all : used (point .history) ≡ point .history .count
   used-all = used-count (point .history) (h .point .sized)
 
   falling : Desc (suc (r .day)) (listed (point .history))
-  falling = rw (h .point .told) (tally-desc (volume l) (g .cells) (suc (r .day)) 0 (live-runs (r .day) (g .cells) (h .point .live)))
+  falling =
+      rw (h .point .told)
+      (tally-desc (volume l) (g .cells) (suc (r .day)) 0 (live-runs (r .day) (g .cells) (h .point .live)))
 
   small : registered l < 2 ^ 64
   small = let m = h .point .most in let d = h .fine .past in omega (arith, m, d)
@@ -68,7 +74,8 @@ module _ (r : Register) (l : List Span) (n : List ℕ) (g : Page) (p : ℕ) (lo 
   unfolding holderAnswer
   holder-asked e d a q le on =
       rw (is-point, asked e q, le-ltb (r .day) d on, used-all)
-      (among-covered d (point .history .count) (point .history .periods) _ (omega (arith, h .point .sized .slots, h .point .sized .some)) (a .covered e d q le on))
+      (among-covered d (point .history .count) (point .history .periods) _
+      (omega (arith, h .point .sized .slots, h .point .sized .some)) (a .covered e d q le on))
 
   pub before-asked : (e d : ℕ) → n ≡ e ∷ [] → d < e → holderAnswer r p d ≡ holder.OffRange
   unfolding holderAnswer
@@ -91,7 +98,8 @@ module _ (r : Register) (l : List Span) (n : List ℕ) (g : Page) (p : ℕ) (lo 
   unfolding advanceAnswer
   advance-asked e q =
       rw (is-point, asked e q, used-all)
-      (ap advance.Volume (sum-exact (point .history .count) (point .history .periods) (rw (h .point .sum) small) ∙ h .point .sum))
+      (ap advance.Volume
+      (sum-exact (point .history .count) (point .history .periods) (rw (h .point .sum) small) ∙ h .point .sum))
 
   pub holder-unasked : (d : ℕ) → n ≡ [] → holderAnswer r p d ≡ holder.OffRange
   unfolding holderAnswer
@@ -113,7 +121,8 @@ asking =
           let n = enrolments (opened o) calls p in
           let g = book o calls .page p in
           record {
-            holder = λ e d q le on. holder-asked r l n g p lo hi h cal e d (day-book-agrees o ok calls .points p lo hi) q le on;
+            holder = λ e d q le on.
+                holder-asked r l n g p lo hi h cal e d (day-book-agrees o ok calls .points p lo hi) q le on;
             before = before-asked r l n g p lo hi h cal;
             past = past-asked r l n g p lo hi h cal;
             advance = advance-asked r l n g p lo hi h cal;

@@ -28,7 +28,8 @@ advanced-day : (t : ℕ) (r : Register) → advanced t r .day ≡ t
 unfolding advanced
 advanced-day t r = go (eqb (r .day) t) refl
   where
-    go : (b : Bool) → eqb (r .day) t ≡ b → cond b r (register (r .settings) t (r .contracts) (map (catchUp (r .settings) t) (r .points))) .day ≡ t
+    go : (b : Bool) → eqb (r .day) t ≡ b
+        → cond b r (register (r .settings) t (r .contracts) (map (catchUp (r .settings) t) (r .points))) .day ≡ t
     go true e = eqb-true _ _ e
     go false e = refl
 
@@ -36,7 +37,8 @@ day-next : (r : Register) (c : Call) → r .day ≤ lastDay → applied r c .reg
 unfolding applied says answer
 day-next r c le = go (isAccepted (says r c)) refl
   where
-    go : (b : Bool) → isAccepted (says r c) ≡ b → cond b (done (c .today) (c .action) (advanced (c .today) r)) r .day ≤ lastDay
+    go : (b : Bool) → isAccepted (says r c) ≡ b
+        → cond b (done (c .today) (c .action) (advanced (c .today) r)) r .day ≤ lastDay
     go true ok =
         rw (done-day (c .today) (c .action) (advanced (c .today) r), advanced-day (c .today) r)
         (passed (r .settings) (r .day) (r .contracts) (c .today) (c .action) _ ok .calendar)
@@ -54,6 +56,7 @@ opened-day o ok =
     let b = pass _ _ _ _ (pass _ _ _ _ (pass _ _ _ _ (a .1) .1) .1) in
     ltb-false lastDay (o .day) (pass _ _ _ _ (b .1) .0)
 
-pub run-day : (o : Opening) → isAccepted (openingAnswer o) ≡ true → (cs : List Call) → after (opened o) cs .day ≤ lastDay
+pub run-day : (o : Opening) → isAccepted (openingAnswer o) ≡ true → (cs : List Call)
+    → after (opened o) cs .day ≤ lastDay
 unfolding opened
 run-day o ok cs = day-after cs (opened o) (opened-day o ok)

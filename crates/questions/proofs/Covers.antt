@@ -42,7 +42,8 @@ module _ (d : ℕ) where
   last-covers (x ∷ xs) l q z le k =
       go (leb (x .start) d && isBeforeNext d (xs ++ q ∷ l)) (covering d (xs ++ q ∷ l)) (λ y. last-covers xs l q y le k)
     where
-      go : (b : Bool) (c : List Period) → ((y : ℕ) → lastOf y (holders c) ≡ q .holder) → lastOf z (holders (cond b (x ∷ c) c)) ≡ q .holder
+      go : (b : Bool) (c : List Period) → ((y : ℕ) → lastOf y (holders c) ≡ q .holder)
+          → lastOf z (holders (cond b (x ∷ c) c)) ≡ q .holder
       go true c f = f (x .holder)
       go false c f = f z
 
@@ -53,10 +54,12 @@ module _ (d : ℕ) where
       let z : [] ≡ h ∷ [] = sym (ap holders (k .1)) ∙ q in let w : _≡_ {A = ℕ} 0 1 = cc z in absurd (omega arith)
   among-covers (suc n) ps l h le k q =
       let p : Period = getD ps n noPeriod in
-      let r : holders (covering d (take n ps ++ p ∷ l)) ≡ h ∷ [] = rw (take-suc ps n noPeriod le, append-snoc (take n ps) p l) at q in
+      let r : holders (covering d (take n ps ++ p ∷ l)) ≡ h ∷ [] =
+      rw (take-suc ps n noPeriod le, append-snoc (take n ps) p l) at q in
       elim (decLe (p .start) d) [
         | yes y ↦ rw (le-leb _ _ y) (ap holder.Holder (sym (last-covers (take n ps) l p 0 y k) ∙ ap (lastOf 0) r))
-        | no y ↦ rw (lt-leb (p .start) d (omega arith)) (among-covers n ps (p ∷ l) h (omega arith) (ahead-cons p l (omega arith) k) r)
+        | no y ↦ rw (lt-leb (p .start) d (omega arith))
+            (among-covers n ps (p ∷ l) h (omega arith) (ahead-cons p l (omega arith) k) r)
       ]
 
   pub among-covered : (n : ℕ) (ps : List Period) (h : ℕ) → n ≤ length ps → holders (covering d (take n ps)) ≡ h ∷ []

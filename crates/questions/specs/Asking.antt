@@ -1,5 +1,6 @@
--- The questions after any list of calls: what they answer is the day book's. A consequence of demand 3, over the definitions that the
--- code's `holder_of`, `period_of` and `advance_of` are proved equal to; proofs/Asking.antt proves it. Definitions only.
+-- The questions after any list of calls: what they answer is the day book's. A consequence of demand 3, over the
+-- definitions that the code's `holder_of`, `period_of` and `advance_of` are proved equal to; proofs/Asking.antt proves it.
+-- Definitions only.
 use mathlib.Core.Path.{_≡_}
 use mathlib.Core.Bool.{true}
 use mathlib.Core.List.{List, [], _∷_}
@@ -21,7 +22,8 @@ pub record Asked (o : Opening) (calls : List Call) (p : ℕ) : Type 0 where
   -- "holder of p on day d (enrolment to register's day)"
   pub holder : (e d : ℕ) → enrolments (opened o) calls p ≡ e ∷ [] → e ≤ d → d ≤ register o calls .day
       → holderAnswer (register o calls) p d ≡ holders.Holder (holderOn d (book o calls .page p .cells))
-  pub before : (e d : ℕ) → enrolments (opened o) calls p ≡ e ∷ [] → d < e → holderAnswer (register o calls) p d ≡ holders.OffRange
+  pub before : (e d : ℕ) → enrolments (opened o) calls p ≡ e ∷ [] → d < e
+      → holderAnswer (register o calls) p d ≡ holders.OffRange
   pub past : (d : ℕ) → register o calls .day < d → holderAnswer (register o calls) p d ≡ holders.OffRange
   -- "advance of p": "the sum of V × U over the accepted readings and meter changes of the list that name it"
   pub advance : (e : ℕ) → enrolments (opened o) calls p ≡ e ∷ []
@@ -32,7 +34,8 @@ pub record Asked (o : Opening) (calls : List Call) (p : ℕ) : Type 0 where
 
 pub record Asking : Type 0 where
   -- The only hypothesis is that the opening is accepted.
-  pub agree : (o : Opening) → isAccepted (openingAnswer o) ≡ true → (calls : List Call) (p : ℕ) → 1 ≤ p → p ≤ 32 → Asked o calls p
+  pub agree : (o : Opening) → isAccepted (openingAnswer o) ≡ true → (calls : List Call) (p : ℕ) → 1 ≤ p → p ≤ 32
+      → Asked o calls p
   -- no pending request is seen through the questions, and a request or its cancel changes no answer
   pub unseen : PendingUnseen
   pub requests : RequestUnseen

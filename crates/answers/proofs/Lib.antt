@@ -1,3 +1,1 @@
-pub mod Powers
-pub mod Ranges
-pub mod Tests
+pub mod Within

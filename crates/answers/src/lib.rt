@@ -1,18 +1,10 @@
 // The checks of the calls that name a point: their answers.
-mod checks;
-mod meter;
+mod ranges;
 mod rows;
 
-pub use checks::effective_day;
-pub use checks::is_accepted;
-pub use checks::is_full_kept;
-pub use checks::is_full_named;
-use checks::off_calendar_at;
-use checks::out_of_range_at;
-pub use checks::outside;
 use dates::LAST_DAY;
-pub use meter::full_turn;
-pub use meter::unit_of;
+use ranges::off_calendar_at;
+use ranges::out_of_range_at;
 use rows::ruling_at;
 use rules::Answer;
 use rules::Point;

@@ -1,15 +1,15 @@
 // The answers to the calls that name a point: the first row of the table that applies.
-use crate::checks::bad_day;
-use crate::checks::effective_day;
-use crate::checks::index_disagrees;
-use crate::checks::is_full_kept;
-use crate::checks::is_full_named;
-use crate::checks::is_pending;
-use crate::checks::no_contract;
-use crate::checks::not_enrolled;
-use crate::checks::out_of_time;
-use crate::checks::outside;
-use crate::meter::full_turn;
+use crate::ranges::is_pending;
+use crate::ranges::no_contract;
+use crate::ranges::not_enrolled;
+use checks::bad_day;
+use checks::effective_day;
+use checks::full_turn;
+use checks::index_disagrees;
+use checks::is_full_kept;
+use checks::is_full_named;
+use checks::out_of_time;
+use checks::outside;
 use holidays::working_between;
 use rules::Answer;
 use rules::Meter;

@@ -1,4 +1,5 @@
--- What the checks have seen to where they let a call through: its day and its numbers are in range, and its reading can be booked.
+-- What the checks have seen to where they let a call through: its day and its numbers are in range, and its reading can
+-- be booked.
 use mathlib.Core.Path.{_≡_}
 use mathlib.Core.Bool.{Bool, true, false, _||_, _&&_}
 use mathlib.Core.List.{List}
@@ -25,12 +26,21 @@ use Rattle.rules.specs.declared.PointAction.the-variants.{
 }
 use Rattle.rules.specs.Volumes.{fullTurn}
 use Rattle.rules.specs.Answers.{isAccepted}
-use Rattle.rules.specs.Rejections.{indexDisagrees, outOfRange, offCalendar, rows, rowsAt, acceptedAt, accepted, answerTo}
+use Rattle.rules.specs.Rejections.{
+  indexDisagrees,
+  outOfRange,
+  offCalendar,
+  rows,
+  rowsAt,
+  acceptedAt,
+  accepted,
+  answerTo,
+}
 use Rattle.rules.proofs.Accept.{pass, neither}
 use Rattle.answers.specs.Ranges.{InRange}
 use Rattle.answers.specs.Ruling.{answerAt, rulingAt}
-use Rattle.answers.proofs.Powers.{turn-most}
-use Rattle.answers.proofs.Ranges.{in-range}
+use Rattle.checks.proofs.Powers.{turn-most}
+use Rattle.answers.proofs.Within.{in-range}
 use Rattle.point.specs.Ranges.{Readable}
 
 index-small : (f : Fields) (x z : ℕ) → indexDisagrees f x z ≡ false → x ≤ 10 ^ 11
@@ -43,7 +53,8 @@ index-small f x z h =
 reads-forward : (t d l : ℕ) → (leb d l || ltb t d) ≡ false → l < d
 reads-forward t d l h = leb-false d l (neither (leb d l) (ltb t d) h .0)
 
-pub readable : (S : Settings) (u : List Bool) (t p : ℕ) (a : PointAction) (g : Point) → isAccepted (rulingAt S u t p a g) ≡ true
+pub readable : (S : Settings) (u : List Bool) (t p : ℕ) (a : PointAction) (g : Point)
+    → isAccepted (rulingAt S u t p a g) ≡ true
     → Readable t a (g .fields)
 unfolding rulingAt rowsAt
 readable S u t p (Enrol b a x) g ok = tt

@@ -1,8 +1,8 @@
 // What accepted calls do to a point.
 use crate::meter::span_to;
-use answers::effective_day;
-use answers::is_full_kept;
-use answers::is_full_named;
+use checks::effective_day;
+use checks::is_full_kept;
+use checks::is_full_named;
 use dates::LAST_DAY;
 use periods::book;
 use periods::named;

@@ -4,7 +4,7 @@ mod events;
 mod meter;
 
 use answers::answer_at;
-use answers::is_accepted;
+use checks::is_accepted;
 use effects::acted;
 pub use effects::failed;
 pub use effects::failure_fills;

@@ -1,6 +1,6 @@
 // What a reading advances.
-use answers::full_turn;
-use answers::unit_of;
+use checks::full_turn;
+use checks::unit_of;
 use rules::Fields;
 use rules::Span;
 ghost use mathlib.Core.Path.{_≡_};

@@ -1,5 +1,5 @@
 // The questions: they change nothing, and no pending request is seen through them.
-use answers::outside;
+use checks::outside;
 use periods::marks;
 use rules::AdvanceAnswer;
 use rules::History;

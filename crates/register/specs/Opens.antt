@@ -1,5 +1,5 @@
--- The law of the opening: `open` answers Ready exactly where the opening is accepted, and what `begin` makes of that is the register that
--- demand 3 starts from. Both are proved equal to their definitions, `opensWith` and `newRegister`. Definitions only.
+-- The law of the opening: `open` answers Ready exactly where the opening is accepted, and what `begin` makes of that is
+-- the register that demand 3 starts from. Both are proved equal to `opensWith` and `newRegister`. Definitions only.
 use mathlib.Core.Path.{_≡_}
 use mathlib.Core.Bool.{true}
 use Prim.Native.Nat.{ℕ}

@@ -2,8 +2,8 @@
 mod opening;
 mod points;
 
-use answers::is_accepted;
-use answers::outside;
+use checks::is_accepted;
+use checks::outside;
 use dates::LAST_DAY;
 pub use opening::begin;
 pub use opening::open;

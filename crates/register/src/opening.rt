@@ -2,7 +2,7 @@
 use crate::Opened;
 use crate::Start;
 use crate::points::blank_point;
-use answers::outside;
+use checks::outside;
 use dates::LAST_DAY;
 use rules::Opening;
 use rules::Register;

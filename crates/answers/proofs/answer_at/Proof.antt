@@ -4,15 +4,15 @@ use native.Mathlib.Omega.{arith}
 use borrow.Author.Tests.{lt-ltb, le-ltb}
 use Rattle.rules.specs.Rejections.{answerTo, firstOf, outOfRange, offCalendar, rows, accepted}
 use Rattle.answers.specs.Ruling.{rulingAt}
-use Rattle.answers.proofs.Ranges.{in-range}
+use Rattle.answers.proofs.Within.{in-range}
 use borrow.Author.Needs.{needs}
 use Rattle.answers.proofs.answer_at.Statement.{statement}
 use Rattle.answers.proofs.answer_at.Tie as tie
 use Rattle.answers.proofs.answer_at.Reads as reads
 use Rattle.answers.proofs.answer_at.Lts as lts
 use Rattle.answers.proofs.rows.ruling_at.Reads as ruling-at-reads
-use Rattle.answers.proofs.checks.off_calendar_at.Reads as off-calendar-at-reads
-use Rattle.answers.proofs.checks.out_of_range_at.Reads as out-of-range-at-reads
+use Rattle.answers.proofs.ranges.off_calendar_at.Reads as off-calendar-at-reads
+use Rattle.answers.proofs.ranges.out_of_range_at.Reads as out-of-range-at-reads
 
 out-of-range-at-requires : tie.Need-out-of-range-at-requires
 out-of-range-at-requires c κs = search needs

@@ -12,7 +12,7 @@ use Rattle.point.proofs.turn.Tie as tie
 use Rattle.point.proofs.turn.Reads as reads
 use Rattle.point.proofs.turn.Lts as lts
 use Rattle.answers.proofs.answer_at.Reads as answer-at-reads
-use Rattle.answers.proofs.is_accepted.Reads as is-accepted-reads
+use Rattle.checks.proofs.is_accepted.Reads as is-accepted-reads
 use Rattle.point.proofs.effects.acted.Reads as acted-reads
 
 answer-at-requires : tie.Need-answer-at-requires

@@ -14,7 +14,7 @@ use Rattle.register.proofs.fail.Statement.{statement}
 use Rattle.register.proofs.fail.Tie as tie
 use Rattle.register.proofs.fail.Reads as reads
 use Rattle.register.proofs.fail.Lts as lts
-use Rattle.answers.proofs.outside.Reads as outside-reads
+use Rattle.checks.proofs.outside.Reads as outside-reads
 use Rattle.register.proofs.fail_under_contract.Reads as fail-under-contract-reads
 use Rattle.register.proofs.refused.Reads as refused-reads
 

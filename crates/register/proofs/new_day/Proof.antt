@@ -5,7 +5,7 @@ use native.Mathlib.Omega.{arith}
 use borrow.Author.Tests.{lt-ltb, le-ltb, eq-eqb, ne-eqb, not-true, not-false}
 use Rattle.rules.specs.Rejections.{answer, answerTo, firstOf, outOfRange, offCalendar, rows, accepted}
 use Rattle.rules.specs.Register.{says, done, applied}
-use Rattle.answers.proofs.Ranges.{at-most}
+use Rattle.answers.proofs.Within.{at-most}
 use Rattle.register.proofs.AtPoint.{advanced-on, at-refused, at-accepted, point-in}
 use borrow.Author.Needs.{needs}
 use Rattle.register.proofs.new_day.Statement.{statement}

@@ -5,14 +5,14 @@ use native.Mathlib.Omega.{arith}
 use borrow.Author.Tests.{lt-ltb, le-ltb, eq-eqb, ne-eqb, not-true, not-false}
 use Rattle.rules.specs.Rejections.{answer, answerTo, firstOf, outOfRange, offCalendar, rows, accepted}
 use Rattle.rules.specs.Register.{says, done, applied}
-use Rattle.answers.proofs.Ranges.{at-most}
+use Rattle.answers.proofs.Within.{at-most}
 use Rattle.register.proofs.AtPoint.{advanced-on, at-refused, at-accepted, point-in}
 use borrow.Author.Needs.{needs}
 use Rattle.register.proofs.sign_contract.Statement.{statement}
 use Rattle.register.proofs.sign_contract.Tie as tie
 use Rattle.register.proofs.sign_contract.Reads as reads
 use Rattle.register.proofs.sign_contract.Lts as lts
-use Rattle.answers.proofs.outside.Reads as outside-reads
+use Rattle.checks.proofs.outside.Reads as outside-reads
 use Rattle.register.proofs.accepted.Reads as accepted-reads
 use Rattle.register.proofs.points.advance.Reads as advance-reads
 use Rattle.register.proofs.refused.Reads as refused-reads

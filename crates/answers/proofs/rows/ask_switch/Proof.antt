@@ -10,12 +10,12 @@ use Rattle.answers.proofs.rows.ask_switch.Tie as tie
 use Rattle.answers.proofs.rows.ask_switch.Reads as reads
 use Rattle.answers.proofs.rows.ask_switch.Lts as lts
 use Rattle.answers.proofs.rows.last_rows.Reads as last-rows-reads
-use Rattle.answers.proofs.checks.bad_day.Reads as bad-day-reads
-use Rattle.answers.proofs.checks.effective_day.Reads as effective-day-reads
-use Rattle.answers.proofs.checks.is_full_kept.Reads as is-full-kept-reads
-use Rattle.answers.proofs.checks.is_pending.Reads as is-pending-reads
-use Rattle.answers.proofs.checks.no_contract.Reads as no-contract-reads
-use Rattle.answers.proofs.checks.not_enrolled.Reads as not-enrolled-reads
+use Rattle.checks.proofs.bad_day.Reads as bad-day-reads
+use Rattle.checks.proofs.effective_day.Reads as effective-day-reads
+use Rattle.checks.proofs.is_full_kept.Reads as is-full-kept-reads
+use Rattle.answers.proofs.ranges.is_pending.Reads as is-pending-reads
+use Rattle.answers.proofs.ranges.no_contract.Reads as no-contract-reads
+use Rattle.answers.proofs.ranges.not_enrolled.Reads as not-enrolled-reads
 
 no-contract-requires : tie.Need-no-contract-requires
 no-contract-requires c κs = search needs

@@ -10,7 +10,7 @@ use Rattle.answers.proofs.rows.cancel.Tie as tie
 use Rattle.answers.proofs.rows.cancel.Reads as reads
 use Rattle.answers.proofs.rows.cancel.Lts as lts
 use Rattle.holidays.proofs.working_between.Reads as working-between-reads
-use Rattle.answers.proofs.checks.not_enrolled.Reads as not-enrolled-reads
+use Rattle.answers.proofs.ranges.not_enrolled.Reads as not-enrolled-reads
 
 not-enrolled-requires : tie.Need-not-enrolled-requires
 not-enrolled-requires c κs = search needs

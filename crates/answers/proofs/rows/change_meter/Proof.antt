@@ -9,10 +9,10 @@ use Rattle.answers.proofs.rows.change_meter.Statement.{statement}
 use Rattle.answers.proofs.rows.change_meter.Tie as tie
 use Rattle.answers.proofs.rows.change_meter.Reads as reads
 use Rattle.answers.proofs.rows.change_meter.Lts as lts
-use Rattle.answers.proofs.checks.index_disagrees.Reads as index-disagrees-reads
-use Rattle.answers.proofs.checks.not_enrolled.Reads as not-enrolled-reads
-use Rattle.answers.proofs.checks.out_of_time.Reads as out-of-time-reads
-use Rattle.answers.proofs.meter.full_turn.Reads as full-turn-reads
+use Rattle.checks.proofs.index_disagrees.Reads as index-disagrees-reads
+use Rattle.answers.proofs.ranges.not_enrolled.Reads as not-enrolled-reads
+use Rattle.checks.proofs.out_of_time.Reads as out-of-time-reads
+use Rattle.checks.proofs.full_turn.Reads as full-turn-reads
 
 not-enrolled-requires : tie.Need-not-enrolled-requires
 not-enrolled-requires c κs = search needs

@@ -9,8 +9,8 @@ use Rattle.answers.proofs.rows.enrol.Statement.{statement}
 use Rattle.answers.proofs.rows.enrol.Tie as tie
 use Rattle.answers.proofs.rows.enrol.Reads as reads
 use Rattle.answers.proofs.rows.enrol.Lts as lts
-use Rattle.answers.proofs.checks.outside.Reads as outside-reads
-use Rattle.answers.proofs.meter.full_turn.Reads as full-turn-reads
+use Rattle.checks.proofs.outside.Reads as outside-reads
+use Rattle.checks.proofs.full_turn.Reads as full-turn-reads
 
 outside-requires : tie.Need-outside-requires
 outside-requires c κs = search needs

@@ -9,9 +9,9 @@ use Rattle.answers.proofs.rows.into_service.Statement.{statement}
 use Rattle.answers.proofs.rows.into_service.Tie as tie
 use Rattle.answers.proofs.rows.into_service.Reads as reads
 use Rattle.answers.proofs.rows.into_service.Lts as lts
-use Rattle.answers.proofs.checks.is_full_named.Reads as is-full-named-reads
-use Rattle.answers.proofs.checks.no_contract.Reads as no-contract-reads
-use Rattle.answers.proofs.checks.not_enrolled.Reads as not-enrolled-reads
+use Rattle.checks.proofs.is_full_named.Reads as is-full-named-reads
+use Rattle.answers.proofs.ranges.no_contract.Reads as no-contract-reads
+use Rattle.answers.proofs.ranges.not_enrolled.Reads as not-enrolled-reads
 
 no-contract-requires : tie.Need-no-contract-requires
 no-contract-requires c κs = search needs

@@ -9,8 +9,8 @@ use Rattle.answers.proofs.rows.out_of_service.Statement.{statement}
 use Rattle.answers.proofs.rows.out_of_service.Tie as tie
 use Rattle.answers.proofs.rows.out_of_service.Reads as reads
 use Rattle.answers.proofs.rows.out_of_service.Lts as lts
-use Rattle.answers.proofs.checks.is_full_named.Reads as is-full-named-reads
-use Rattle.answers.proofs.checks.not_enrolled.Reads as not-enrolled-reads
+use Rattle.checks.proofs.is_full_named.Reads as is-full-named-reads
+use Rattle.answers.proofs.ranges.not_enrolled.Reads as not-enrolled-reads
 
 not-enrolled-requires : tie.Need-not-enrolled-requires
 not-enrolled-requires c κs = search needs

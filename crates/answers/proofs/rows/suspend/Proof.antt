@@ -9,7 +9,7 @@ use Rattle.answers.proofs.rows.suspend.Statement.{statement}
 use Rattle.answers.proofs.rows.suspend.Tie as tie
 use Rattle.answers.proofs.rows.suspend.Reads as reads
 use Rattle.answers.proofs.rows.suspend.Lts as lts
-use Rattle.answers.proofs.checks.not_enrolled.Reads as not-enrolled-reads
+use Rattle.answers.proofs.ranges.not_enrolled.Reads as not-enrolled-reads
 
 not-enrolled-requires : tie.Need-not-enrolled-requires
 not-enrolled-requires c κs = search needs

@@ -8,7 +8,7 @@ use Rattle.point.proofs.effects.acted.Statement.{statement}
 use Rattle.point.proofs.effects.acted.Tie as tie
 use Rattle.point.proofs.effects.acted.Reads as reads
 use Rattle.point.proofs.effects.acted.Lts as lts
-use Rattle.answers.proofs.effective_day.Reads as effective-day-reads
+use Rattle.checks.proofs.effective_day.Reads as effective-day-reads
 use Rattle.point.proofs.effects.default_supply.Reads as default-supply-reads
 use Rattle.point.proofs.effects.enrol.Reads as enrol-reads
 use Rattle.point.proofs.effects.into_service.Reads as into-service-reads

@@ -7,8 +7,8 @@ use Rattle.point.proofs.effects.failure_fills.Statement.{statement}
 use Rattle.point.proofs.effects.failure_fills.Tie as tie
 use Rattle.point.proofs.effects.failure_fills.Reads as reads
 use Rattle.point.proofs.effects.failure_fills.Lts as lts
-use Rattle.answers.proofs.is_full_kept.Reads as is-full-kept-reads
-use Rattle.answers.proofs.is_full_named.Reads as is-full-named-reads
+use Rattle.checks.proofs.is_full_kept.Reads as is-full-kept-reads
+use Rattle.checks.proofs.is_full_named.Reads as is-full-named-reads
 use Rattle.point.proofs.effects.dropped.Reads as dropped-reads
 use Rattle.point.proofs.effects.is_by.Reads as is-by-reads
 

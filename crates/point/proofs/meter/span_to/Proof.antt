@@ -1,6 +1,6 @@
 use mathlib.Core.Path.{refl}
 use native.Mathlib.Omega.{arith}
-use Rattle.answers.proofs.Powers.{turn-most, unit-most}
+use Rattle.checks.proofs.Powers.{turn-most, unit-most}
 -- A reading's span, field by field.
 use Rattle.rules.specs.Volumes.{spanTo}
 use borrow.Author.Needs.{needs}
@@ -9,8 +9,8 @@ use Rattle.point.proofs.meter.span_to.Tie as tie
 use Rattle.point.proofs.meter.span_to.Reads as reads
 use Rattle.point.proofs.meter.span_to.Lts as lts
 use Rattle.point.proofs.meter.advance.Reads as advance-reads
-use Rattle.answers.proofs.full_turn.Reads as full-turn-reads
-use Rattle.answers.proofs.unit_of.Reads as unit-of-reads
+use Rattle.checks.proofs.full_turn.Reads as full-turn-reads
+use Rattle.checks.proofs.unit_of.Reads as unit-of-reads
 
 full-turn-requires : tie.Need-full-turn-requires
 full-turn-requires c κs = search needs

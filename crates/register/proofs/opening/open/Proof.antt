@@ -3,14 +3,14 @@ use native.Mathlib.Omega.{arith}
 use mathlib.Core.Path.{_≡_, refl, sym, _∙_, ap}
 use borrow.Author.Tests.{lt-ltb, le-ltb, le-leb, lt-leb, eq-eqb, ne-eqb}
 use Rattle.rules.specs.Rejections.{openingAnswer, firstOf}
-use Rattle.answers.proofs.Ranges.{at-most}
+use Rattle.answers.proofs.Within.{at-most}
 use Rattle.register.specs.Calls.{opensWith}
 use borrow.Author.Needs.{needs}
 use Rattle.register.proofs.opening.open.Statement.{statement}
 use Rattle.register.proofs.opening.open.Tie as tie
 use Rattle.register.proofs.opening.open.Reads as reads
 use Rattle.register.proofs.opening.open.Lts as lts
-use Rattle.answers.proofs.outside.Reads as outside-reads
+use Rattle.checks.proofs.outside.Reads as outside-reads
 
 outside-requires : tie.Need-outside-requires
 outside-requires c κs = search needs

@@ -1,6 +1,6 @@
 // Messages that concern one point at the most, on a day before anything falls due.
-use answers::is_accepted;
-use answers::outside;
+use checks::is_accepted;
+use checks::outside;
 use dates::LAST_DAY;
 use message::Message;
 use point::Ruling;

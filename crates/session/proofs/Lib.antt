@@ -1,2 +1,5 @@
 pub mod Capped
 pub mod Turns
+pub mod Sized
+pub mod Served
+pub mod Told

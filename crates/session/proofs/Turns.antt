@@ -4,19 +4,23 @@ use mathlib.Core.Path.{_≡_, refl, sym, ap, ap₂, _∙_}
 use mathlib.Core.Bool.{Bool, true, false}
 use mathlib.Core.List.{List, [], _∷_, _++_, append-assoc, append-nil}
 use native.Mathlib.Omega.{arith}
-use native.Mathlib.Nat.{zero-add}
+use native.Mathlib.Nat.{zero-add, not-suc-le-zero}
+use native.Mathlib.Decide.{decLe}
+use borrow.Author.Tests.{eq-eqb, ne-eqb}
 use lib.ListN.{length, take, drop, getD, set, length-drop, length-take, take-append-drop}
 use lib.Seq.{drop-drop, take-all, length-take-le}
 use Rattle.rules.specs.declared.Register.{Register}
 use Rattle.rules.specs.declared.Answer.{Answer}
 use Rattle.point.specs.declared.Ruling.{Ruling}
 use Rattle.text.specs.Appending.{put, Appended}
-use Rattle.text.proofs.Appends.{room-put, put-drop, appended-take, appended-length}
+use Rattle.text.proofs.Appends.{room-put, put-drop, put-none, appended-take, appended-length}
 use Rattle.message.specs.declared.Message.{Message}
 use Rattle.message.specs.Lines.{kindOf}
 use Rattle.message.specs.Reading.{readLine}
 use Rattle.answer_lines.specs.Answers.{answerLine}
 use Rattle.answer_lines.proofs.LineTexts.{answer-short}
+use Rattle.listing.specs.declared.Listed.{Listed}
+use Rattle.listing.specs.Listing.{ListedFrom}
 use Rattle.input.specs.declared.Part.{Part}
 use Rattle.input.specs.Lines.{untilFeed, feeds, fitting}
 use Rattle.input.specs.Part.{capped, kept, partOf}
@@ -34,7 +38,7 @@ use Rattle.desk.proofs.OnePoint.{placed, pointIn, signedIn, quick-reply}
 use Rattle.session.specs.declared.Session.{Session}
 use Rattle.session.specs.declared.Fed.{Fed}
 use Rattle.session.specs.declared.pieces.Answered.{Answered}
-use Rattle.session.specs.Session.{nextDesk, sayLine, runOf, runFrom, AnsweredBy, fedAs, FedBy}
+use Rattle.session.specs.Session.{nextDesk, sayLine, runOf, runFrom, AnsweredBy, fedAs, FedBy, missingFeed, ClosedFrom}
 
 -- What holds at the loop's head.
 pub record Going (piece out₀ : List ℕ) (d₀ : Desk) (part₀ out : List ℕ) (part : Part) (ready : Bool) (reg : Register)
@@ -212,3 +216,19 @@ piece-fed s piece before after n x e w =
       result = rw (w .result, e);
       bytes = rw (← e) (w .bytes);
     }
+
+-- ---- the end of the input
+
+pub missing-taken : (s : Session) (n : ℕ) → n ≡ min (s .part .len) 1 → missingFeed s ≡ take n (10 ∷ [])
+missing-taken s n e = elim (decLe 1 (s .part .len)) [
+  | yes h ↦ (let k : n ≡ 1 = omega arith in rw (k, ne-eqb (s .part .len) 0 (λ z. not-suc-le-zero {n = 0} (omega arith))))
+  | no h ↦ (let k : n ≡ 0 = omega arith in rw (k, eq-eqb (s .part .len) 0 (omega arith)))
+]
+
+pub closed-ready : (d : Desk) (from : ℕ) (before after : List ℕ) (x : Listed) → d .ready ≡ true →
+    ListedFrom (d .register) from before after x → ClosedFrom d from before after x
+closed-ready d from before after x e h = record { bytes = rw e (h .bytes); answer = rw e (h .answer) }
+
+pub closed-unready : (d : Desk) (from : ℕ) (out : List ℕ) → d .ready ≡ false →
+    ClosedFrom d from out out (record { next = 32; written = 0 })
+closed-unready d from out e = record { bytes = rw e (sym (put-none 0 out)); answer = rw e }

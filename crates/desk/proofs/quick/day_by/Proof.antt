@@ -3,7 +3,7 @@ use Rattle.desk.proofs.quick.day_by.Statement.{statement}
 use Rattle.desk.proofs.quick.day_by.Tie as tie
 use Rattle.desk.proofs.quick.day_by.Reads as reads
 use Rattle.desk.proofs.quick.day_by.Lts as lts
-use Rattle.answers.proofs.is_accepted.Reads as is-accepted-reads
+use Rattle.checks.proofs.is_accepted.Reads as is-accepted-reads
 use mathlib.Core.Path.{sym, _∙_}
 use Rattle.desk.proofs.Dues.{day-late, day-on, day-kept}
 

@@ -3,7 +3,7 @@ use Rattle.desk.proofs.quick.is_small.Statement.{statement}
 use Rattle.desk.proofs.quick.is_small.Tie as tie
 use Rattle.desk.proofs.quick.is_small.Reads as reads
 use Rattle.desk.proofs.quick.is_small.Lts as lts
-use Rattle.answers.proofs.outside.Reads as outside-reads
+use Rattle.checks.proofs.outside.Reads as outside-reads
 
 enum-told : tie.Need-enum-told
 enum-told c = search needs

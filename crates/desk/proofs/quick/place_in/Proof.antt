@@ -3,7 +3,7 @@ use Rattle.desk.proofs.quick.place_in.Statement.{statement}
 use Rattle.desk.proofs.quick.place_in.Tie as tie
 use Rattle.desk.proofs.quick.place_in.Reads as reads
 use Rattle.desk.proofs.quick.place_in.Lts as lts
-use Rattle.answers.proofs.outside.Reads as outside-reads
+use Rattle.checks.proofs.outside.Reads as outside-reads
 use mathlib.Core.Path.{sym, _∙_}
 use Rattle.desk.proofs.OnePoint.{point-least}
 

@@ -3,7 +3,7 @@ use Rattle.desk.proofs.quick.supplier_in.Statement.{statement}
 use Rattle.desk.proofs.quick.supplier_in.Tie as tie
 use Rattle.desk.proofs.quick.supplier_in.Reads as reads
 use Rattle.desk.proofs.quick.supplier_in.Lts as lts
-use Rattle.answers.proofs.outside.Reads as outside-reads
+use Rattle.checks.proofs.outside.Reads as outside-reads
 
 enum-known-a : tie.Need-enum-known-a
 enum-known-a c = search needs

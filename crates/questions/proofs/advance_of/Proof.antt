@@ -26,7 +26,14 @@ sum-of-requires c κs = search needs
 
 returns-2 : tie.Need-returns-2
 unfolding advanceAnswer
-returns-2 c = rw (← (c .before .before .before .before .before .is-unasked .ensures), c .before .before .before .before .if1 .left, ← (c .before .before .before .history-of .ensures), ← (c .before .marks .ensures), c .sum-of .ensures)
+returns-2 c =
+    rw (
+      ← (c .before .before .before .before .before .is-unasked .ensures),
+      c .before .before .before .before .if1 .left,
+      ← (c .before .before .before .history-of .ensures),
+      ← (c .before .marks .ensures),
+      c .sum-of .ensures,
+    )
 
 pub advance-of-spec : {M : Type 1} → statement M
 advance-of-spec =

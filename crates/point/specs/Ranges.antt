@@ -1,6 +1,9 @@
--- What the checks have seen to before a reading is booked. Definitions only.
+-- A reading that a meter makes, and what the checks have seen to before it is booked. Definitions only.
 use Prim.Native.Nat.{ℕ, _≤_, _<_}
 use Rattle.rules.specs.declared.Fields.{Fields}
+use Rattle.rules.specs.declared.Meter.{Meter}
+use Rattle.rules.specs.declared.Reading.{Reading}
+use Rattle.rules.specs.declared.Span.{Span}
 use Rattle.rules.specs.declared.PointAction.{PointAction}
 use Rattle.rules.specs.declared.PointAction.the-variants.{
   Enrol,
@@ -13,6 +16,12 @@ use Rattle.rules.specs.declared.PointAction.the-variants.{
   OutOfService,
   Suspend,
 }
+use Rattle.rules.specs.Volumes.{fullTurn, unitOf, advanceOf}
+
+-- `spanTo`, by the meter read and the last reading.
+abbrev pub spanBy : Meter → Reading → ℕ → ℕ → ℕ → Span
+spanBy m last d x z =
+    record { from = last .day; to = d; advance = advanceOf (last .index) x z (fullTurn m); unit = unitOf m }
 
 -- Numbers 27 and 28 do not apply: a reading goes forward, and its index is below the largest full turn.
 abbrev pub Readable : ℕ → PointAction → Fields → Type 0

@@ -129,7 +129,9 @@ fn read(d: u32, x: u64, z: u64, m: Meter, y: u64, g: Point) -> Point
 {
     let f = g.fields;
     let h = g.history;
-    let s = span_to(f, d, x, z);
+    let old = f.meter;
+    let last = f.reading;
+    let s = span_to(old, last, d, x, z);
     Point {
         fields: Fields {
             meter: m,

@@ -1,11 +1,13 @@
 // What a reading advances.
 use checks::full_turn;
 use checks::unit_of;
-use rules::Fields;
+use rules::Meter;
+use rules::Reading;
 use rules::Span;
 ghost use mathlib.Core.Path.{_≡_};
 ghost use Prim.Native.Nat.{_+_, _-_, _≤_, _<_};
-ghost use Rattle.rules.specs.Volumes.{advanceOf, spanTo};
+ghost use Rattle.rules.specs.Volumes.{advanceOf};
+ghost use Rattle.point.specs.Ranges.{spanBy};
 
 fn less(a: u64, b: u64) -> u64
     ensures { λ r. ⌜ r ≡ a - b ⌝ }
@@ -24,13 +26,11 @@ fn advance(last: u64, x: u64, z: u64, turn: u64) -> u64
     less(x, last)
 }
 
-// A reading of x on day d, from the last reading on.
-pub(crate) fn span_to(f: Fields, d: u32, x: u64, z: u64) -> Span
+// A reading of x on day d with meter m, from the last reading on.
+pub(crate) fn span_to(m: Meter, last: Reading, d: u32, x: u64, z: u64) -> Span
     requires { ⌜ (x ≤ 100000000000) × (z ≤ 1) ⌝ }
-    ensures { λ r. ⌜ (r ≡ spanTo f d x z) × (r .advance ≤ 200000000000) × (r .unit ≤ 1000) ⌝ }
+    ensures { λ r. ⌜ (r ≡ spanBy m last d x z) × (r .advance ≤ 200000000000) × (r .unit ≤ 1000) ⌝ }
 {
-    let m = f.meter;
-    let last = f.reading;
     let turn = full_turn(m);
     Span {
         from: last.day,

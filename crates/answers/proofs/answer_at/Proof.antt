@@ -36,11 +36,26 @@ off-calendar-at-requires c κs = search needs
 
 returns-3 : tie.Need-returns-3
 unfolding answerTo outOfRange offCalendar rows accepted firstOf
-returns-3 c = rw (← (c .before .before .before .before .out-of-range-at .ensures), c .before .before .before .if1 .left, le-ltb _ _ (c .before .before .if2 .left), ← (c .before .off-calendar-at .ensures), c .if3 .taken)
+returns-3 c =
+    rw (
+      ← (c .before .before .before .before .out-of-range-at .ensures),
+      c .before .before .before .if1 .left,
+      le-ltb _ _ (c .before .before .if2 .left),
+      ← (c .before .off-calendar-at .ensures),
+      c .if3 .taken,
+    )
 
 returns-4 : tie.Need-returns-4
 unfolding answerTo outOfRange offCalendar rows accepted firstOf
-returns-4 c = rw (← (c .before .before .before .before .before .out-of-range-at .ensures), c .before .before .before .before .if1 .left, le-ltb _ _ (c .before .before .before .if2 .left), ← (c .before .before .off-calendar-at .ensures), c .before .if3 .left, lt-ltb _ _ (c .if4 .taken))
+returns-4 c =
+    rw (
+      ← (c .before .before .before .before .before .out-of-range-at .ensures),
+      c .before .before .before .before .if1 .left,
+      le-ltb _ _ (c .before .before .before .if2 .left),
+      ← (c .before .before .off-calendar-at .ensures),
+      c .before .if3 .left,
+      lt-ltb _ _ (c .if4 .taken),
+    )
 
 ruling-at-requires : tie.Need-ruling-at-requires
 ruling-at-requires c κs = let s = c .before .before .before .before .before .before .args in
@@ -48,7 +63,16 @@ ruling-at-requires c κs = let s = c .before .before .before .before .before .be
 
 returns-5 : tie.Need-returns-5
 unfolding answerTo outOfRange offCalendar rows accepted firstOf rulingAt
-returns-5 c = rw (← (c .before .before .before .before .before .before .out-of-range-at .ensures), c .before .before .before .before .before .if1 .left, le-ltb _ _ (c .before .before .before .before .if2 .left), ← (c .before .before .before .off-calendar-at .ensures), c .before .before .if3 .left, le-ltb _ _ (c .before .if4 .left)) (c .ruling-at .ensures)
+returns-5 c =
+    rw (
+      ← (c .before .before .before .before .before .before .out-of-range-at .ensures),
+      c .before .before .before .before .before .if1 .left,
+      le-ltb _ _ (c .before .before .before .before .if2 .left),
+      ← (c .before .before .before .off-calendar-at .ensures),
+      c .before .before .if3 .left,
+      le-ltb _ _ (c .before .if4 .left),
+    )
+    (c .ruling-at .ensures)
 
 pub answer-at-spec : {M : Type 1} → statement M
 answer-at-spec =

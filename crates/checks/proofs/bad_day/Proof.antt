@@ -16,7 +16,12 @@ three-months-after-requires : tie.Need-three-months-after-requires
 three-months-after-requires c κs = search needs
 
 returns-2 : tie.Need-returns-2
-returns-2 c = rw (le-ltb _ _ (c .before .before .if1 .left), ← (c .before .three-months-after .ensures), lt-ltb _ _ (c .if2 .taken))
+returns-2 c =
+    rw (
+      le-ltb _ _ (c .before .before .if1 .left),
+      ← (c .before .three-months-after .ensures),
+      lt-ltb _ _ (c .if2 .taken),
+    )
 
 cast-result : tie.Need-cast-result
 cast-result c = search needs
@@ -25,7 +30,13 @@ effective-day-requires : tie.Need-effective-day-requires
 effective-day-requires c κs = search needs
 
 returns-3 : tie.Need-returns-3
-returns-3 c = rw (le-ltb _ _ (c .before .before .before .if1 .left), ← (c .before .before .three-months-after .ensures), le-ltb _ _ (c .before .if2 .left), c .effective-day .ensures)
+returns-3 c =
+    rw (
+      le-ltb _ _ (c .before .before .before .if1 .left),
+      ← (c .before .before .three-months-after .ensures),
+      le-ltb _ _ (c .before .if2 .left),
+      c .effective-day .ensures,
+    )
 
 pub bad-day-spec : {M : Type 1} → statement M
 bad-day-spec =

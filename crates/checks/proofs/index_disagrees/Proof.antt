@@ -13,7 +13,9 @@ returns : tie.Need-returns
 returns c = rw (le-leb _ _ (c .if1 .taken))
 
 returns-2 : tie.Need-returns-2
-returns-2 c = rw (lt-leb _ _ (c .before .if1 .left)) (at-zero (c .before .before .args .z) (c .before .before .args .x) (c .before .before .args .last) (c .if2 .taken))
+returns-2 c =
+    rw (lt-leb _ _ (c .before .if1 .left))
+    (at-zero (c .before .before .args .z) (c .before .before .args .x) (c .before .before .args .last) (c .if2 .taken))
 
 returns-3 : tie.Need-returns-3
 returns-3 c = rw (lt-leb _ _ (c .before .before .if1 .left)) (at-one (c .before .before .before .args .z) (c .before .before .before .args .x) (c .before .before .before .args .last) (c .if3 .taken))

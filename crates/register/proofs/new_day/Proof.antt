@@ -34,7 +34,12 @@ refused-requires-2 c κs = search needs
 
 returns-2 : tie.Need-returns-2
 unfolding applied says answer answerTo outOfRange offCalendar rows accepted firstOf
-returns-2 c = rw (le-ltb _ _ (c .before .before .before .if1 .left), lt-ltb _ _ (c .before .if2 .taken)) (c .refused2 .ensures)
+returns-2 c =
+    rw (
+      le-ltb _ _ (c .before .before .before .if1 .left),
+      lt-ltb _ _ (c .before .if2 .taken),
+    )
+    (c .refused2 .ensures)
 
 advance-requires : tie.Need-advance-requires
 advance-requires c κs = search needs

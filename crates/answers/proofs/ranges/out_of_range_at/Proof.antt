@@ -91,11 +91,23 @@ outside-requires-13 c κs = search needs
 
 returns : tie.Need-returns
 unfolding outOfRangeAt
-returns c = rw (c .before .before .before .before .a .given .1, ← (c .before .before .outside .ensures), ← (c .before .outside2 .ensures)) (c .or .ensures)
+returns c =
+    rw (
+      c .before .before .before .before .a .given .1,
+      ← (c .before .before .outside .ensures),
+      ← (c .before .outside2 .ensures),
+    )
+    (c .or .ensures)
 
 returns-2 : tie.Need-returns-2
 unfolding outOfRangeAt
-returns-2 c = rw (c .before .before .before .before .a2 .given .1, ← (c .before .before .outside3 .ensures), ← (c .before .outside4 .ensures)) (c .or2 .ensures)
+returns-2 c =
+    rw (
+      c .before .before .before .before .a2 .given .1,
+      ← (c .before .before .outside3 .ensures),
+      ← (c .before .outside4 .ensures),
+    )
+    (c .or2 .ensures)
 
 returns-3 : tie.Need-returns-3
 unfolding outOfRangeAt
@@ -103,7 +115,13 @@ returns-3 c = rw (c .before .before .a3 .given .1) (c .outside5 .ensures)
 
 returns-4 : tie.Need-returns-4
 unfolding outOfRangeAt
-returns-4 c = rw (c .before .before .before .before .a4 .given .1, ← (c .before .before .outside6 .ensures), ← (c .before .outside7 .ensures)) (c .or3 .ensures)
+returns-4 c =
+    rw (
+      c .before .before .before .before .a4 .given .1,
+      ← (c .before .before .outside6 .ensures),
+      ← (c .before .outside7 .ensures),
+    )
+    (c .or3 .ensures)
 
 returns-5 : tie.Need-returns-5
 unfolding outOfRangeAt
@@ -115,7 +133,15 @@ returns-6 c = rw (c .before .before .a6 .given .1) (c .outside9 .ensures)
 
 returns-7 : tie.Need-returns-7
 unfolding outOfRangeAt
-returns-7 c = rw (c .before .before .before .before .before .before .a7 .given .1, ← (c .before .before .before .before .outside10 .ensures), ← (c .before .before .before .outside11 .ensures), ← (c .before .before .outside12 .ensures), ← (c .before .or4 .ensures)) (c .or5 .ensures)
+returns-7 c =
+    rw (
+      c .before .before .before .before .before .before .a7 .given .1,
+      ← (c .before .before .before .before .outside10 .ensures),
+      ← (c .before .before .before .outside11 .ensures),
+      ← (c .before .before .outside12 .ensures),
+      ← (c .before .or4 .ensures),
+    )
+    (c .or5 .ensures)
 
 returns-8 : tie.Need-returns-8
 unfolding outOfRangeAt

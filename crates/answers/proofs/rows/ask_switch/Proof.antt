@@ -29,7 +29,13 @@ not-enrolled-requires c κs = search needs
 
 returns-2 : tie.Need-returns-2
 unfolding rulingAt rowsAt acceptedAt firstOf
-returns-2 c = rw (← (c .before .before .before .no-contract .ensures), c .before .before .if1 .left, ← (c .before .not-enrolled .ensures), c .if2 .taken)
+returns-2 c =
+    rw (
+      ← (c .before .before .before .no-contract .ensures),
+      c .before .before .if1 .left,
+      ← (c .before .not-enrolled .ensures),
+      c .if2 .taken,
+    )
 
 cast-bad-day : tie.Need-cast-bad-day
 cast-bad-day c = search needs
@@ -39,21 +45,49 @@ bad-day-requires c κs = search needs
 
 returns-3 : tie.Need-returns-3
 unfolding rulingAt rowsAt acceptedAt firstOf
-returns-3 c = rw (← (c .before .before .before .before .before .no-contract .ensures), c .before .before .before .before .if1 .left, ← (c .before .before .before .not-enrolled .ensures), c .before .before .if2 .left, ← (c .before .bad-day .ensures), c .if3 .taken)
+returns-3 c =
+    rw (
+      ← (c .before .before .before .before .before .no-contract .ensures),
+      c .before .before .before .before .if1 .left,
+      ← (c .before .before .before .not-enrolled .ensures),
+      c .before .before .if2 .left,
+      ← (c .before .bad-day .ensures),
+      c .if3 .taken,
+    )
 
 cast-if4 : tie.Need-cast-if4
 cast-if4 c = search needs
 
 returns-4 : tie.Need-returns-4
 unfolding rulingAt rowsAt acceptedAt firstOf
-returns-4 c = rw (← (c .before .before .before .before .before .before .before .no-contract .ensures), c .before .before .before .before .before .before .if1 .left, ← (c .before .before .before .before .before .not-enrolled .ensures), c .before .before .before .before .if2 .left, ← (c .before .before .before .bad-day .ensures), c .before .before .if3 .left, ne-eqb _ _ (c .if4 .taken))
+returns-4 c =
+    rw (
+      ← (c .before .before .before .before .before .before .before .no-contract .ensures),
+      c .before .before .before .before .before .before .if1 .left,
+      ← (c .before .before .before .before .before .not-enrolled .ensures),
+      c .before .before .before .before .if2 .left,
+      ← (c .before .before .before .bad-day .ensures),
+      c .before .before .if3 .left,
+      ne-eqb _ _ (c .if4 .taken),
+    )
 
 is-pending-requires : tie.Need-is-pending-requires
 is-pending-requires c κs = search needs
 
 returns-5 : tie.Need-returns-5
 unfolding rulingAt rowsAt acceptedAt firstOf
-returns-5 c = rw (← (c .before .before .before .before .before .before .before .before .before .no-contract .ensures), c .before .before .before .before .before .before .before .before .if1 .left, ← (c .before .before .before .before .before .before .before .not-enrolled .ensures), c .before .before .before .before .before .before .if2 .left, ← (c .before .before .before .before .before .bad-day .ensures), c .before .before .before .before .if3 .left, eq-eqb _ _ (c .before .before .if4 .left), ← (c .before .is-pending .ensures), c .if5 .taken)
+returns-5 c =
+    rw (
+      ← (c .before .before .before .before .before .before .before .before .before .no-contract .ensures),
+      c .before .before .before .before .before .before .before .before .if1 .left,
+      ← (c .before .before .before .before .before .before .before .not-enrolled .ensures),
+      c .before .before .before .before .before .before .if2 .left,
+      ← (c .before .before .before .before .before .bad-day .ensures),
+      c .before .before .before .before .if3 .left,
+      eq-eqb _ _ (c .before .before .if4 .left),
+      ← (c .before .is-pending .ensures),
+      c .if5 .taken,
+    )
 
 returns-6 : tie.Need-returns-6
 unfolding rulingAt rowsAt acceptedAt firstOf

@@ -27,14 +27,25 @@ enum-told c = search needs
 
 returns-2 : tie.Need-returns-2
 unfolding rulingAt rowsAt acceptedAt firstOf
-returns-2 c = rw (← (c .before .before .before .not-enrolled .ensures), c .before .before .if1 .left, c .enum-told .given .1)
+returns-2 c =
+    rw (
+      ← (c .before .before .before .not-enrolled .ensures),
+      c .before .before .if1 .left,
+      c .enum-told .given .1,
+    )
 
 cast-if2 : tie.Need-cast-if2
 cast-if2 c = search needs
 
 returns-3 : tie.Need-returns-3
 unfolding rulingAt rowsAt acceptedAt firstOf
-returns-3 c = rw (← (c .before .before .before .before .before .not-enrolled .ensures), c .before .before .before .before .if1 .left, c .before .before .q .given .1, ne-eqb _ _ (c .if2 .taken))
+returns-3 c =
+    rw (
+      ← (c .before .before .before .before .before .not-enrolled .ensures),
+      c .before .before .before .before .if1 .left,
+      c .before .before .q .given .1,
+      ne-eqb _ _ (c .if2 .taken),
+    )
 
 cast-working-between : tie.Need-cast-working-between
 cast-working-between c = search needs
@@ -47,11 +58,27 @@ cast-if3 c = search needs
 
 returns-4 : tie.Need-returns-4
 unfolding rulingAt rowsAt acceptedAt firstOf
-returns-4 c = rw (← (c .before .before .before .before .before .before .before .before .not-enrolled .ensures), c .before .before .before .before .before .before .before .if1 .left, c .before .before .before .before .before .q .given .1, eq-eqb _ _ (c .before .before .before .if2 .left), ← (c .before .before .working-between .ensures), lt-ltb _ _ (c .if3 .taken))
+returns-4 c =
+    rw (
+      ← (c .before .before .before .before .before .before .before .before .not-enrolled .ensures),
+      c .before .before .before .before .before .before .before .if1 .left,
+      c .before .before .before .before .before .q .given .1,
+      eq-eqb _ _ (c .before .before .before .if2 .left),
+      ← (c .before .before .working-between .ensures),
+      lt-ltb _ _ (c .if3 .taken),
+    )
 
 returns-5 : tie.Need-returns-5
 unfolding rulingAt rowsAt acceptedAt firstOf
-returns-5 c = rw (← (c .before .before .before .before .before .before .before .before .not-enrolled .ensures), c .before .before .before .before .before .before .before .if1 .left, c .before .before .before .before .before .q .given .1, eq-eqb _ _ (c .before .before .before .if2 .left), ← (c .before .before .working-between .ensures), le-ltb _ _ (c .if3 .left))
+returns-5 c =
+    rw (
+      ← (c .before .before .before .before .before .before .before .before .not-enrolled .ensures),
+      c .before .before .before .before .before .before .before .if1 .left,
+      c .before .before .before .before .before .q .given .1,
+      eq-eqb _ _ (c .before .before .before .if2 .left),
+      ← (c .before .before .working-between .ensures),
+      le-ltb _ _ (c .if3 .left),
+    )
 
 pub cancel-spec : {M : Type 1} → statement M
 cancel-spec =

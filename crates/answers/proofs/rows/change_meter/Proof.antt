@@ -26,7 +26,13 @@ out-of-time-requires c κs = search needs
 
 returns-2 : tie.Need-returns-2
 unfolding rulingAt rowsAt acceptedAt firstOf
-returns-2 c = rw (← (c .before .before .before .not-enrolled .ensures), c .before .before .if1 .left, ← (c .before .out-of-time .ensures), c .if2 .taken)
+returns-2 c =
+    rw (
+      ← (c .before .before .before .not-enrolled .ensures),
+      c .before .before .if1 .left,
+      ← (c .before .out-of-time .ensures),
+      c .if2 .taken,
+    )
 
 full-turn-requires : tie.Need-full-turn-requires
 full-turn-requires c κs = search needs
@@ -36,7 +42,16 @@ index-disagrees-requires c κs = search needs
 
 returns-3 : tie.Need-returns-3
 unfolding rulingAt rowsAt acceptedAt firstOf
-returns-3 c = rw (← (c .before .before .before .before .before .before .not-enrolled .ensures), c .before .before .before .before .before .if1 .left, ← (c .before .before .before .before .out-of-time .ensures), c .before .before .before .if2 .left, ← (c .before .before .full-turn .ensures), ← (c .before .index-disagrees .ensures), c .if3 .taken)
+returns-3 c =
+    rw (
+      ← (c .before .before .before .before .before .before .not-enrolled .ensures),
+      c .before .before .before .before .before .if1 .left,
+      ← (c .before .before .before .before .out-of-time .ensures),
+      c .before .before .before .if2 .left,
+      ← (c .before .before .full-turn .ensures),
+      ← (c .before .index-disagrees .ensures),
+      c .if3 .taken,
+    )
 
 cast-t18 : tie.Need-cast-t18
 cast-t18 c = search needs
@@ -49,11 +64,33 @@ full-turn-requires-2 c κs = search needs
 
 returns-4 : tie.Need-returns-4
 unfolding rulingAt rowsAt acceptedAt firstOf
-returns-4 c = rw (← (c .before .before .before .before .before .before .before .before .not-enrolled .ensures), c .before .before .before .before .before .before .before .if1 .left, ← (c .before .before .before .before .before .before .out-of-time .ensures), c .before .before .before .before .before .if2 .left, ← (c .before .before .before .before .full-turn .ensures), ← (c .before .before .before .index-disagrees .ensures), c .before .before .if3 .left, ← (c .before .full-turn2 .ensures), le-leb _ _ (c .if4 .taken))
+returns-4 c =
+    rw (
+      ← (c .before .before .before .before .before .before .before .before .not-enrolled .ensures),
+      c .before .before .before .before .before .before .before .if1 .left,
+      ← (c .before .before .before .before .before .before .out-of-time .ensures),
+      c .before .before .before .before .before .if2 .left,
+      ← (c .before .before .before .before .full-turn .ensures),
+      ← (c .before .before .before .index-disagrees .ensures),
+      c .before .before .if3 .left,
+      ← (c .before .full-turn2 .ensures),
+      le-leb _ _ (c .if4 .taken),
+    )
 
 returns-5 : tie.Need-returns-5
 unfolding rulingAt rowsAt acceptedAt firstOf
-returns-5 c = rw (← (c .before .before .before .before .before .before .before .before .not-enrolled .ensures), c .before .before .before .before .before .before .before .if1 .left, ← (c .before .before .before .before .before .before .out-of-time .ensures), c .before .before .before .before .before .if2 .left, ← (c .before .before .before .before .full-turn .ensures), ← (c .before .before .before .index-disagrees .ensures), c .before .before .if3 .left, ← (c .before .full-turn2 .ensures), lt-leb _ _ (c .if4 .left))
+returns-5 c =
+    rw (
+      ← (c .before .before .before .before .before .before .before .before .not-enrolled .ensures),
+      c .before .before .before .before .before .before .before .if1 .left,
+      ← (c .before .before .before .before .before .before .out-of-time .ensures),
+      c .before .before .before .before .before .if2 .left,
+      ← (c .before .before .before .before .full-turn .ensures),
+      ← (c .before .before .before .index-disagrees .ensures),
+      c .before .before .if3 .left,
+      ← (c .before .full-turn2 .ensures),
+      lt-leb _ _ (c .if4 .left),
+    )
 
 pub change-meter-spec : {M : Type 1} → statement M
 change-meter-spec =

@@ -21,7 +21,12 @@ returns c = rw (← (c .before .not-enrolled .ensures), c .if1 .taken)
 
 returns-2 : tie.Need-returns-2
 unfolding rulingAt rowsAt acceptedAt firstOf
-returns-2 c = rw (← (c .before .before .before .not-enrolled .ensures), c .before .before .if1 .left, lt-ltb _ _ (c .if2 .taken))
+returns-2 c =
+    rw (
+      ← (c .before .before .before .not-enrolled .ensures),
+      c .before .before .if1 .left,
+      lt-ltb _ _ (c .if2 .taken),
+    )
 
 cast-t14 : tie.Need-cast-t14
 cast-t14 c = search needs
@@ -34,11 +39,25 @@ is-full-named-requires c κs = search needs
 
 returns-3 : tie.Need-returns-3
 unfolding rulingAt rowsAt acceptedAt firstOf effectOf
-returns-3 c = rw (← (c .before .before .before .before .before .before .before .not-enrolled .ensures), c .before .before .before .before .before .before .if1 .left, le-ltb _ _ (c .before .before .before .before .if2 .left), ← (c .before .is-full-named .ensures), c .if3 .taken)
+returns-3 c =
+    rw (
+      ← (c .before .before .before .before .before .before .before .not-enrolled .ensures),
+      c .before .before .before .before .before .before .if1 .left,
+      le-ltb _ _ (c .before .before .before .before .if2 .left),
+      ← (c .before .is-full-named .ensures),
+      c .if3 .taken,
+    )
 
 returns-4 : tie.Need-returns-4
 unfolding rulingAt rowsAt acceptedAt firstOf effectOf
-returns-4 c = rw (← (c .before .before .before .before .before .before .before .not-enrolled .ensures), c .before .before .before .before .before .before .if1 .left, le-ltb _ _ (c .before .before .before .before .if2 .left), ← (c .before .is-full-named .ensures), c .if3 .left)
+returns-4 c =
+    rw (
+      ← (c .before .before .before .before .before .before .before .not-enrolled .ensures),
+      c .before .before .before .before .before .before .if1 .left,
+      le-ltb _ _ (c .before .before .before .before .if2 .left),
+      ← (c .before .is-full-named .ensures),
+      c .if3 .left,
+    )
 
 pub default-supply-spec : {M : Type 1} → statement M
 default-supply-spec =

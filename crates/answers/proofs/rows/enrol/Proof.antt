@@ -34,11 +34,25 @@ full-turn-requires c κs = search needs
 
 returns-3 : tie.Need-returns-3
 unfolding rulingAt rowsAt acceptedAt firstOf
-returns-3 c = rw (← (c .before .before .before .before .outside .ensures), c .before .before .before .if1 .left, c .before .before .if2 .left, ← (c .before .full-turn .ensures), le-leb _ _ (c .if3 .taken))
+returns-3 c =
+    rw (
+      ← (c .before .before .before .before .outside .ensures),
+      c .before .before .before .if1 .left,
+      c .before .before .if2 .left,
+      ← (c .before .full-turn .ensures),
+      le-leb _ _ (c .if3 .taken),
+    )
 
 returns-4 : tie.Need-returns-4
 unfolding rulingAt rowsAt acceptedAt firstOf
-returns-4 c = rw (← (c .before .before .before .before .outside .ensures), c .before .before .before .if1 .left, c .before .before .if2 .left, ← (c .before .full-turn .ensures), lt-leb _ _ (c .if3 .left))
+returns-4 c =
+    rw (
+      ← (c .before .before .before .before .outside .ensures),
+      c .before .before .before .if1 .left,
+      c .before .before .if2 .left,
+      ← (c .before .full-turn .ensures),
+      lt-leb _ _ (c .if3 .left),
+    )
 
 pub enrol-spec : {M : Type 1} → statement M
 enrol-spec =

@@ -25,22 +25,53 @@ not-enrolled-requires c κs = search needs
 
 returns-2 : tie.Need-returns-2
 unfolding rulingAt rowsAt acceptedAt firstOf
-returns-2 c = rw (← (c .before .before .before .no-contract .ensures), c .before .before .if1 .left, ← (c .before .not-enrolled .ensures), c .if2 .taken)
+returns-2 c =
+    rw (
+      ← (c .before .before .before .no-contract .ensures),
+      c .before .before .if1 .left,
+      ← (c .before .not-enrolled .ensures),
+      c .if2 .taken,
+    )
 
 returns-3 : tie.Need-returns-3
 unfolding rulingAt rowsAt acceptedAt firstOf
-returns-3 c = rw (← (c .before .before .before .before .before .no-contract .ensures), c .before .before .before .before .if1 .left, ← (c .before .before .before .not-enrolled .ensures), c .before .before .if2 .left, lt-ltb _ _ (c .if3 .taken))
+returns-3 c =
+    rw (
+      ← (c .before .before .before .before .before .no-contract .ensures),
+      c .before .before .before .before .if1 .left,
+      ← (c .before .before .before .not-enrolled .ensures),
+      c .before .before .if2 .left,
+      lt-ltb _ _ (c .if3 .taken),
+    )
 
 is-full-named-requires : tie.Need-is-full-named-requires
 is-full-named-requires c κs = search needs
 
 returns-4 : tie.Need-returns-4
 unfolding rulingAt rowsAt acceptedAt firstOf effectOf
-returns-4 c = rw (← (c .before .before .before .before .before .before .before .before .no-contract .ensures), c .before .before .before .before .before .before .before .if1 .left, ← (c .before .before .before .before .before .before .not-enrolled .ensures), c .before .before .before .before .before .if2 .left, le-ltb _ _ (c .before .before .before .if3 .left), ← (c .before .is-full-named .ensures), c .if4 .taken)
+returns-4 c =
+    rw (
+      ← (c .before .before .before .before .before .before .before .before .no-contract .ensures),
+      c .before .before .before .before .before .before .before .if1 .left,
+      ← (c .before .before .before .before .before .before .not-enrolled .ensures),
+      c .before .before .before .before .before .if2 .left,
+      le-ltb _ _ (c .before .before .before .if3 .left),
+      ← (c .before .is-full-named .ensures),
+      c .if4 .taken,
+    )
 
 returns-5 : tie.Need-returns-5
 unfolding rulingAt rowsAt acceptedAt firstOf effectOf
-returns-5 c = rw (← (c .before .before .before .before .before .before .before .before .no-contract .ensures), c .before .before .before .before .before .before .before .if1 .left, ← (c .before .before .before .before .before .before .not-enrolled .ensures), c .before .before .before .before .before .if2 .left, le-ltb _ _ (c .before .before .before .if3 .left), ← (c .before .is-full-named .ensures), c .if4 .left)
+returns-5 c =
+    rw (
+      ← (c .before .before .before .before .before .before .before .before .no-contract .ensures),
+      c .before .before .before .before .before .before .before .if1 .left,
+      ← (c .before .before .before .before .before .before .not-enrolled .ensures),
+      c .before .before .before .before .before .if2 .left,
+      le-ltb _ _ (c .before .before .before .if3 .left),
+      ← (c .before .is-full-named .ensures),
+      c .if4 .left,
+    )
 
 pub into-service-spec : {M : Type 1} → statement M
 into-service-spec =

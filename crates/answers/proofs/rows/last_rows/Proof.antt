@@ -37,7 +37,12 @@ returns-3 c = rw (c .before .before .k .given .1, le-leb _ _ (c .if1 .taken))
 
 returns-4 : tie.Need-returns-4
 unfolding firstOf
-returns-4 c = rw (c .before .before .k .given .1, lt-leb _ _ (c .if1 .left)) (c .before .before .before .before .if-room .ensures)
+returns-4 c =
+    rw (
+      c .before .before .k .given .1,
+      lt-leb _ _ (c .if1 .left),
+    )
+    (c .before .before .before .before .if-room .ensures)
 
 returns-5 : tie.Need-returns-5
 unfolding firstOf

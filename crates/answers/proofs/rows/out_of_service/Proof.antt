@@ -21,18 +21,37 @@ returns c = rw (← (c .before .not-enrolled .ensures), c .if1 .taken)
 
 returns-2 : tie.Need-returns-2
 unfolding rulingAt rowsAt acceptedAt firstOf
-returns-2 c = rw (← (c .before .before .before .not-enrolled .ensures), c .before .before .if1 .left, eq-eqb _ _ (c .if2 .taken))
+returns-2 c =
+    rw (
+      ← (c .before .before .before .not-enrolled .ensures),
+      c .before .before .if1 .left,
+      eq-eqb _ _ (c .if2 .taken),
+    )
 
 is-full-named-requires : tie.Need-is-full-named-requires
 is-full-named-requires c κs = search needs
 
 returns-3 : tie.Need-returns-3
 unfolding rulingAt rowsAt acceptedAt firstOf effectOf
-returns-3 c = rw (← (c .before .before .before .before .before .before .not-enrolled .ensures), c .before .before .before .before .before .if1 .left, ne-eqb _ _ (c .before .before .before .if2 .left), ← (c .before .is-full-named .ensures), c .if3 .taken)
+returns-3 c =
+    rw (
+      ← (c .before .before .before .before .before .before .not-enrolled .ensures),
+      c .before .before .before .before .before .if1 .left,
+      ne-eqb _ _ (c .before .before .before .if2 .left),
+      ← (c .before .is-full-named .ensures),
+      c .if3 .taken,
+    )
 
 returns-4 : tie.Need-returns-4
 unfolding rulingAt rowsAt acceptedAt firstOf effectOf
-returns-4 c = rw (← (c .before .before .before .before .before .before .not-enrolled .ensures), c .before .before .before .before .before .if1 .left, ne-eqb _ _ (c .before .before .before .if2 .left), ← (c .before .is-full-named .ensures), c .if3 .left)
+returns-4 c =
+    rw (
+      ← (c .before .before .before .before .before .before .not-enrolled .ensures),
+      c .before .before .before .before .before .if1 .left,
+      ne-eqb _ _ (c .before .before .before .if2 .left),
+      ← (c .before .is-full-named .ensures),
+      c .if3 .left,
+    )
 
 pub out-of-service-spec : {M : Type 1} → statement M
 out-of-service-spec =

@@ -30,7 +30,15 @@ add-result : tie.Need-add-result
 add-result c = search needs
 
 returns : tie.Need-returns
-returns c = rw (c .before .before .before .before .marks .ensures, c .before .before .before .pending-due .ensures .0, c .before .before .kind-due .ensures .0, ← (c .before .starts-on .ensures), c .if1 .taken, add-zero)
+returns c =
+    rw (
+      c .before .before .before .before .marks .ensures,
+      c .before .before .before .pending-due .ensures .0,
+      c .before .before .kind-due .ensures .0,
+      ← (c .before .starts-on .ensures),
+      c .if1 .taken,
+      add-zero,
+    )
 
 add-result-2 : tie.Need-add-result-2
 add-result-2 c = search needs
@@ -39,7 +47,14 @@ add-result-3 : tie.Need-add-result-3
 add-result-3 c = search needs
 
 returns-2 : tie.Need-returns-2
-returns-2 c = rw (c .before .before .before .before .marks .ensures, c .before .before .before .pending-due .ensures .0, c .before .before .kind-due .ensures .0, ← (c .before .starts-on .ensures), c .if1 .left)
+returns-2 c =
+    rw (
+      c .before .before .before .before .marks .ensures,
+      c .before .before .before .pending-due .ensures .0,
+      c .before .before .kind-due .ensures .0,
+      ← (c .before .starts-on .ensures),
+      c .if1 .left,
+    )
 
 pub is-full-named-spec : {M : Type 1} → statement M
 is-full-named-spec =

@@ -107,7 +107,12 @@ returns-3 c = rw (c .before .before .a3 .given .1) (c .default-supply .ensures)
 
 returns-4 : tie.Need-returns-4
 unfolding acted effectOf spansOf
-returns-4 c = rw (c .before .before .before .a4 .given .1, ← (c .before .effective-day .ensures)) (c .with-pending .ensures)
+returns-4 c =
+    rw (
+      c .before .before .before .a4 .given .1,
+      ← (c .before .effective-day .ensures),
+    )
+    (c .with-pending .ensures)
 
 returns-5 : tie.Need-returns-5
 unfolding acted effectOf spansOf

@@ -20,7 +20,12 @@ is-full-named-requires c κs = search needs
 
 returns : tie.Need-returns
 unfolding failureFills failed
-returns c = rw (eq-eqb _ _ (c .before .if1 .taken), ← (c .before .before .before .dropped .ensures)) (c .is-full-named .ensures)
+returns c =
+    rw (
+      eq-eqb _ _ (c .before .if1 .taken),
+      ← (c .before .before .before .dropped .ensures),
+    )
+    (c .is-full-named .ensures)
 
 is-by-requires : tie.Need-is-by-requires
 is-by-requires c κs = search needs
@@ -30,7 +35,14 @@ is-full-kept-requires c κs = search needs
 
 returns-2 : tie.Need-returns-2
 unfolding failureFills failed
-returns-2 c = rw (ne-eqb _ _ (c .before .before .before .if1 .left), ← (c .before .before .is-by .ensures), c .before .if2 .taken, ← (c .before .before .before .before .before .dropped .ensures)) (c .is-full-kept .ensures)
+returns-2 c =
+    rw (
+      ne-eqb _ _ (c .before .before .before .if1 .left),
+      ← (c .before .before .is-by .ensures),
+      c .before .if2 .taken,
+      ← (c .before .before .before .before .before .dropped .ensures),
+    )
+    (c .is-full-kept .ensures)
 
 returns-3 : tie.Need-returns-3
 unfolding failureFills failed

@@ -1,8 +1,7 @@
+-- A reading's span, field by field.
 use mathlib.Core.Path.{refl}
 use native.Mathlib.Omega.{arith}
 use Rattle.checks.proofs.Powers.{turn-most, unit-most}
--- A reading's span, field by field.
-use Rattle.rules.specs.Volumes.{spanTo}
 use borrow.Author.Needs.{needs}
 use Rattle.point.proofs.meter.span_to.Statement.{statement}
 use Rattle.point.proofs.meter.span_to.Tie as tie
@@ -16,14 +15,18 @@ full-turn-requires : tie.Need-full-turn-requires
 full-turn-requires c κs = search needs
 
 advance-requires : tie.Need-advance-requires
-advance-requires c κs = (c .before .before .before .pre .0, c .before .before .before .pre .1, rw (c .full-turn .ensures) (turn-most (c .before .before .before .args .f .meter)))
+advance-requires c κs =
+    let s = c .before in (s .pre .0, s .pre .1, rw (c .full-turn .ensures) (turn-most (s .args .m)))
 
 unit-of-requires : tie.Need-unit-of-requires
 unit-of-requires c κs = search needs
 
 returns : tie.Need-returns
-unfolding spanTo
-returns c = (rw (← (c .before .before .full-turn .ensures), ← (c .before .advance .ensures .0), ← (c .unit-of .ensures)), c .before .advance .ensures .1, rw (c .unit-of .ensures) (unit-most (c .before .before .before .before .before .args .f .meter)))
+returns c = (
+  rw (← (c .before .before .full-turn .ensures), ← (c .before .advance .ensures .0), ← (c .unit-of .ensures)),
+  c .before .advance .ensures .1,
+  rw (c .unit-of .ensures) (unit-most (c .before .before .before .args .m)),
+)
 
 pub span-to-spec : {M : Type 1} → statement M
 span-to-spec = tie.close (tie.spec full-turn-requires advance-requires unit-of-requires returns)

@@ -29,6 +29,8 @@ use Rattle.message.specs.declared.Message.{Message}
 use Rattle.message.specs.declared.Message.the-variants.{Open, Ask, Unreadable}
 use Rattle.desk.specs.declared.Desk.{Desk}
 use Rattle.desk.specs.declared.Reply.{Reply}
+use Rattle.desk.specs.declared.quick.Named.{Named}
+use Rattle.rules.specs.declared.Settings.{Settings}
 use Rattle.desk.specs.Desk.{desk, unreadable, answerOf, deskAfter, replied}
 use Rattle.desk.specs.Quick.{
   firstDue,
@@ -41,6 +43,10 @@ use Rattle.desk.specs.Quick.{
   signsIn,
   signedAfter,
   leaves,
+  nonePoint,
+  namedBy,
+  namedIn,
+  answerBeside,
   plainAnswer,
   turnIn,
   turnOf,
@@ -276,3 +282,47 @@ unfolding supplierOf
 supplier-lt (Open o) = omega arith
 supplier-lt (Ask c) = supplier-lt-in (c .action)
 supplier-lt Unreadable = omega arith
+
+-- ---- the turn of a point, from the call that names one
+
+module _ (S : Settings) (day : ℕ) (u : List Bool) (g : Point) where
+  turn-by : (ready : Bool) (t : ℕ) (c : Action) → namedBy ready t c .is ≡ true →
+      turned S day u (namedBy ready t c .today) (namedBy ready t c .point) (namedBy ready t c .act) g
+      ≡ cond ready (turnIn S day u t c g) (leaves g unreadable)
+  turn-by ready t (SignContract s) e = absurd (false≢true e)
+  turn-by ready t (Failure s) e = absurd (false≢true e)
+  turn-by true t (At p a) e = refl
+  turn-by false t (At p a) e = absurd (false≢true e)
+  turn-by ready t Day e = absurd (false≢true e)
+
+  beside-by : (ready : Bool) (t : ℕ) (c : Action) → namedBy ready t c .is ≡ false →
+      leaves g (cond ready (plainAnswer day t c) unreadable) ≡ cond ready (turnIn S day u t c g) (leaves g unreadable)
+  beside-by true t (SignContract s) e = refl
+  beside-by false t (SignContract s) e = refl
+  beside-by true t (Failure s) e = refl
+  beside-by false t (Failure s) e = refl
+  beside-by true t (At p a) e = absurd (true≢false e)
+  beside-by false t (At p a) e = refl
+  beside-by true t Day e = refl
+  beside-by false t Day e = refl
+
+  pub turn-named : (ready : Bool) (m : Message) (n : Named) → n ≡ namedIn ready m → n .is ≡ true →
+      turned S day u (n .today) (n .point) (n .act) g ≡ turnOf S day u ready m g
+  unfolding turnOf
+  turn-named ready m n e i = rw e (go m (rw e at i))
+    where
+      go : (m : Message) → namedIn ready m .is ≡ true →
+          turned S day u (namedIn ready m .today) (namedIn ready m .point) (namedIn ready m .act) g ≡ turnOf S day u ready m g
+      go (Open o) k = absurd (false≢true k)
+      go (Ask c) k = turn-by ready (c .today) (c .action) k
+      go Unreadable k = absurd (false≢true k)
+
+  pub turn-beside : (ready : Bool) (m : Message) (n : Named) → n ≡ namedIn ready m → n .is ≡ false →
+      leaves g (answerBeside ready day m) ≡ turnOf S day u ready m g
+  unfolding turnOf
+  turn-beside ready m n e i = go m (rw e at i)
+    where
+      go : (m : Message) → namedIn ready m .is ≡ false → leaves g (answerBeside ready day m) ≡ turnOf S day u ready m g
+      go (Open o) k = refl
+      go (Ask c) k = beside-by ready (c .today) (c .action) k
+      go Unreadable k = refl

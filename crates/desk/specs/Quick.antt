@@ -22,6 +22,8 @@ use Rattle.point.specs.declared.Ruling.{Ruling}
 use Rattle.point.specs.Turn.{turned}
 use Rattle.message.specs.declared.Message.{Message}
 use Rattle.message.specs.declared.Message.the-variants.{Open, Ask, Unreadable}
+use Rattle.rules.specs.declared.PointAction.the-variants.{OutOfService}
+use Rattle.desk.specs.declared.quick.Named.{Named}
 use Rattle.desk.specs.Desk.{unreadable}
 
 -- The first day past the calendar: nothing falls due on it.
@@ -112,7 +114,7 @@ plainAnswer day t a = firstOf ((smallRange a ⇒ 22) ∷ (ltb lastDay t ⇒ 20) 
 
 abbrev pub turnIn : Settings → ℕ → List Bool → ℕ → Action → Point → Ruling
 turnIn S day u t (SignContract s) g = leaves g (plainAnswer day t (SignContract s))
-turnIn S day u t (Failure s) g = leaves g unreadable
+turnIn S day u t (Failure s) g = leaves g (plainAnswer day t (Failure s))
 turnIn S day u t (At p a) g = turned S day u t p a g
 turnIn S day u t Day g = leaves g (plainAnswer day t Day)
 
@@ -121,6 +123,27 @@ unfoldable pub turnOf : Settings → ℕ → List Bool → Bool → Message → 
 turnOf S day u ready (Open o) g = leaves g unreadable
 turnOf S day u ready (Ask c) g = cond ready (turnIn S day u (c .today) (c .action) g) (leaves g unreadable)
 turnOf S day u ready Unreadable g = leaves g unreadable
+
+-- The call that names a point, if a message is one and the register is open.
+abbrev pub nonePoint : Named
+nonePoint = record { is = false; today = 0; point = 0; act = OutOfService }
+
+abbrev pub namedBy : Bool → ℕ → Action → Named
+namedBy ready t (SignContract s) = nonePoint
+namedBy ready t (Failure s) = nonePoint
+namedBy ready t (At p a) = record { is = ready; today = t; point = p; act = a }
+namedBy ready t Day = nonePoint
+
+abbrev pub namedIn : Bool → Message → Named
+namedIn ready (Open o) = nonePoint
+namedIn ready (Ask c) = namedBy ready (c .today) (c .action)
+namedIn ready Unreadable = nonePoint
+
+-- The answer to a message that looks at no point.
+abbrev pub answerBeside : Bool → ℕ → Message → Answer
+answerBeside ready day (Open o) = unreadable
+answerBeside ready day (Ask c) = cond ready (plainAnswer day (c .today) (c .action)) unreadable
+answerBeside ready day Unreadable = unreadable
 
 abbrev pub dayBy : ℕ → ℕ → Answer → ℕ
 dayBy day t a = cond (isAccepted a && leb t lastDay) t day

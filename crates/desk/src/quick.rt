@@ -9,12 +9,13 @@ use rules::Action;
 use rules::Answer;
 use rules::Pending;
 use rules::Point;
+use rules::PointAction;
 use rules::Settings;
 use rules::Supply;
 use rules::SupplyKind;
 ghost use mathlib.Core.Path.{_≡_};
 ghost use Prim.Native.Nat.{min};
-ghost use Rattle.desk.specs.Quick.{dueDay, firstDue, kindEnds, requestFalls, isSmall, isQuick, placeIn, placeOf, turnIn, turnOf, dayBy, dayAfter, leaves, smallRange, plainAnswer, supplierIn, supplierOf, signsIn, signedAfter};
+ghost use Rattle.desk.specs.Quick.{dueDay, firstDue, kindEnds, requestFalls, isSmall, isQuick, placeIn, placeOf, turnOf, dayBy, dayAfter, leaves, nonePoint, namedBy, namedIn, answerBeside, smallRange, plainAnswer, supplierIn, supplierOf, signsIn, signedAfter};
 
 // The first day past the calendar: nothing falls due on it.
 const NEVER: u32 = 73049;
@@ -232,24 +233,68 @@ fn plain_answer(day: u32, today: u64, a: Action) -> Answer
     Answer::Accepted
 }
 
-fn turn_in(
-    set: Settings,
-    day: u32,
-    contracts: [bool; 100],
-    today: u64,
-    a: Action,
-    g: Point,
-) -> Ruling
-    ensures { λ r. ⌜ r ≡ turnIn set day contracts today a g ⌝ }
+// The call that names a point, if a message is one and the register is open.
+pub(crate) struct Named {
+    pub is: bool,
+    pub today: u64,
+    pub point: u64,
+    pub act: PointAction,
+}
+
+fn no_point() -> Named
+    ensures { λ r. ⌜ r ≡ nonePoint ⌝ }
+{
+    Named {
+        is: false,
+        today: 0,
+        point: 0,
+        act: PointAction::OutOfService,
+    }
+}
+
+fn named_by(ready: bool, today: u64, a: Action) -> Named
+    ensures { λ r. ⌜ r ≡ namedBy ready today a ⌝ }
 {
     match a {
-        Action::SignContract { supplier } => {
-            let b = Action::SignContract { supplier };
-            leave(g, plain_answer(day, today, b))
+        Action::SignContract { supplier: _ } => no_point(),
+        Action::Failure { supplier: _ } => no_point(),
+        Action::At { point, act } => Named {
+            is: ready,
+            today: today,
+            point: point,
+            act: act,
+        },
+        Action::Day => no_point(),
+    }
+}
+
+fn named_in(ready: bool, m: Message) -> Named
+    ensures { λ r. ⌜ r ≡ namedIn ready m ⌝ }
+{
+    match m {
+        Message::Open(_) => no_point(),
+        Message::Ask(c) => {
+            let a = c.action;
+            named_by(ready, c.today, a)
         }
-        Action::Failure { supplier: _ } => leave(g, Answer::Refused(31)),
-        Action::At { point, act } => turn(set, day, contracts, today, point, act, g),
-        Action::Day => leave(g, plain_answer(day, today, Action::Day)),
+        Message::Unreadable => no_point(),
+    }
+}
+
+// The answer to a message that looks at no point.
+fn answer_beside(ready: bool, day: u32, m: Message) -> Answer
+    ensures { λ r. ⌜ r ≡ answerBeside ready day m ⌝ }
+{
+    match m {
+        Message::Open(_) => Answer::Refused(31),
+        Message::Ask(c) => {
+            if ready {
+                let a = c.action;
+                return plain_answer(day, c.today, a);
+            }
+            Answer::Refused(31)
+        }
+        Message::Unreadable => Answer::Refused(31),
     }
 }
 
@@ -264,17 +309,12 @@ pub fn turn_of(
 ) -> Ruling
     ensures { λ r. ⌜ r ≡ turnOf set day contracts ready m g ⌝ }
 {
-    match m {
-        Message::Open(_) => leave(g, Answer::Refused(31)),
-        Message::Ask(c) => {
-            if ready {
-                let a = c.action;
-                return turn_in(set, day, contracts, c.today, a, g);
-            }
-            leave(g, Answer::Refused(31))
-        }
-        Message::Unreadable => leave(g, Answer::Refused(31)),
+    let n = named_in(ready, m);
+    if n.is {
+        let act = n.act;
+        return turn(set, day, contracts, n.today, n.point, act, g);
     }
+    leave(g, answer_beside(ready, day, m))
 }
 
 fn day_by(day: u32, today: u64, answer: Answer) -> u32

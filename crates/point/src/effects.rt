@@ -1,5 +1,6 @@
 // What accepted calls do to a point.
 use crate::meter::span_to;
+use crate::readings::reading_of;
 use checks::effective_day;
 use checks::is_full_kept;
 use checks::is_full_named;
@@ -182,7 +183,11 @@ pub(crate) fn acted(set: Settings, t: u32, a: PointAction, g: Point) -> Point
     ensures { λ r. ⌜ r ≡ Register·acted set t a g ⌝ }
 {
     let f = g.fields;
-    let m = f.meter;
+    let b = reading_of(t, f.meter, a);
+    if b.is {
+        let m = b.meter;
+        return read(b.day, b.index, b.zero, m, b.last, g);
+    }
     match a {
         PointAction::Enrol {
             before,
@@ -200,28 +205,21 @@ pub(crate) fn acted(set: Settings, t: u32, a: PointAction, g: Point) -> Point
             with_pending(Pending::Request(supplier as u8, e), g)
         }
         PointAction::Cancel { supplier: _ } => with_pending(Pending::Nothing, g),
-        PointAction::Read { day, index, zero } => read(day as u32, index, zero, m, index, g),
-        PointAction::ChangeMeter {
-            index,
-            zero,
-            before,
-            after,
-            fresh,
-        } => {
-            read(
-                t,
-                index,
-                zero,
-                Meter {
-                    before: before as u8,
-                    after: after as u8,
-                },
-                fresh,
-                g,
-            )
-        }
         PointAction::OutOfService => out_of_service(set, t, g),
         PointAction::Suspend { mark } => suspend(mark, g),
+        // A reading has been seen to above.
+        PointAction::Read {
+            day: _,
+            index: _,
+            zero: _,
+        } => g,
+        PointAction::ChangeMeter {
+            index: _,
+            zero: _,
+            before: _,
+            after: _,
+            fresh: _,
+        } => g,
     }
 }
 

@@ -2,6 +2,7 @@
 mod effects;
 mod events;
 mod meter;
+mod readings;
 
 use answers::answer_at;
 use checks::is_accepted;

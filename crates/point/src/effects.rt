@@ -1,4 +1,5 @@
 // What accepted calls do to a point.
+use crate::events::supplied;
 use crate::meter::span_to;
 use checks::effective_day;
 use checks::is_full_kept;
@@ -17,8 +18,9 @@ use rules::Supply;
 use rules::SupplyKind;
 ghost use mathlib.Core.Path.{_≡_};
 ghost use Prim.Native.Nat.{_≤_, _<_};
-ghost use Rattle.rules.specs.Effects.{dropped as Effects·dropped};
-ghost use Rattle.rules.specs.Fields.{reading, withPending, withMark, withReading};
+ghost use Rattle.rules.specs.declared.Pending.the-variants.{Request};
+ghost use Rattle.rules.specs.Effects.{dropped as Effects·dropped, effectiveDay};
+ghost use Rattle.rules.specs.Fields.{meter, reading, withPending, withMark, withReading};
 ghost use Rattle.rules.specs.Volumes.{spanTo};
 ghost use Rattle.rules.specs.Rejections.{isBy};
 ghost use Rattle.rules.specs.Register.{acted as Register·acted, booked};
@@ -142,23 +144,22 @@ fn read(d: u32, x: u64, z: u64, m: Meter, y: u64, g: Point) -> Point
     }
 }
 
+// The meter is read for the last time and exchanged.
+fn change_meter(t: u32, x: u64, z: u64, before: u64, after: u64, fresh: u64, g: Point) -> Point
+    requires { ⌜ (t ≤ 73048) × (x ≤ 100000000000) × (z ≤ 1) × (g .fields .reading .day < t) × (before ≤ 8) × (after ≤ 3) ⌝ }
+    ensures { λ r. ⌜ r ≡ record { fields = withReading (g .fields) (meter before after) (reading t fresh); history = booked (spanTo (g .fields) t x z) (g .history) } ⌝ }
+{
+    let next = Meter {
+        before: before as u8,
+        after: after as u8,
+    };
+    read(t, x, z, next, fresh, g)
+}
+
 fn out_of_service(set: Settings, t: u32, g: Point) -> Point
     ensures { λ r. ⌜ r ≡ Register·acted set t PointAction.OutOfService g ⌝ }
 {
-    let f = g.fields;
-    let h = g.history;
-    let supply = Supply {
-        holder: 0,
-        kind: SupplyKind::None,
-        pending: Pending::Nothing,
-    };
-    Point {
-        fields: Fields {
-            supply: supply,
-            ..f
-        },
-        history: named(t, 0, h),
-    }
+    supplied(t, 0, SupplyKind::None, Pending::Nothing, g)
 }
 
 fn suspend(mark: u64, g: Point) -> Point
@@ -174,6 +175,15 @@ fn suspend(mark: u64, g: Point) -> Point
         },
         history: h,
     }
+}
+
+// A request becomes pending.
+fn ask(t: u32, s: u64, day: u64, g: Point) -> Point
+    requires { ⌜ (t ≤ 73048) × (s ≤ 99) × (day ≤ 73048) ⌝ }
+    ensures { λ r. ⌜ r ≡ record { fields = withPending (g .fields) (Request s (effectiveDay t day)); history = g .history } ⌝ }
+{
+    let e = effective_day(t, day as u32) as u32;
+    with_pending(Pending::Request(s as u8, e), g)
 }
 
 // An accepted call, at the point that it names.
@@ -195,10 +205,7 @@ pub(crate) fn acted(set: Settings, t: u32, a: PointAction, g: Point) -> Point
             supplier,
             key: _,
             day,
-        } => {
-            let e = effective_day(t, day as u32) as u32;
-            with_pending(Pending::Request(supplier as u8, e), g)
-        }
+        } => ask(t, supplier, day, g),
         PointAction::Cancel { supplier: _ } => with_pending(Pending::Nothing, g),
         PointAction::Read { day, index, zero } => read(day as u32, index, zero, m, index, g),
         PointAction::ChangeMeter {
@@ -207,19 +214,7 @@ pub(crate) fn acted(set: Settings, t: u32, a: PointAction, g: Point) -> Point
             before,
             after,
             fresh,
-        } => {
-            read(
-                t,
-                index,
-                zero,
-                Meter {
-                    before: before as u8,
-                    after: after as u8,
-                },
-                fresh,
-                g,
-            )
-        }
+        } => change_meter(t, index, zero, before, after, fresh, g),
         PointAction::OutOfService => out_of_service(set, t, g),
         PointAction::Suspend { mark } => suspend(mark, g),
     }
@@ -274,23 +269,12 @@ pub fn failed(set: Settings, t: u32, s: u8, g: Point) -> Point
         return g;
     }
     let f = g.fields;
-    let h = g.history;
     let now = f.supply;
     let q = now.pending;
     let left = dropped(s, q);
     if now.holder == s {
-        let supply = Supply {
-            holder: set.resort,
-            kind: SupplyKind::LastResort(t + set.b as u32),
-            pending: left,
-        };
-        return Point {
-            fields: Fields {
-                supply: supply,
-                ..f
-            },
-            history: named(t, set.resort, h),
-        };
+        let end = t + set.b as u32;
+        return supplied(t, set.resort, SupplyKind::LastResort(end), left, g);
     }
     with_pending(left, g)
 }

@@ -1,6 +1,6 @@
 -- An accepted call, at the point that it names, call by call.
 use native.Mathlib.Omega.{arith}
-use Rattle.rules.specs.Effects.{effectOf, effectiveDay}
+use Rattle.rules.specs.Effects.{effectOf}
 use Rattle.rules.specs.Volumes.{spansOf}
 use Rattle.rules.specs.Register.{acted}
 use borrow.Author.Needs.{needs}
@@ -8,7 +8,8 @@ use Rattle.point.proofs.effects.acted.Statement.{statement}
 use Rattle.point.proofs.effects.acted.Tie as tie
 use Rattle.point.proofs.effects.acted.Reads as reads
 use Rattle.point.proofs.effects.acted.Lts as lts
-use Rattle.checks.proofs.effective_day.Reads as effective-day-reads
+use Rattle.point.proofs.effects.ask.Reads as ask-reads
+use Rattle.point.proofs.effects.change_meter.Reads as change-meter-reads
 use Rattle.point.proofs.effects.default_supply.Reads as default-supply-reads
 use Rattle.point.proofs.effects.enrol.Reads as enrol-reads
 use Rattle.point.proofs.effects.into_service.Reads as into-service-reads
@@ -38,28 +39,16 @@ default-supply-requires c κs = (c .before .before .before .before .before .pre 
 enum-known-a-4 : tie.Need-enum-known-a-4
 enum-known-a-4 c = search needs
 
-cast-effective-day : tie.Need-cast-effective-day
-cast-effective-day c = let k = rw (c .before .a4 .given .1) at (c .before .before .before .before .before .pre .1) in omega (arith, k .2)
-
-effective-day-requires : tie.Need-effective-day-requires
-effective-day-requires c κs = search needs
-
-cast-e : tie.Need-cast-e
-unfolding effectiveDay
-cast-e c = let k = rw (c .before .before .a4 .given .1) at (c .before .before .before .before .before .before .pre .1) in
-    omega (arith, k .2, c .effective-day .ensures)
-
-cast-t28 : tie.Need-cast-t28
-cast-t28 c = let k = rw (c .before .before .a4 .given .1) at (c .before .before .before .before .before .before .pre .1) in omega (arith, k .0)
-
-with-pending-requires : tie.Need-with-pending-requires
-with-pending-requires c κs = search needs
+ask-requires : tie.Need-ask-requires
+ask-requires c κs =
+    let start = c .before .before .before .before .before in
+    let k = rw (c .before .a4 .given .1) at (start .pre .1) in (start .pre .0, k .0, k .2)
 
 enum-told : tie.Need-enum-told
 enum-told c = search needs
 
-with-pending-requires-2 : tie.Need-with-pending-requires-2
-with-pending-requires-2 c κs = search needs
+with-pending-requires : tie.Need-with-pending-requires
+with-pending-requires c κs = search needs
 
 enum-known-a-5 : tie.Need-enum-known-a-5
 enum-known-a-5 c = search needs
@@ -74,15 +63,12 @@ read-requires c κs = let k = rw (c .before .a5 .given .1) at (c .before .before
 enum-known-a-6 : tie.Need-enum-known-a-6
 enum-known-a-6 c = search needs
 
-cast-t32 : tie.Need-cast-t32
-cast-t32 c = let k = rw (c .before .a6 .given .1) at (c .before .before .before .before .before .pre .1) in omega (arith, k .1)
-
-cast-t33 : tie.Need-cast-t33
-cast-t33 c = let k = rw (c .before .a6 .given .1) at (c .before .before .before .before .before .pre .1) in omega (arith, k .2)
-
-read-requires-2 : tie.Need-read-requires-2
-read-requires-2 c κs = let k = rw (c .before .a6 .given .1) at (c .before .before .before .before .before .pre .1) in
-    let l = rw (c .before .a6 .given .1) at (c .before .before .before .before .before .pre .2) in (c .before .before .before .before .before .pre .0, l .1, k .0, l .0)
+change-meter-requires : tie.Need-change-meter-requires
+change-meter-requires c κs =
+    let start = c .before .before .before .before .before in
+    let k = rw (c .before .a6 .given .1) at (start .pre .1) in
+    let l = rw (c .before .a6 .given .1) at (start .pre .2) in
+    (start .pre .0, l .1, k .0, l .0, k .1, k .2)
 
 enum-told-2 : tie.Need-enum-told-2
 enum-told-2 c = search needs
@@ -107,16 +93,11 @@ returns-3 c = rw (c .before .before .a3 .given .1) (c .default-supply .ensures)
 
 returns-4 : tie.Need-returns-4
 unfolding acted effectOf spansOf
-returns-4 c =
-    rw (
-      c .before .before .before .a4 .given .1,
-      ← (c .before .effective-day .ensures),
-    )
-    (c .with-pending .ensures)
+returns-4 c = rw (c .before .before .a4 .given .1) (c .ask .ensures)
 
 returns-5 : tie.Need-returns-5
 unfolding acted effectOf spansOf
-returns-5 c = rw (c .before .enum-told .given .1) (c .with-pending2 .ensures)
+returns-5 c = rw (c .before .enum-told .given .1) (c .with-pending .ensures)
 
 returns-6 : tie.Need-returns-6
 unfolding acted effectOf spansOf
@@ -124,7 +105,7 @@ returns-6 c = rw (c .before .before .a5 .given .1) (c .read .ensures)
 
 returns-7 : tie.Need-returns-7
 unfolding acted effectOf spansOf
-returns-7 c = rw (c .before .before .a6 .given .1) (c .read2 .ensures)
+returns-7 c = rw (c .before .before .a6 .given .1) (c .change-meter .ensures)
 
 returns-8 : tie.Need-returns-8
 returns-8 c = rw (c .before .enum-told2 .given .1) (c .out-of-service .ensures)
@@ -144,20 +125,14 @@ acted-spec =
     enum-known-a-3
     default-supply-requires
     enum-known-a-4
-    cast-effective-day
-    effective-day-requires
-    cast-e
-    cast-t28
-    with-pending-requires
+    ask-requires
     enum-told
-    with-pending-requires-2
+    with-pending-requires
     enum-known-a-5
     cast-read
     read-requires
     enum-known-a-6
-    cast-t32
-    cast-t33
-    read-requires-2
+    change-meter-requires
     enum-told-2
     out-of-service-requires
     enum-known-a-7

@@ -1,5 +1,5 @@
 -- The lines of questions one behind the other, one turn of the loop over them, and what a call answers.
-use Prim.Native.Nat.{ℕ, zero, suc, _+_, _≤_, _<_}
+use Prim.Native.Nat.{ℕ, _*_, zero, suc, _+_, _≤_, _<_}
 use mathlib.Core.Path.{_≡_, refl, sym, ap, _∙_}
 use mathlib.Core.List.{List, [], _∷_, _++_, append-assoc, append-nil}
 use native.Mathlib.Omega.{arith}
@@ -7,6 +7,7 @@ use native.Mathlib.Numerals.{add-one}
 use borrow.Author.Tests.{le-leb, lt-leb}
 use lib.ListN.{length, take, drop, getD}
 use Rattle.rules.specs.declared.Register.{Register}
+use Rattle.listing.proofs.Growing.{within-length}
 use Rattle.text.proofs.Appends.{room-put, put-none}
 use Rattle.asking.specs.declared.Question.{Question}
 use Rattle.asking.specs.declared.Scope.{Scope}
@@ -72,3 +73,10 @@ handed r l s end n o o₁ e next h hs he hn w hx =
       answer = rw (b, ← hs, ← he, ← hn) (ap (λ (x : Place). handedTo x e) hx ∙ ap
           (handedTo (placeAt (l .point) (l .index + n) end)) z);
     }
+
+-- the buffer keeps its length
+pub lines-length : (r : Register) (s : Scope) (p from n : ℕ) (o o₁ : List ℕ) (e : ℕ) → LinesPut r s p from n o o₁ e →
+    n * 128 ≤ length o →
+    length o₁ ≡ length o
+lines-length r s p from n o o₁ e w h =
+    within-length (n * 128) 0 (lines r (take n (drop from (questionsIn p s)))) o o₁ e w (omega arith)

@@ -39,7 +39,7 @@ returns c =
     let c₂ = c .before .before in
     let c₃ = c₂ .before in
     let c₆ = c₃ .before .before .before in
-    rw (c₆ .q .given .1, ← (c₃ .holder-of .ensures)) (c₂ .put-holder .ensures)
+    rw (c₆ .q .given .1) (rw (c₃ .holder-of .ensures) at (c₂ .put-holder .ensures))
 
 same-length-2 : tie.Need-same-length-2
 same-length-2 c = search needs
@@ -50,7 +50,7 @@ returns-2 c =
     let c₂ = c .before .before in
     let c₃ = c₂ .before in
     let c₆ = c₃ .before .before .before in
-    rw (c₆ .q2 .given .1, ← (c₃ .period-of .ensures)) (c₂ .put-period .ensures)
+    rw (c₆ .q2 .given .1) (rw (c₃ .period-of .ensures) at (c₂ .put-period .ensures))
 
 same-length-3 : tie.Need-same-length-3
 same-length-3 c = search needs
@@ -61,7 +61,7 @@ returns-3 c =
     let c₂ = c .before .before in
     let c₃ = c₂ .before in
     let c₆ = c₃ .before .before .before in
-    rw (c₆ .q3 .given .1, ← (c₃ .advance-of .ensures)) (c₂ .put-advance .ensures)
+    rw (c₆ .q3 .given .1) (rw (c₃ .advance-of .ensures) at (c₂ .put-advance .ensures))
 
 pub put-answer-spec : {M : Type 1} → statement M
 put-answer-spec =

@@ -1,5 +1,5 @@
 use native.Mathlib.Omega.{arith}
-use Rattle.listing.proofs.Growing.{within-more}
+use Rattle.listing.proofs.Growing.{within-more, within-length}
 use Rattle.asking.specs.Lines.{reply, head, line}
 use Rattle.asking.proofs.Writing.{room-left}
 use borrow.Author.Needs.{needs}
@@ -13,7 +13,10 @@ put-answer-requires : tie.Need-put-answer-requires
 put-answer-requires c κs =
     let c₃ = c .before .before .before in
     let c₆ = c₃ .before .before .before in
-    room-left 62 66 (c₆ .args .at) _ _ _ _ (c₃ .put-head .ensures) (omega arith)
+    let a = c₆ .args in
+    let room = room-left 62 66 (a .at) _ _ _ _ (c₃ .put-head .ensures) (omega arith) in
+    let long = within-length 62 (a .at) _ _ _ _ (c₃ .put-head .ensures) (omega arith) in
+    omega arith
 
 same-length : tie.Need-same-length
 same-length c = search needs

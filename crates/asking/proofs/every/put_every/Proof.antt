@@ -1,11 +1,10 @@
-use Prim.Native.Nat.{_*_}
 use native.Mathlib.Omega.{arith}
-use Rattle.listing.proofs.Growing.{within-length}
 use Rattle.asking.specs.All.{taken}
 use Rattle.asking.proofs.Handing.{handed-none, handed}
 use borrow.Author.Needs.{needs}
 use Rattle.asking.proofs.every.put_every.Statement.{statement}
 use Rattle.asking.proofs.every.put_every.Tie as tie
+use Rattle.asking.proofs.Handing.{lines-length}
 
 returns : tie.Need-returns
 returns c =
@@ -29,18 +28,23 @@ put-lines-requires c κs =
 place-at-requires : tie.Need-place-at-requires
 place-at-requires c κs =
     let c₄ = c .before .before .before .before in
+    let c₄ = c₄ in
     let n = c₄ .taken-of .ensures in (omega arith, omega arith)
 
 same-length : tie.Need-same-length
 same-length c =
     let c₃ = c .before .before .before in
     let c₅ = c₃ .before .before in
-    within-length (c₅ .taken-of .result * 128) 0 _ _ _ _ (c₃ .put-lines .ensures)
-    (omega (arith, c₅ .taken-of .ensures))
+    let c₇ = c₅ .before .before in
+    let c₁₀ = c₇ .before .before .before in
+    let a = c₁₀ .args in
+    lines-length (a .r) (c₇ .scope-of .result) (a .from .point) (a .from .index) (c₅ .taken-of .result) (a .out .now)
+    _ _ (c₃ .put-lines .ensures) (omega (arith, c₅ .taken-of .ensures))
 
 returns-2 : tie.Need-returns-2
 returns-2 c =
     let c₃ = c .before .before .before in
+    let c₃ = c₃ in
     let c₅ = c₃ .before .before in
     let c₆ = c₅ .before in
     let c₇ = c₆ .before in

@@ -1,7 +1,9 @@
+use mathlib.Core.Path.{sym, _∙_}
 use Rattle.asking.specs.Asking.{byThree}
 use borrow.Author.Needs.{needs}
 use Rattle.asking.proofs.words.by_three.Statement.{statement}
 use Rattle.asking.proofs.words.by_three.Tie as tie
+use Rattle.asking.proofs.Values.{three-holder, three-period}
 
 slice-aggregate-same : tie.Need-slice-aggregate-same
 slice-aggregate-same c = search needs
@@ -19,13 +21,14 @@ holder-asked-requires : tie.Need-holder-asked-requires
 holder-asked-requires c κs = search needs
 
 returns : tie.Need-returns
-unfolding byThree
 returns c =
     let c₂ = c .before .before in
     let c₃ = c₂ .before in
     let c₄ = c₃ .before in
-    rw (← (c₄ .same .ensures), c₃ .if1 .taken, ← (c₂ .number-value .ensures), ← (c .before .date-value .ensures))
-    (c .holder-asked .ensures)
+    let c₉ = c₄ .before .before .before .before .before in
+    let a = c₉ .args in
+    rw (c₂ .number-value .ensures, c .before .date-value .ensures) at (c .holder-asked .ensures) ∙
+    sym (three-holder (a .word .now) (a .first .now) (a .second .now) (sym (c₄ .same .ensures) ∙ c₃ .if1 .taken))
 
 slice-aggregate-same-2 : tie.Need-slice-aggregate-same-2
 slice-aggregate-same-2 c = search needs
@@ -43,26 +46,23 @@ period-asked-requires : tie.Need-period-asked-requires
 period-asked-requires c κs = search needs
 
 returns-2 : tie.Need-returns-2
-unfolding byThree
 returns-2 c =
     let c₂ = c .before .before in
     let c₃ = c₂ .before in
     let c₄ = c₃ .before in
     let c₆ = c₄ .before .before in
     let c₇ = c₆ .before in
-    rw (
-      ← (c₇ .same .ensures),
-      c₆ .if1 .left,
-      ← (c₄ .same2 .ensures),
-      c₃ .if2 .taken,
-      ← (c₂ .number-value2 .ensures),
-      ← (c .before .number-value3 .ensures),
-    ) (c .period-asked .ensures)
+    let c₁₂ = c₇ .before .before .before .before .before in
+    let a = c₁₂ .args in
+    rw (c₂ .number-value2 .ensures, c .before .number-value3 .ensures) at (c .period-asked .ensures) ∙
+    sym (three-period (a .word .now) (a .first .now) (a .second .now) (sym (c₇ .same .ensures) ∙ c₆ .if1 .left)
+    (sym (c₄ .same2 .ensures) ∙ c₃ .if2 .taken))
 
 returns-3 : tie.Need-returns-3
 unfolding byThree
 returns-3 c =
     let c₃ = c .before .before .before in
+    let c₃ = c₃ in
     let c₄ = c₃ .before in
     rw (← (c₄ .same .ensures), c₃ .if1 .left, ← (c .before .same2 .ensures), c .if2 .left)
 

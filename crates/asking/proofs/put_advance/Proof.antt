@@ -1,3 +1,4 @@
+-- The answer to the advance question, by its cases.
 use Rattle.asking.specs.Lines.{advanceReply}
 use borrow.Author.Needs.{needs}
 use Rattle.asking.proofs.put_advance.Statement.{statement}

@@ -1,3 +1,4 @@
+-- The answer to a question, by the question's cases.
 use Rattle.asking.specs.Lines.{reply}
 use borrow.Author.Needs.{needs}
 use Rattle.asking.proofs.put_answer.Statement.{statement}

@@ -1,3 +1,4 @@
+-- A number, and the byte behind it.
 use native.Mathlib.Omega.{arith}
 use Rattle.asking.proofs.Writing.{field-put}
 use borrow.Author.Needs.{needs}

@@ -1,3 +1,4 @@
+-- The question in front of its answer, by its cases.
 use native.Mathlib.Omega.{arith}
 use Rattle.asking.specs.Lines.{head}
 use Rattle.asking.proofs.Writing.{within-wider}

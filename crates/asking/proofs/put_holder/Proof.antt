@@ -1,3 +1,4 @@
+-- The answer to the holder question, by its cases.
 use Rattle.asking.specs.Lines.{holderReply}
 use borrow.Author.Needs.{needs}
 use Rattle.asking.proofs.put_holder.Statement.{statement}

@@ -1,3 +1,4 @@
+-- The question, and behind it its answer.
 use native.Mathlib.Omega.{arith}
 use Rattle.listing.proofs.Growing.{within-more, within-length}
 use Rattle.asking.specs.Lines.{reply, head, line}

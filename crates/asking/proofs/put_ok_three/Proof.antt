@@ -1,3 +1,4 @@
+-- `ok;` and three values, one behind the other.
 use native.Mathlib.Omega.{arith}
 use Rattle.text.specs.Ascii.{ascii}
 use Rattle.asking.proofs.Writing.{room-left, two-put, three-put}

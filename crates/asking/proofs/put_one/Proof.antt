@@ -1,3 +1,4 @@
+-- A word, and a number with the byte behind it.
 use lib.ListN.{length}
 use native.Mathlib.Omega.{arith}
 use Rattle.asking.proofs.Writing.{within, room-left, one-put}

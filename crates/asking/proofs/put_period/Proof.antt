@@ -1,3 +1,4 @@
+-- The answer to the period question, by its cases.
 use Rattle.asking.specs.Lines.{periodReply}
 use borrow.Author.Needs.{needs}
 use Rattle.asking.proofs.put_period.Statement.{statement}

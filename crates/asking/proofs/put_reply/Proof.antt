@@ -1,3 +1,4 @@
+-- `asking::put_reply` meets its contract: the line is made aside, where it surely fits, and copied.
 use mathlib.Core.Path.{sym}
 use native.Mathlib.Omega.{arith}
 use Rattle.listing.proofs.Growing.{within-length, within-end}

@@ -1,3 +1,4 @@
+-- A word and two numbers.
 use Prim.Native.Nat.{_+_}
 use lib.ListN.{length}
 use native.Mathlib.Omega.{arith}

@@ -1,3 +1,4 @@
+-- `asking::put_unopened` meets its contract.
 use Rattle.asking.specs.Lines.{unopened}
 use borrow.Author.Needs.{needs}
 use Rattle.asking.proofs.put_unopened.Statement.{statement}

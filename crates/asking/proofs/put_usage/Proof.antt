@@ -1,3 +1,4 @@
+-- `asking::put_usage` meets its contract.
 use Rattle.asking.specs.Lines.{usage}
 use borrow.Author.Needs.{needs}
 use Rattle.asking.proofs.put_usage.Statement.{statement}

@@ -1,3 +1,4 @@
+-- The question of an enrolled point at an index: a period's, or a day's.
 use mathlib.Core.Path.{sym}
 use native.Mathlib.Omega.{arith}
 use Rattle.asking.specs.declared.Question.the-variants.{Advance}

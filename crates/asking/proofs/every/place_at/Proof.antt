@@ -1,3 +1,4 @@
+-- The place behind n questions.
 use borrow.Author.Tests.{lt-ltb, le-ltb}
 use Rattle.asking.specs.All.{taken}
 use borrow.Author.Needs.{needs}

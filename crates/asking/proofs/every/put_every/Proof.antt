@@ -1,3 +1,4 @@
+-- `asking::every::put_every` meets its contract.
 use native.Mathlib.Omega.{arith}
 use Rattle.asking.specs.All.{taken}
 use Rattle.asking.proofs.Handing.{handed-none, handed}

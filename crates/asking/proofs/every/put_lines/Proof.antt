@@ -1,3 +1,4 @@
+-- The lines of the questions passed so far stand at the start of the buffer.
 use Prim.Native.Nat.{_+_, _-_, _*_, _≤_, _<_}
 use mathlib.Core.Path.{_≡_}
 use lib.ListN.{length, drop, length-drop}

@@ -1,3 +1,4 @@
+-- The question at an index: the first, or one behind it.
 use Prim.Native.Nat.{_<_}
 use mathlib.Core.Path.{sym, _∙_}
 use native.Mathlib.Omega.{arith}

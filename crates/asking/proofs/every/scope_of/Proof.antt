@@ -1,3 +1,4 @@
+-- What decides which questions are asked of a point.
 use mathlib.Core.Path.{sym, _∙_}
 use native.Mathlib.Omega.{arith}
 use Rattle.questions.proofs.Asked.{asked-in}

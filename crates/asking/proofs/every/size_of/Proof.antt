@@ -1,3 +1,4 @@
+-- How many questions there are.
 use native.Mathlib.Omega.{arith}
 use Rattle.asking.specs.All.{size, taken}
 use borrow.Author.Needs.{needs}

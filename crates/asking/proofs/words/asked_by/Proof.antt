@@ -1,3 +1,4 @@
+-- `asking::words::asked_by` meets its contract: by the count of the words.
 use mathlib.Core.Path.{sym, _∙_}
 use borrow.Author.Needs.{needs}
 use Rattle.asking.proofs.words.asked_by.Statement.{statement}

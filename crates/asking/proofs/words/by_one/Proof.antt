@@ -1,3 +1,4 @@
+-- One word.
 use Rattle.asking.specs.Asking.{byOne}
 use borrow.Author.Needs.{needs}
 use Rattle.asking.proofs.words.by_one.Statement.{statement}

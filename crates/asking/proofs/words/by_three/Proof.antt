@@ -1,3 +1,4 @@
+-- Three words.
 use mathlib.Core.Path.{sym, _∙_}
 use Rattle.asking.specs.Asking.{byThree}
 use borrow.Author.Needs.{needs}

@@ -1,3 +1,4 @@
+-- Two words.
 use Rattle.asking.specs.Asking.{byTwo}
 use borrow.Author.Needs.{needs}
 use Rattle.asking.proofs.words.by_two.Statement.{statement}

@@ -1,3 +1,4 @@
+-- The value of a word that is a date.
 use mathlib.Core.Path.{sym, ap, _∙_}
 use Rattle.asking.specs.Asking.{valueOf, dateValue}
 use Rattle.asking.proofs.Values.{whole-value}

@@ -1,3 +1,4 @@
+-- Both values are there, or nothing is asked.
 use borrow.Author.Needs.{needs}
 use Rattle.asking.proofs.words.period_asked.Statement.{statement}
 use Rattle.asking.proofs.words.period_asked.Tie as tie

@@ -1,3 +1,4 @@
+-- What was read, where nothing follows it.
 use mathlib.Core.Path.{sym}
 use borrow.Author.Needs.{needs}
 use Rattle.asking.proofs.words.whole.Statement.{statement}

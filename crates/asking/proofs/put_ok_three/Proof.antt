@@ -15,14 +15,12 @@ put-one-requires c κs = search needs
 put-field-requires : tie.Need-put-field-requires
 put-field-requires c κs =
     let c₃ = c .before .before .before in
-    let c₃ = c₃ in
     let c₇ = c₃ .before .before .before .before in
     room-left 24 21 (c₇ .args .at) _ _ _ _ (c₃ .put-one .ensures) (omega arith)
 
 put-field-requires-2 : tie.Need-put-field-requires-2
 put-field-requires-2 c κs =
     let c₃ = c .before .before .before in
-    let c₃ = c₃ in
     let c₇ = c₃ .before .before .before .before in
     let c₁₁ = c₇ .before .before .before .before in
     let a = c₁₁ .args in

@@ -26,7 +26,6 @@ array-share-prefix-text c =
 slice-aggregate-put-word : tie.Need-slice-aggregate-put-word
 slice-aggregate-put-word c =
     let c₃ = c .before .before .before in
-    let c₃ = c₃ in
     let c₆ = c₃ .before .before .before in
     let k = within-end 66 0 (reply (c₆ .args .r) (c₆ .args .q)) _ _ _ (c₃ .put-answer .ensures) (omega arith) in
     let len = within-length 66 0 (reply (c₆ .args .r) (c₆ .args .q)) _ _ _ (c₃ .put-answer .ensures) (omega arith) in

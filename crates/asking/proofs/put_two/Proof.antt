@@ -13,7 +13,6 @@ put-one-requires c κs = search needs
 put-field-requires : tie.Need-put-field-requires
 put-field-requires c κs =
     let c₃ = c .before .before .before in
-    let c₃ = c₃ in
     let c₇ = c₃ .before .before .before .before in
     let a = c₇ .args in
     room-left (length (a .word .now) + 21) 21 (a .at) _ _ _ _ (c₃ .put-one .ensures) (omega arith)

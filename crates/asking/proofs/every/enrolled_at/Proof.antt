@@ -31,7 +31,6 @@ add-day c = omega (arith, c .day-before .ensures)
 returns-2 : tie.Need-returns-2
 returns-2 c =
     let c₃ = c .before .before .before in
-    let c₃ = c₃ in
     let a = c₃ .args in
     rw (c .day-before .ensures) (sym (day-at (a .p) (a .s) (Advance (a .p)) (a .i) (c .before .if1 .left) (c₃ .pre)))
 

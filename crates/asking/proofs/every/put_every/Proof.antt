@@ -29,7 +29,6 @@ put-lines-requires c κs =
 place-at-requires : tie.Need-place-at-requires
 place-at-requires c κs =
     let c₄ = c .before .before .before .before in
-    let c₄ = c₄ in
     let n = c₄ .taken-of .ensures in (omega arith, omega arith)
 
 same-length : tie.Need-same-length
@@ -45,7 +44,6 @@ same-length c =
 returns-2 : tie.Need-returns-2
 returns-2 c =
     let c₃ = c .before .before .before in
-    let c₃ = c₃ in
     let c₅ = c₃ .before .before in
     let c₆ = c₅ .before in
     let c₇ = c₆ .before in

@@ -36,7 +36,6 @@ question-at-requires c κs = search needs
 put-line-requires : tie.Need-put-line-requires Inv-loop μ-loop
 put-line-requires c κs =
     let c₃ = c .before .before .before in
-    let c₃ = c₃ in
     let l = c₃ .loop in
     let len = within-length (l .i * 128) 0 _ _ _ _ (l .inv .1) (omega arith) in
     let end = within-end (l .i * 128) 0 _ _ _ _ (l .inv .1) (omega arith) in
@@ -73,13 +72,12 @@ loop-again c =
 
 same-length : tie.Need-same-length Inv-loop μ-loop
 same-length c =
-    let l = (c .before .loop) in
+    let l = c .before .loop in
     within-length (l .i * 128) 0 _ _ _ _ (l .inv .1) (omega arith)
 
 returns : tie.Need-returns Inv-loop μ-loop
 returns c =
     let c₃ = c .before .before .before in
-    let c₃ = c₃ in
     let z : c .before .loop .i ≡ c₃ .args .n = omega arith in
     rw (← z) (c .before .loop .inv .1)
 

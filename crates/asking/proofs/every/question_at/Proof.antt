@@ -24,7 +24,6 @@ enrolled-at-requires c κs =
 returns-2 : tie.Need-returns-2
 returns-2 c =
     let c₃ = c .before .before .before in
-    let c₃ = c₃ in
     c .enrolled-at .ensures ∙ sym (enrolled-at (c₃ .args .p) (c₃ .args .s) (Advance (c₃ .args .p)) (c₃ .args .i)
     (omega arith) (c .before .if2 .taken))
 
@@ -40,7 +39,6 @@ returns-3 c =
 returns-4 : tie.Need-returns-4
 returns-4 c =
     let c₃ = c .before .before .before in
-    let c₃ = c₃ in
     sym (period-off (c₃ .args .p) (c₃ .args .s) (Advance (c₃ .args .p)) (c₃ .args .i) (omega arith) (c₃ .pre)
     (c .before .if2 .left))
 

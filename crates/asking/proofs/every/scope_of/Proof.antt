@@ -48,7 +48,6 @@ returns-2 : tie.Need-returns-2
 unfolding scopeOf
 returns-2 c =
     let c₄ = c .before .before .before .before in
-    let c₄ = c₄ in
     let c₅ = c₄ .before in
     rw (← (c₅ .is-unasked .ensures), c₄ .if1 .left, ← (c .marks .ensures))
 

@@ -63,7 +63,6 @@ returns-3 : tie.Need-returns-3
 unfolding byThree
 returns-3 c =
     let c₃ = c .before .before .before in
-    let c₃ = c₃ in
     let c₄ = c₃ .before in
     rw (← (c₄ .same .ensures), c₃ .if1 .left, ← (c .before .same2 .ensures), c .if2 .left)
 

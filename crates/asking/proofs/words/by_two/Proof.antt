@@ -31,7 +31,6 @@ returns-2 : tie.Need-returns-2
 unfolding byTwo
 returns-2 c =
     let c₃ = c .before .before .before in
-    let c₃ = c₃ in
     let c₄ = c₃ .before in
     let c₅ = c₄ .before in
     rw (← (c₅ .same .ensures), c₄ .if1 .taken, ← (c₃ .number-value .ensures), c .before .point .given .1)

@@ -16,7 +16,6 @@ returns : tie.Need-returns
 unfolding dateValue
 returns c =
     let c₃ = c .before .before .before in
-    let c₃ = c₃ in
     c .whole .ensures ∙ whole-value (c₃ .args .word .now) (c .before .date-at .result) ∙ ap valueOf
     (sym (c .before .date-at .ensures))
 

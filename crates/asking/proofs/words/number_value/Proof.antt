@@ -16,7 +16,6 @@ returns : tie.Need-returns
 unfolding numberValue
 returns c =
     let c₃ = c .before .before .before in
-    let c₃ = c₃ in
     c .whole .ensures ∙ whole-value (c₃ .args .word .now) (c .before .number-at .result) ∙ ap valueOf
     (sym (c .before .number-at .ensures))
 

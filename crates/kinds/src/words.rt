@@ -141,9 +141,9 @@ fn is_word(w: &[u8], kind: Kind) -> bool
 pub fn put_kind(out: &mut [u8], at: usize, kind: Kind) -> usize
     ensures { λ r. ⌜ Appended at (Kinds·word kind) (now (out .entry)) (now (out .exit)) r ⌝ }
 {
-    let name = word_of(kind);
-    let bytes = name.bytes;
-    let n = name.len;
+    let word = word_of(kind);
+    let bytes = word.bytes;
+    let n = word.len;
     put_word(out, at, &bytes[..n])
 }
 

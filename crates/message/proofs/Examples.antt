@@ -5,13 +5,13 @@ use Rattle.dates.specs.Numbers.{monthStart, yearStart, dayNumber, isReal, dayAn
 use Rattle.text.specs.Words.{isSame}
 use Rattle.text.specs.Decimal.{moreOf, numberOf, fixedOf}
 use Rattle.text.specs.Days.{dayIn}
-use Rattle.text.specs.Fields.{fieldOf, fieldsOf, sortsFrom, fieldsIn}
+use Rattle.text.specs.Fields.{fieldOf, fieldsOf, sortsFrom}
 use Rattle.kinds.specs.Kinds.{kindIn}
 use Rattle.message.specs.Reading.{wordEnd, readLine}
 use Rattle.message.specs.Examples.{LineExamples}
 
 pub line-examples : LineExamples
-unfolding leapRow monthLength monthStart yearStart dayNumber isReal dayAnswer isSame moreOf numberOf fixedOf dayIn fieldOf fieldsOf sortsFrom fieldsIn wordEnd kindIn readLine
+unfolding leapRow monthLength monthStart yearStart dayNumber isReal dayAnswer isSame moreOf numberOf fixedOf dayIn fieldOf fieldsOf sortsFrom wordEnd kindIn readLine
 line-examples =
     record {
       set-2021 = refl;

@@ -4,4 +4,6 @@ pub mod OneLine
 pub mod FieldLoops
 pub mod LineTexts
 pub mod WrittenLines
+pub mod PlainTexts
+pub mod NextLines
 pub mod Examples

@@ -1,16 +1,15 @@
 -- Each call and each opening has one line, and each line at most one meaning: the statement `OneLine`, proved.
-use Prim.Native.Nat.{ℕ, zero, suc, _+_, _-_, _≤_}
+use Prim.Native.Nat.{ℕ, zero, suc, _≤_}
 use mathlib.Core.Path.{_≡_, refl, sym, ap, _∙_}
 use mathlib.Core.Bool.{Bool, true, false, cond}
 use mathlib.Core.List.{List, [], _∷_, _++_, append-nil}
 use native.Mathlib.Omega.{arith}
 use lib.Dec.{leb}
-use lib.ListN.{length, take, drop, replicate, length-append, length-replicate, take-append-drop}
-use lib.Seq.{take-at, drop-at}
-use borrow.Author.Tests.{le-leb, leb-true}
-use Rattle.text.specs.Fields.{Values, values, unread, fieldsText, fitAll, fieldsOf, sortsFrom, sortsOf, placed, fieldsIn}
+use lib.ListN.{length, take, drop, length-append, take-append-drop}
+use lib.Seq.{take-at, take-all, drop-at}
+use borrow.Author.Tests.{le-leb}
+use Rattle.text.specs.Fields.{Values, values, unread, fieldsText, fitAll, fieldsOf, sortsFrom, sortsOf}
 use Rattle.text.proofs.FieldTexts.{fields-back, FieldsAre, fields-only, fields-short, fit-count}
-use Rattle.text.proofs.FieldSteps.{fields-are}
 use Rattle.kinds.specs.declared.Kind.{Kind}
 use Rattle.kinds.specs.declared.Kind.the-variants.{Unknown}
 use Rattle.message.specs.declared.Message.{Message}
@@ -21,8 +20,7 @@ use Rattle.message.specs.Reading.{wordEnd, messageWith, messageAs, readL
 use Rattle.message.specs.Writing.{isWritable, textOf}
 use Rattle.message.specs.OneLine.{OneLine}
 use Rattle.kinds.proofs.Naming.{Found, named, unnamed, found}
-use Rattle.kinds.proofs.KindTable.{few}
-use Rattle.message.proofs.Rows.{firsts-take, own, Row, row, parts-back, known}
+use Rattle.message.proofs.Rows.{firsts-take, own, own-enough, row, parts-back, known}
 
 -- the line of a kind and its values
 module _ (k : Kind) (v : List ℕ) (h : k ≡ Unknown → ⊥) (fit : isWritable (messageOf k v) ≡ true) where
@@ -42,7 +40,7 @@ module _ (k : Kind) (v : List ℕ) (h : k ≡ Unknown → ⊥) (fit : isWritable
   line-back =
       let r = row k v h in
       let text = fieldsText (sortsOf (shapeOf k)) (own k v) in
-      let whole = fields-are (shapeOf k) text (few k) (values (own k v)) (fields-back (sortsOf (shapeOf k)) [] (own k v) fields-fit) in
+      let whole = fields-back (sortsOf (shapeOf k)) [] (own k v) fields-fit in
       let long : length (word k ++ text) ≤ 96 = let q = line-short in omega (arith, ap length (r .text)) in
       rw (
         r .text,
@@ -53,7 +51,7 @@ module _ (k : Kind) (v : List ℕ) (h : k ≡ Unknown → ⊥) (fit : isWritable
         r .named,
         whole,
       )
-      (r .back)
+      (own-enough k v)
 
 -- the values of a line, in their places
 sorts-length : (second i n : ℕ) → length (sortsFrom second i n) ≡ n
@@ -61,51 +59,45 @@ unfolding sortsFrom
 sorts-length second i zero = refl
 sorts-length second i (suc n) = ap suc (sorts-length second (suc i) n)
 
-own-places : (k : Kind) (vs : List ℕ) → length vs ≡ shapeOf k .count → shapeOf k .count ≤ 7 →
-    own k (vs ++ replicate (7 - length vs) 0) ≡ vs
-own-places k vs e h =
-    let sum = length-append vs (replicate (7 - length vs) 0) in
-    let zeros = length-replicate {A = ℕ} (7 - length vs) 0 in
-    firsts-take (shapeOf k .count) 0 (vs ++ replicate (7 - length vs) 0) (omega arith) ∙
-    take-at vs (replicate (7 - length vs) 0) (shapeOf k .count) e
+own-all : (k : Kind) (vs : List ℕ) → length vs ≡ shapeOf k .count → own k vs ≡ vs
+own-all k vs e =
+    firsts-take (shapeOf k .count) 0 vs (omega arith) ∙ take-all (shapeOf k .count) vs (omega arith)
 
 -- a line of a kind's word and fields that were read is the line of its message
-module _ (l F : List ℕ) (k : Kind) (vs : List ℕ) (e : l ≡ word k ++ F) (f : FieldsAre (sortsOf (shapeOf k)) F [] vs) (h : k ≡ Unknown → ⊥) where
-  abbrev places : List ℕ
-  places = vs ++ replicate (7 - length vs) 0
-
-  own-is : own k places ≡ f .ns
+module _ (t F : List ℕ) (k : Kind) (vs : List ℕ) (e : t ≡ word k ++ F)
+    (f : FieldsAre (sortsOf (shapeOf k)) F [] [] vs) (h : k ≡ Unknown → ⊥) where
+  own-is : own k vs ≡ f .ns
   own-is =
-      let count = fit-count (sortsOf (shapeOf k)) (f .ns) (f .fit) ∙ sorts-length (shapeOf k .second) 0 (shapeOf k .count) in
-      own-places k vs (ap length (f .all) ∙ count) (few k) ∙ f .all
+      let count = fit-count (sortsOf (shapeOf k)) (f .ns) (f .fit) ∙
+      sorts-length (shapeOf k .second) 0 (shapeOf k .count) in
+      own-all k vs (ap length (f .all) ∙ count) ∙ f .all
 
-  line-is : (l ≡ lineOf (messageOf k places)) × (isWritable (messageOf k places) ≡ true)
+  pub line-is : (t ≡ lineOf (messageOf k vs)) × (isWritable (messageOf k vs) ≡ true)
   line-is =
-      let r = row k places h in
-      (e ∙ ap (_++_ (word k)) (f .text) ∙ sym (rw own-is at (r .text)), rw own-is at (r .fit) ∙ f .fit)
+      let r = row k vs h in
+      let text = f .text ∙ append-nil (fieldsText (sortsOf (shapeOf k)) (f .ns)) in
+      (e ∙ ap (_++_ (word k)) text ∙ sym (rw own-is at (r .text)), rw own-is at (r .fit) ∙ f .fit)
 
 -- a line that is read as a message that is not Unreadable is that message's line
 line-was : (l : List ℕ) (m : Message) → readLine l ≡ m → (m ≡ Unreadable → ⊥) → (l ≡ lineOf m) × (isWritable m ≡ true)
 unfolding readLine
 line-was l m e n = long (leb (length l) 96) e where
-  fields : (k : Kind) → Found (take (wordEnd l) l) k → (x : Values) → fieldsOf (sortsOf (shapeOf k)) [] (drop (wordEnd l) l) ≡ x →
-      messageWith k (placed x) ≡ m → (l ≡ lineOf m) × (isWritable m ≡ true)
-  fields k f unread p w = absurd (n (sym w))
-  fields k unnamed (values vs) p w = absurd (n (sym w))
-  fields k (named q) (values vs) p w =
+  kind : (k : Kind) → Found (take (wordEnd l) l) k → (x : Values) →
+      fieldsOf (sortsOf (shapeOf k)) [] (drop (wordEnd l) l) ≡ x →
+      messageWith k x ≡ m → (l ≡ lineOf m) × (isWritable m ≡ true)
+  kind k f unread p w = absurd (n (sym w))
+  kind k f (values vs (c ∷ r)) p w = absurd (n (sym w))
+  kind k unnamed (values vs []) p w = absurd (n (sym w))
+  kind k (named q) (values vs []) p w =
       rw (← w)
-      (line-is l (drop (wordEnd l) l) k vs (sym (take-append-drop (wordEnd l) l) ∙ ap (λ (x : List ℕ). x ++ drop (wordEnd l) l) q)
-      (fields-only (sortsOf (shapeOf k)) [] (drop (wordEnd l) l) vs p)
-      (λ u. n (sym w ∙ ap (λ (j : Kind). messageOf j (vs ++ replicate (7 - length vs) 0)) u)))
-
-  kind : (k : Kind) → Found (take (wordEnd l) l) k → messageAs k (drop (wordEnd l) l) ≡ m → (l ≡ lineOf m) × (isWritable m ≡ true)
-  kind k f w =
-      fields k f (fieldsOf (sortsOf (shapeOf k)) [] (drop (wordEnd l) l)) refl
-      (sym (ap (messageWith k) (fields-are (shapeOf k) (drop (wordEnd l) l) (few k) _ refl)) ∙ w)
+      (line-is l (drop (wordEnd l) l) k vs (sym (take-append-drop (wordEnd l) l) ∙
+      ap (λ (x : List ℕ). x ++ drop (wordEnd l) l) q)
+      (fields-only (sortsOf (shapeOf k)) [] (drop (wordEnd l) l) vs [] p)
+      (λ u. n (sym w ∙ ap (λ (j : Kind). messageOf j vs) u)))
 
   long : (b : Bool) → cond b (messageAs (kindNamed (take (wordEnd l) l)) (drop (wordEnd l) l)) Unreadable ≡ m →
       (l ≡ lineOf m) × (isWritable m ≡ true)
-  long true w = kind (kindNamed (take (wordEnd l) l)) (found kinds (take (wordEnd l) l)) w
+  long true w = kind (kindNamed (take (wordEnd l) l)) (found kinds (take (wordEnd l) l)) _ refl w
   long false w = absurd (n (sym w))
 
 -- a writable message, by its kind and values
@@ -120,7 +112,7 @@ module _ (m : Message) (fit : isWritable m ≡ true) where
   unfolding textOf
   its-text = rw fit
 
-  its-line-back : readLine (lineOf m) ≡ m
+  pub its-line-back : readLine (lineOf m) ≡ m
   its-line-back = rw its-parts at (line-back (kindOf m) (partsOf m .values) (known m fit) its-fit)
 
   its-line-short : length (lineOf m) ≤ 90

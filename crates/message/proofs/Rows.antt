@@ -1,16 +1,14 @@
 -- The table of kinds agrees with the lines: for each kind, the line of its message is its word and the row of its fields.
-use Prim.Native.Nat.{ℕ, zero, suc, _+_, _-_, _*_, _≤_}
-use mathlib.Core.Path.{_≡_, refl, sym, ap, ap₂, _∙_}
-use mathlib.Core.Bool.{Bool, true, false}
+use Prim.Native.Nat.{ℕ, zero, suc, _+_, _*_, _≤_}
+use mathlib.Core.Path.{_≡_, refl, ap}
+use mathlib.Core.Bool.{true}
 use mathlib.Core.List.{List, [], _∷_, _++_}
 use native.Mathlib.Omega.{arith}
-use native.Mathlib.Nat.{add-zero}
 use lib.Dec.{lit≤}
-use lib.ListN.{length, take, drop, getD, replicate}
+use lib.ListN.{length, take, drop, getD}
 use lib.Seq.{drop-cons}
 use Rattle.rules.specs.declared.Action.{Action}
 use Rattle.rules.specs.declared.Action.the-variants.{SignContract, Failure, At, Day}
-use Rattle.rules.specs.declared.PointAction.{PointAction}
 use Rattle.rules.specs.declared.PointAction.the-variants.{Enrol, IntoService, DefaultSupply, AskSwitch, Cancel, Read, ChangeMeter, OutOfService, Suspend}
 use Rattle.text.specs.Words.{isSame}
 use Rattle.text.specs.Fields.{fieldsText, fitAll, sortsFrom, sortsOf}
@@ -20,7 +18,7 @@ use Rattle.kinds.specs.declared.Kind.the-variants.{Set, Ctr, Def, Enr, Demmespc
 use Rattle.message.specs.declared.Message.{Message}
 use Rattle.message.specs.declared.Message.the-variants.{Open, Ask, Unreadable}
 use Rattle.kinds.specs.Kinds.{word, kindIn, kindNamed, shapeOf}
-use Rattle.message.specs.Lines.{lineOf, kindOf, partsOf, messageOf, ask, askAt}
+use Rattle.message.specs.Lines.{lineOf, kindOf, partsOf, messageOf, ask}
 use Rattle.message.specs.Reading.{wordEnd}
 use Rattle.message.specs.Writing.{isWritable, fitParts}
 
@@ -39,11 +37,27 @@ firsts-take (suc n) i v h =
 abbrev pub own : Kind → List ℕ → List ℕ
 own k v = firsts 0 (shapeOf k .count) v
 
+-- a message is made of those only
+pub own-enough : (k : Kind) (v : List ℕ) → messageOf k (own k v) ≡ messageOf k v
+own-enough Set v = refl
+own-enough Ctr v = refl
+own-enough Def v = refl
+own-enough Enr v = refl
+own-enough Demmespc v = refl
+own-enough I v = refl
+own-enough Demcf v = refl
+own-enough Adc v = refl
+own-enough Ri v = refl
+own-enough Cdt v = refl
+own-enough Demmhs v = refl
+own-enough Sus v = refl
+own-enough Jour v = refl
+own-enough Unknown v = refl
+
 -- what holds of each kind
 pub record Row (k : Kind) (v : List ℕ) : Type 0 where
   pub text : lineOf (messageOf k v) ≡ word k ++ fieldsText (sortsOf (shapeOf k)) (own k v)
   pub fit : isWritable (messageOf k v) ≡ fitAll (sortsOf (shapeOf k)) (own k v)
-  pub back : messageOf k (own k v ++ replicate (7 - length (own k v)) 0) ≡ messageOf k v
   pub ends : wordEnd (word k ++ fieldsText (sortsOf (shapeOf k)) (own k v)) ≡ length (word k)
   pub named : kindNamed (word k) ≡ k
   pub small : length (word k) + widths (sortsOf (shapeOf k)) ≤ 90
@@ -51,19 +65,19 @@ pub record Row (k : Kind) (v : List ℕ) : Type 0 where
 
 pub row : (k : Kind) (v : List ℕ) → (k ≡ Unknown → ⊥) → Row k v
 unfolding sortsFrom fitAll wordEnd kindIn isSame isWritable
-row Set v h = record { text = refl; fit = refl; back = refl; ends = refl; named = refl; small = lit≤ tt; room = lit≤ tt }
-row Ctr v h = record { text = refl; fit = refl; back = refl; ends = refl; named = refl; small = lit≤ tt; room = lit≤ tt }
-row Def v h = record { text = refl; fit = refl; back = refl; ends = refl; named = refl; small = lit≤ tt; room = lit≤ tt }
-row Enr v h = record { text = refl; fit = refl; back = refl; ends = refl; named = refl; small = lit≤ tt; room = lit≤ tt }
-row Demmespc v h = record { text = refl; fit = refl; back = refl; ends = refl; named = refl; small = lit≤ tt; room = lit≤ tt }
-row I v h = record { text = refl; fit = refl; back = refl; ends = refl; named = refl; small = lit≤ tt; room = lit≤ tt }
-row Demcf v h = record { text = refl; fit = refl; back = refl; ends = refl; named = refl; small = lit≤ tt; room = lit≤ tt }
-row Adc v h = record { text = refl; fit = refl; back = refl; ends = refl; named = refl; small = lit≤ tt; room = lit≤ tt }
-row Ri v h = record { text = refl; fit = refl; back = refl; ends = refl; named = refl; small = lit≤ tt; room = lit≤ tt }
-row Cdt v h = record { text = refl; fit = refl; back = refl; ends = refl; named = refl; small = lit≤ tt; room = lit≤ tt }
-row Demmhs v h = record { text = refl; fit = refl; back = refl; ends = refl; named = refl; small = lit≤ tt; room = lit≤ tt }
-row Sus v h = record { text = refl; fit = refl; back = refl; ends = refl; named = refl; small = lit≤ tt; room = lit≤ tt }
-row Jour v h = record { text = refl; fit = refl; back = refl; ends = refl; named = refl; small = lit≤ tt; room = lit≤ tt }
+row Set v h = record { text = refl; fit = refl; ends = refl; named = refl; small = lit≤ tt; room = lit≤ tt }
+row Ctr v h = record { text = refl; fit = refl; ends = refl; named = refl; small = lit≤ tt; room = lit≤ tt }
+row Def v h = record { text = refl; fit = refl; ends = refl; named = refl; small = lit≤ tt; room = lit≤ tt }
+row Enr v h = record { text = refl; fit = refl; ends = refl; named = refl; small = lit≤ tt; room = lit≤ tt }
+row Demmespc v h = record { text = refl; fit = refl; ends = refl; named = refl; small = lit≤ tt; room = lit≤ tt }
+row I v h = record { text = refl; fit = refl; ends = refl; named = refl; small = lit≤ tt; room = lit≤ tt }
+row Demcf v h = record { text = refl; fit = refl; ends = refl; named = refl; small = lit≤ tt; room = lit≤ tt }
+row Adc v h = record { text = refl; fit = refl; ends = refl; named = refl; small = lit≤ tt; room = lit≤ tt }
+row Ri v h = record { text = refl; fit = refl; ends = refl; named = refl; small = lit≤ tt; room = lit≤ tt }
+row Cdt v h = record { text = refl; fit = refl; ends = refl; named = refl; small = lit≤ tt; room = lit≤ tt }
+row Demmhs v h = record { text = refl; fit = refl; ends = refl; named = refl; small = lit≤ tt; room = lit≤ tt }
+row Sus v h = record { text = refl; fit = refl; ends = refl; named = refl; small = lit≤ tt; room = lit≤ tt }
+row Jour v h = record { text = refl; fit = refl; ends = refl; named = refl; small = lit≤ tt; room = lit≤ tt }
 row Unknown v h = absurd (h refl)
 
 -- a message is that of its parts

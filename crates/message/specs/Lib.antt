@@ -1,5 +1,6 @@
 pub mod Lines
 pub mod Reading
+pub mod NextLine
 pub mod Writing
 pub mod OneLine
 pub mod Examples

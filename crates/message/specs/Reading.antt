@@ -1,15 +1,14 @@
 -- 01, Message lines: what a line says. `OneLine` pins these definitions to `lineOf`. Definitions only.
-use Prim.Native.Nat.{ℕ, zero, suc}
+use Prim.Native.Nat.{ℕ, suc}
 use mathlib.Core.Bool.{cond}
 use mathlib.Core.List.{List, [], _∷_}
 use lib.Dec.{leb, eqb}
 use lib.ListN.{length, take, drop}
-use Rattle.text.specs.declared.Fields.{Fields}
-use Rattle.text.specs.Fields.{fieldsIn}
+use Rattle.text.specs.Fields.{Values, values, unread, sortsOf, fieldsOf}
 use Rattle.kinds.specs.declared.Kind.{Kind}
+use Rattle.kinds.specs.Kinds.{kindNamed, shapeOf}
 use Rattle.message.specs.declared.Message.{Message}
 use Rattle.message.specs.declared.Message.the-variants.{Unreadable}
-use Rattle.kinds.specs.Kinds.{kindNamed, shapeOf}
 use Rattle.message.specs.Lines.{messageOf}
 
 -- How many bytes stand before the first `;`.
@@ -17,12 +16,14 @@ unfoldable pub wordEnd : List ℕ → ℕ
 wordEnd [] = 0
 wordEnd (c ∷ l) = cond (eqb c 59) 0 (suc (wordEnd l))
 
--- A line of a kind with the fields that follow its word.
-abbrev pub messageWith : Kind → Fields → Message
-messageWith k f = cond (f .ok) (messageOf k (f .values)) Unreadable
+-- A line of a kind with the fields that follow its word, and nothing behind them.
+abbrev pub messageWith : Kind → Values → Message
+messageWith k (values vs []) = messageOf k vs
+messageWith k (values vs (c ∷ r)) = Unreadable
+messageWith k unread = Unreadable
 
 abbrev pub messageAs : Kind → List ℕ → Message
-messageAs k l = messageWith k (fieldsIn (shapeOf k) l)
+messageAs k l = messageWith k (fieldsOf (sortsOf (shapeOf k)) [] l)
 
 -- 01: "A line has at most 96 bytes without its line feed".
 unfoldable pub readLine : List ℕ → Message

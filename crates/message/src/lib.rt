@@ -1,10 +1,12 @@
 // Message lines: what a line says, and the line of a call or of an opening.
+pub mod next;
 pub mod read;
 pub mod write;
 
 use kinds::Kind;
 use rules::Call;
 use rules::Opening;
+use text::KnownDate;
 
 // What a line says: an opening, one of the twelve calls, or nothing that can be read.
 pub enum Message {
@@ -23,4 +25,11 @@ pub struct Parts {
 pub struct Line {
     pub len: usize,
     pub bytes: [u8; 96],
+}
+
+// What the next line says, the position of its end, and the last date read.
+pub struct Taken {
+    pub message: Message,
+    pub end: usize,
+    pub known: KnownDate,
 }

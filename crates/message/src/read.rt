@@ -7,6 +7,8 @@ use rules::Action;
 use rules::Call;
 use rules::Opening;
 use rules::PointAction;
+use text::read::fields;
+use text::read::first_known;
 ghost use mathlib.Core.Path.{_≡_};
 ghost use Prim.Native.Nat.{_≤_};
 ghost use lib.ListN.{length};
@@ -26,12 +28,15 @@ pub fn read_line(line: &[u8]) -> Message
     let end = word_end(line);
     let kind = kind_named(&line[..end]);
     let shape = shape_of(kind);
-    let fields = text::read::fields(line, end, shape);
-    if fields.ok {
-        let values = fields.values;
-        return message_of(kind, values);
+    let mut values = [0u64; 7];
+    let row = fields(line, end, shape, first_known(), &mut values);
+    if !row.ok {
+        return Message::Unreadable;
     }
-    Message::Unreadable
+    if row.end < line.len() {
+        return Message::Unreadable;
+    }
+    message_of(kind, values)
 }
 
 // The end of a line's first word: its first `;`, or its end.
@@ -49,7 +54,7 @@ fn word_end(line: &[u8]) -> usize
 }
 
 // What a line of a kind with these values says.
-fn message_of(kind: Kind, v: [u64; 7]) -> Message
+pub(crate) fn message_of(kind: Kind, v: [u64; 7]) -> Message
     ensures { λ r. ⌜ r ≡ messageOf kind v ⌝ }
 {
     let today = v[0];

@@ -1,4 +1,3 @@
 pub mod Accepted
+pub mod Booked
 pub mod Fairness
-pub mod Powers
-pub mod Tests

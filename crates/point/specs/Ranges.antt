@@ -1,7 +1,9 @@
--- What the checks have seen to before a call's numbers are stored or computed with. Definitions only.
+-- A reading that a meter makes, and what the checks have seen to before it is booked. Definitions only.
 use Prim.Native.Nat.{ℕ, _≤_, _<_}
-use Rattle.dates.specs.Dates.{lastDay}
 use Rattle.rules.specs.declared.Fields.{Fields}
+use Rattle.rules.specs.declared.Meter.{Meter}
+use Rattle.rules.specs.declared.Reading.{Reading}
+use Rattle.rules.specs.declared.Span.{Span}
 use Rattle.rules.specs.declared.PointAction.{PointAction}
 use Rattle.rules.specs.declared.PointAction.the-variants.{
   Enrol,
@@ -14,18 +16,12 @@ use Rattle.rules.specs.declared.PointAction.the-variants.{
   OutOfService,
   Suspend,
 }
+use Rattle.rules.specs.Volumes.{fullTurn, unitOf, advanceOf}
 
--- Numbers 22 and 20 do not apply.
-abbrev pub InRange : PointAction → Type 0
-InRange (Enrol b a x) = (b ≤ 8) × (a ≤ 3)
-InRange (IntoService s k) = (s ≤ 99) × (k ≤ 999999999)
-InRange (DefaultSupply k) = k ≤ 999999999
-InRange (AskSwitch s k r) = (s ≤ 99) × (k ≤ 999999999) × (r ≤ lastDay)
-InRange (Cancel s) = s ≤ 99
-InRange (Read d x z) = (d ≤ lastDay) × (z ≤ 1)
-InRange (ChangeMeter x z b a y) = (z ≤ 1) × (b ≤ 8) × (a ≤ 3)
-InRange OutOfService = Unit {0}
-InRange (Suspend m) = m ≤ 1
+-- `spanTo`, by the meter read and the last reading.
+abbrev pub spanBy : Meter → Reading → ℕ → ℕ → ℕ → Span
+spanBy m last d x z =
+    record { from = last .day; to = d; advance = advanceOf (last .index) x z (fullTurn m); unit = unitOf m }
 
 -- Numbers 27 and 28 do not apply: a reading goes forward, and its index is below the largest full turn.
 abbrev pub Readable : ℕ → PointAction → Fields → Type 0

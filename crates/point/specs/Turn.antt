@@ -6,29 +6,25 @@ use lib.Dec.{leb}
 use Rattle.dates.specs.Dates.{lastDay}
 use Rattle.rules.specs.declared.Point.{Point}
 use Rattle.rules.specs.declared.Settings.{Settings}
-use Rattle.rules.specs.declared.Action.the-variants.{At}
 use Rattle.rules.specs.declared.PointAction.{PointAction}
 use Rattle.rules.specs.declared.Answer.{Answer}
 use Rattle.rules.specs.Effects.{failed}
 use Rattle.rules.specs.Answers.{isAccepted}
-use Rattle.rules.specs.Rejections.{answerTo, firstOf, rowsAt, acceptedAt, touches, isFull}
+use Rattle.rules.specs.Rejections.{touches, isFull}
 use Rattle.rules.specs.Register.{catchUp, view, acted, failedPoint}
+use Rattle.answers.specs.Ruling.{answerAt}
 use Rattle.point.specs.declared.Ruling.{Ruling}
 
 -- Past the calendar's end nothing falls due: no call looks there.
 unfoldable pub caughtUp : Settings → ℕ → Point → Point
 caughtUp S t g = cond (leb t lastDay) (catchUp S t g) g
 
--- The answer once the ranges, the calendar and the register's day are in order.
-unfoldable pub rulingAt : Settings → List Bool → ℕ → ℕ → PointAction → Point → Answer
-rulingAt S u t p a g = firstOf (rowsAt S u t p a (view t g)) (acceptedAt t a)
-
 abbrev pub ruled : Answer → Point → Point → Ruling
 ruled a after before = record { answer = a; point = cond (isAccepted a) after before }
 
 -- The point has been brought up to today.
 unfoldable pub turned : Settings → ℕ → List Bool → ℕ → ℕ → PointAction → Point → Ruling
-turned S day u t p a g = ruled (answerTo S day u t (At p a) (λ q. view t g)) (acted S t a g) g
+turned S day u t p a g = ruled (answerAt S day u t p a g) (acted S t a g) g
 
 -- Number 30 of a failure of s, at one point.
 unfoldable pub failureFills : Settings → ℕ → ℕ → Point → Bool

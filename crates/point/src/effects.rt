@@ -1,8 +1,9 @@
 // What accepted calls do to a point.
-use crate::checks::effective_day;
-use crate::checks::is_full_kept;
-use crate::checks::is_full_named;
 use crate::meter::span_to;
+use crate::readings::reading_of;
+use checks::effective_day;
+use checks::is_full_kept;
+use checks::is_full_named;
 use dates::LAST_DAY;
 use periods::book;
 use periods::named;
@@ -22,7 +23,8 @@ ghost use Rattle.rules.specs.Fields.{reading, withPending, withMark, withReadin
 ghost use Rattle.rules.specs.Volumes.{spanTo};
 ghost use Rattle.rules.specs.Rejections.{isBy};
 ghost use Rattle.rules.specs.Register.{acted as Register·acted, booked};
-ghost use Rattle.point.specs.Ranges.{InRange, Readable};
+ghost use Rattle.answers.specs.Ranges.{InRange};
+ghost use Rattle.point.specs.Ranges.{Readable};
 ghost use Rattle.point.specs.Turn.{failureFills, failedBy};
 
 fn enrol(set: Settings, t: u32, before: u64, after: u64, index: u64, g: Point) -> Point
@@ -128,7 +130,9 @@ fn read(d: u32, x: u64, z: u64, m: Meter, y: u64, g: Point) -> Point
 {
     let f = g.fields;
     let h = g.history;
-    let s = span_to(f, d, x, z);
+    let old = f.meter;
+    let last = f.reading;
+    let s = span_to(old, last, d, x, z);
     Point {
         fields: Fields {
             meter: m,
@@ -179,7 +183,11 @@ pub(crate) fn acted(set: Settings, t: u32, a: PointAction, g: Point) -> Point
     ensures { λ r. ⌜ r ≡ Register·acted set t a g ⌝ }
 {
     let f = g.fields;
-    let m = f.meter;
+    let b = reading_of(t, f.meter, a);
+    if b.is {
+        let m = b.meter;
+        return read(b.day, b.index, b.zero, m, b.last, g);
+    }
     match a {
         PointAction::Enrol {
             before,
@@ -193,34 +201,25 @@ pub(crate) fn acted(set: Settings, t: u32, a: PointAction, g: Point) -> Point
             key: _,
             day,
         } => {
-            with_pending(
-                Pending::Request(supplier as u8, effective_day(t, day as u32)),
-                g,
-            )
+            let e = effective_day(t, day as u32) as u32;
+            with_pending(Pending::Request(supplier as u8, e), g)
         }
         PointAction::Cancel { supplier: _ } => with_pending(Pending::Nothing, g),
-        PointAction::Read { day, index, zero } => read(day as u32, index, zero, m, index, g),
-        PointAction::ChangeMeter {
-            index,
-            zero,
-            before,
-            after,
-            fresh,
-        } => {
-            read(
-                t,
-                index,
-                zero,
-                Meter {
-                    before: before as u8,
-                    after: after as u8,
-                },
-                fresh,
-                g,
-            )
-        }
         PointAction::OutOfService => out_of_service(set, t, g),
         PointAction::Suspend { mark } => suspend(mark, g),
+        // A reading has been seen to above.
+        PointAction::Read {
+            day: _,
+            index: _,
+            zero: _,
+        } => g,
+        PointAction::ChangeMeter {
+            index: _,
+            zero: _,
+            before: _,
+            after: _,
+            fresh: _,
+        } => g,
     }
 }
 

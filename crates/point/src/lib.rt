@@ -1,16 +1,11 @@
-// One point of the register: its events, and the calls that name it.
-mod answers;
-mod checks;
+// One point of the register: its events, and what the calls that name it do.
 mod effects;
 mod events;
 mod meter;
+mod readings;
 
 use answers::answer_at;
-pub use checks::is_accepted;
-use checks::off_calendar_at;
-use checks::out_of_range_at;
-pub use checks::outside;
-use dates::LAST_DAY;
+use checks::is_accepted;
 use effects::acted;
 pub use effects::failed;
 pub use effects::failure_fills;
@@ -28,15 +23,6 @@ pub struct Ruling {
     pub point: Point,
 }
 
-fn refused(number: u8, g: Point) -> Ruling
-    ensures { λ r. ⌜ r ≡ record { answer = Answer.Refused number; point = g } ⌝ }
-{
-    Ruling {
-        answer: Answer::Refused(number),
-        point: g,
-    }
-}
-
 // A call that names point p, which is g, brought up to today.
 pub fn turn(
     set: Settings,
@@ -49,24 +35,11 @@ pub fn turn(
 ) -> Ruling
     ensures { λ r. ⌜ r ≡ turned set day contracts today p a g ⌝ }
 {
-    if out_of_range_at(a) {
-        return refused(22, g);
-    }
-    if today > LAST_DAY as u64 {
-        return refused(20, g);
-    }
-    let t = today as u32;
-    if off_calendar_at(set, t, a) {
-        return refused(20, g);
-    }
-    if t < day {
-        return refused(21, g);
-    }
-    let answer = answer_at(set, contracts, t, p, a, g);
+    let answer = answer_at(set, day, contracts, today, p, a, g);
     if is_accepted(answer) {
         return Ruling {
             answer: answer,
-            point: acted(set, t, a, g),
+            point: acted(set, today as u32, a, g),
         };
     }
     Ruling {

@@ -1,54 +1,13 @@
-// Meters and their readings: the full turn, the unit, and what a reading advances.
-use rules::Fields;
+// What a reading advances.
+use checks::full_turn;
+use checks::unit_of;
 use rules::Meter;
+use rules::Reading;
 use rules::Span;
 ghost use mathlib.Core.Path.{_≡_};
-ghost use Prim.Native.Nat.{_+_, _-_, _^_, _≤_, _<_};
-ghost use Rattle.rules.specs.Volumes.{fullTurn, unitOf, advanceOf, spanTo};
-
-const POWERS: [u64; 12] = [
-    1,
-    10,
-    100,
-    1000,
-    10000,
-    100000,
-    1000000,
-    10000000,
-    100000000,
-    1000000000,
-    10000000000,
-    100000000000,
-];
-
-fn power(n: usize) -> u64
-    requires { ⌜ n ≤ 11 ⌝ }
-    ensures { λ r. ⌜ (r ≡ 10 ^ n) × (r ≤ 100000000000) ⌝ }
-{
-    POWERS[n]
-}
-
-// 10^w, with w the wheels before and after the comma.
-pub(crate) fn full_turn(m: Meter) -> u64
-    ensures { λ r. ⌜ (r ≡ fullTurn m) × (r ≤ 100000000000) ⌝ }
-{
-    let w = m.before as usize + m.after as usize;
-    if w < 11 {
-        return power(w);
-    }
-    power(11)
-}
-
-// U, in thousandths of a cubic metre.
-fn unit_of(m: Meter) -> u64
-    ensures { λ r. ⌜ (r ≡ unitOf m) × (r ≤ 1000) ⌝ }
-{
-    let after = m.after as usize;
-    if after < 3 {
-        return power(3 - after);
-    }
-    1
-}
+ghost use Prim.Native.Nat.{_+_, _-_, _≤_, _<_};
+ghost use Rattle.rules.specs.Volumes.{advanceOf};
+ghost use Rattle.point.specs.Ranges.{spanBy};
 
 fn less(a: u64, b: u64) -> u64
     ensures { λ r. ⌜ r ≡ a - b ⌝ }
@@ -67,13 +26,11 @@ fn advance(last: u64, x: u64, z: u64, turn: u64) -> u64
     less(x, last)
 }
 
-// A reading of x on day d, from the last reading on.
-pub(crate) fn span_to(f: Fields, d: u32, x: u64, z: u64) -> Span
+// A reading of x on day d with meter m, from the last reading on.
+pub(crate) fn span_to(m: Meter, last: Reading, d: u32, x: u64, z: u64) -> Span
     requires { ⌜ (x ≤ 100000000000) × (z ≤ 1) ⌝ }
-    ensures { λ r. ⌜ (r ≡ spanTo f d x z) × (r .advance ≤ 200000000000) × (r .unit ≤ 1000) ⌝ }
+    ensures { λ r. ⌜ (r ≡ spanBy m last d x z) × (r .advance ≤ 200000000000) × (r .unit ≤ 1000) ⌝ }
 {
-    let m = f.meter;
-    let last = f.reading;
     let turn = full_turn(m);
     Span {
         from: last.day,

@@ -1,2 +1,5 @@
 pub mod Asked
+pub mod Asking
+pub mod Calendar
+pub mod Covers
 pub mod Walks

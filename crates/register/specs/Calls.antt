@@ -35,8 +35,11 @@ opensBy (AcceptedOn e) s = opened.Ready s
 opensBy (Refused n) s = opened.Turned n
 opensBy (RefusedUntil d) s = opened.Turned 8
 
+abbrev pub startOf : Opening → Start
+startOf o = record { settings = settingsOf o; day = o .day }
+
 unfoldable pub opensWith : Opening → Opened
-opensWith o = opensBy (openingAnswer o) (record { settings = settingsOf o; day = o .day })
+opensWith o = opensBy (openingAnswer o) (startOf o)
 
 unfoldable pub newRegister : Start → Register
 newRegister s = register (s .settings) (s .day) (firstContracts (s .settings)) (replicate 32 blankPoint)

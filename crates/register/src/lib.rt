@@ -1,25 +1,12 @@
-// The register: its opening, the twelve calls and the questions.
-mod calls;
+// The register: its opening, and the twelve calls as one.
 mod opening;
 mod points;
 
-pub use calls::cancel;
-pub use calls::contract;
-pub use calls::day;
-pub use calls::default_supply;
-pub use calls::enrol;
-pub use calls::failure;
-pub use calls::into_service;
-pub use calls::meter_change;
-pub use calls::out_of_service;
-pub use calls::reading;
-pub use calls::request;
-pub use calls::suspend;
+use checks::is_accepted;
+use checks::outside;
 use dates::LAST_DAY;
 pub use opening::begin;
 pub use opening::open;
-use point::is_accepted;
-use point::outside;
 use point::turn;
 use points::advance;
 use points::all_failed;

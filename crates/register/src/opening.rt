@@ -2,8 +2,8 @@
 use crate::Opened;
 use crate::Start;
 use crate::points::blank_point;
+use checks::outside;
 use dates::LAST_DAY;
-use point::outside;
 use rules::Opening;
 use rules::Register;
 use rules::Settings;

@@ -71,11 +71,11 @@ pub(crate) fn all_failed(set: Settings, t: u32, s: u8, ps: [Point; 32]) -> [Poin
     ensures { λ r. ⌜ r ≡ map (failedBy set t s) ps ⌝ }
 {
     let mut out = ps;
-    let mut i: usize = 0;
-    while i < 32 {
-        let g = out[i];
-        out[i] = failed(set, t, s, g);
-        i += 1;
+    let mut n: usize = 0;
+    while n < 32 {
+        let g = out[n];
+        out[n] = failed(set, t, s, g);
+        n += 1;
     }
     out
 }
@@ -84,13 +84,13 @@ pub(crate) fn all_failed(set: Settings, t: u32, s: u8, ps: [Point; 32]) -> [Poin
 pub(crate) fn any_filled(set: Settings, t: u32, s: u8, ps: [Point; 32]) -> bool
     ensures { λ r. ⌜ r ≡ anyPoint 1 32 (λ p. failureFills set t s (pointAt p ps)) ⌝ }
 {
-    let mut i: usize = 0;
-    while i < 32 {
-        let g = ps[i];
+    let mut k: usize = 0;
+    while k < 32 {
+        let g = ps[k];
         if failure_fills(set, t, s, g) {
             return true;
         }
-        i += 1;
+        k += 1;
     }
     false
 }

@@ -1,7 +1,7 @@
 -- Reading the fields of a row and writing them are inverse, and a row's text is short.
-use Prim.Native.Nat.{ℕ, zero, suc, _+_, _<_, _≤_, _^_}
+use Prim.Native.Nat.{ℕ, suc, _+_, _≤_, _^_}
 use mathlib.Core.Path.{_≡_, refl, sym, ap, _∙_}
-use mathlib.Core.Bool.{Bool, true, false, cond, _&&_}
+use mathlib.Core.Bool.{Bool, true, false, cond}
 use mathlib.Core.List.{List, [], _∷_, _++_, append-assoc, append-nil}
 use native.Mathlib.Omega.{arith}
 use lib.Dec.{eqb}
@@ -11,10 +11,9 @@ use Rattle.dates.specs.Dates.{lastDay}
 use Rattle.dates.proofs.Every.{and-left, and-right}
 use Rattle.text.specs.declared.Sort.{Sort}
 use Rattle.text.specs.declared.Sort.the-variants.{Date, Number}
-use Rattle.text.specs.Decimal.{decimal, Read, number, bad}
-use Rattle.text.specs.Days.{dayText}
+use Rattle.text.specs.Decimal.{Read, number, bad}
 use Rattle.text.specs.OneText.{Stops}
-use Rattle.text.specs.Fields.{fieldText, fits, fieldsText, fitAll, valueOf, fieldOf, Values, values, unread, atEnd, andThen, fieldsOf}
+use Rattle.text.specs.Fields.{fieldText, fits, fieldsText, fitAll, valueOf, fieldOf, values, andThen, fieldsOf}
 use Rattle.text.proofs.Numbers.{number-back, number-only}
 use Rattle.text.proofs.DayTexts.{day-back, day-only, day-append, day-length}
 use Rattle.text.proofs.Spelling.{decimal-append, decimal-length}
@@ -33,7 +32,8 @@ field-back Date n l h s = day-back n l (leb-true n lastDay h)
 field-back Number n l h s = number-back n l (ltb-true n (10 ^ 12) h) s
 
 -- one field, read
-value-only : (k : Sort) (n : ℕ) (l r : List ℕ) → valueOf k l ≡ number n r → (59 ∷ l ≡ fieldText k n r) × (fits k n ≡ true)
+value-only : (k : Sort) (n : ℕ) (l r : List ℕ) → valueOf k l ≡ number n r →
+    (59 ∷ l ≡ fieldText k n r) × (fits k n ≡ true)
 value-only Date n l r e = let w = day-only n l r e in (ap (_∷_ 59) (w .0), le-leb n lastDay (w .1))
 value-only Number n l r e = let w = number-only n l r e in (ap (_∷_ 59) (w .0), lt-ltb n (10 ^ 12) (w .1))
 
@@ -47,38 +47,49 @@ field-only k n (c ∷ l) r e = go (eqb c 59) refl e where
 
 -- all fields, written and read
 pub fields-back : (ks : List Sort) (acc ns : List ℕ) → fitAll ks ns ≡ true →
-    fieldsOf ks acc (fieldsText ks ns) ≡ values (acc ++ ns)
+    fieldsOf ks acc (fieldsText ks ns) ≡ values (acc ++ ns) []
 unfolding fieldsOf fitAll
 fields-back [] acc [] h = rw append-nil
 fields-back [] acc (n ∷ ns) h = absurd (let z : _≡_ {A = ℕ} 0 1 = cc in omega arith)
 fields-back (k ∷ ks) acc [] h = absurd (let z : _≡_ {A = ℕ} 0 1 = cc in omega arith)
 fields-back (k ∷ ks) acc (n ∷ ns) h =
     rw (field-back k n (fieldsText ks ns) (and-left (fits k n) (fitAll ks ns) h) (fields-stop ks ns))
-    (fields-back ks (acc ++ (n ∷ [])) ns (and-right (fits k n) (fitAll ks ns) h) ∙ ap values (append-assoc acc (n ∷ []) ns))
+    (fields-back ks (acc ++ (n ∷ [])) ns (and-right (fits k n) (fitAll ks ns) h) ∙
+    ap (λ (vs : List ℕ). values vs []) (append-assoc acc (n ∷ []) ns))
 
--- all fields, read
-pub record FieldsAre (ks : List Sort) (l acc vs : List ℕ) : Type 0 where
+-- what stands behind a field does not change it
+pub field-append : (k : Sort) (n : ℕ) (l : List ℕ) → fieldText k n l ≡ fieldText k n [] ++ l
+field-append Date n l = ap (_∷_ 59) (day-append n l)
+field-append Number n l = ap (_∷_ 59) (decimal-append n l)
+
+field-before : (k : Sort) (n : ℕ) (l m : List ℕ) → fieldText k n (l ++ m) ≡ fieldText k n l ++ m
+field-before k n l m =
+    field-append k n (l ++ m) ∙ sym (append-assoc (fieldText k n []) l m) ∙
+    ap (λ (x : List ℕ). x ++ m) (sym (field-append k n l))
+
+-- all fields, read: their text, and what follows it
+pub record FieldsAre (ks : List Sort) (l r acc vs : List ℕ) : Type 0 where
   pub ns : List ℕ
   pub all : vs ≡ acc ++ ns
-  pub text : l ≡ fieldsText ks ns
+  pub text : l ≡ fieldsText ks ns ++ r
   pub fit : fitAll ks ns ≡ true
 
-pub fields-only : (ks : List Sort) (acc l vs : List ℕ) → fieldsOf ks acc l ≡ values vs → FieldsAre ks l acc vs
+pub fields-only : (ks : List Sort) (acc l vs r : List ℕ) → fieldsOf ks acc l ≡ values vs r → FieldsAre ks l r acc vs
 unfolding fieldsOf fitAll
-fields-only [] acc [] vs e =
-    record { ns = []; all = let q : acc ≡ vs = cc in sym q ∙ sym (append-nil acc); text = refl; fit = refl }
-fields-only [] acc (c ∷ l) vs e = absurd (let z : _≡_ {A = ℕ} 0 1 = cc in omega arith)
-fields-only (k ∷ ks) acc l vs e = go (λ n r. fields-only ks (acc ++ (n ∷ [])) r vs) (fieldOf k l) refl e where
-  go : ((n : ℕ) (r : List ℕ) → fieldsOf ks (acc ++ (n ∷ [])) r ≡ values vs → FieldsAre ks r (acc ++ (n ∷ [])) vs) →
-      (x : Read) → fieldOf k l ≡ x → andThen x (λ n r. fieldsOf ks (acc ++ (n ∷ [])) r) ≡ values vs → FieldsAre (k ∷ ks) l acc vs
+fields-only [] acc l vs r e =
+    record { ns = []; all = let q : acc ≡ vs = cc in sym q ∙ sym (append-nil acc); text = cc; fit = refl }
+fields-only (k ∷ ks) acc l vs r e = go (λ n x. fields-only ks (acc ++ (n ∷ [])) x vs r) (fieldOf k l) refl e where
+  go : ((n : ℕ) (x : List ℕ) → fieldsOf ks (acc ++ (n ∷ [])) x ≡ values vs r → FieldsAre ks x r (acc ++ (n ∷ [])) vs) →
+      (x : Read) → fieldOf k l ≡ x → andThen x (λ n x. fieldsOf ks (acc ++ (n ∷ [])) x) ≡ values vs r →
+      FieldsAre (k ∷ ks) l r acc vs
   go ih bad p e = absurd (let z : _≡_ {A = ℕ} 0 1 = cc in omega arith)
-  go ih (number n r) p e =
-      let f = field-only k n l r p in
-      let w = ih n r e in
+  go ih (number n x) p e =
+      let f = field-only k n l x p in
+      let w = ih n x e in
       record {
         ns = n ∷ w .ns;
         all = w .all ∙ append-assoc acc (n ∷ []) (w .ns);
-        text = f .0 ∙ ap (fieldText k n) (w .text);
+        text = f .0 ∙ ap (fieldText k n) (w .text) ∙ field-before k n (fieldsText ks (w .ns)) r;
         fit = rw (f .1, w .fit);
       }
 
@@ -89,11 +100,6 @@ fit-count [] [] h = refl
 fit-count [] (n ∷ ns) h = absurd (let z : _≡_ {A = ℕ} 0 1 = cc in omega arith)
 fit-count (k ∷ ks) [] h = absurd (let z : _≡_ {A = ℕ} 0 1 = cc in omega arith)
 fit-count (k ∷ ks) (n ∷ ns) h = ap suc (fit-count ks ns (and-right (fits k n) (fitAll ks ns) h))
-
--- what stands behind a field does not change it
-pub field-append : (k : Sort) (n : ℕ) (l : List ℕ) → fieldText k n l ≡ fieldText k n [] ++ l
-field-append Date n l = ap (_∷_ 59) (day-append n l)
-field-append Number n l = ap (_∷_ 59) (decimal-append n l)
 
 -- a field has at most nine bytes, or 13
 abbrev pub width : Sort → ℕ

@@ -2,6 +2,7 @@ pub mod Spelling
 pub mod Numbers
 pub mod Fixed
 pub mod DayTexts
+pub mod KnownDates
 pub mod OneText
 pub mod FieldTexts
 pub mod Appends

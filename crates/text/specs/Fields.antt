@@ -1,16 +1,22 @@
--- 01, Message lines: "Fields are separated by `;`". The fields behind a line's kind, each with its `;`. Definitions only.
-use Prim.Native.Nat.{ℕ, zero, suc, _-_, _^_}
+-- 01, Message lines: "Fields are separated by `;`". The fields behind a line's kind, each with its `;`.
+-- Definitions only.
+use Prim.Native.Nat.{ℕ, zero, suc, _^_}
 use mathlib.Core.Bool.{Bool, true, false, cond, _&&_}
 use mathlib.Core.List.{List, [], _∷_, _++_}
+use mathlib.Core.Path.{_≡_}
 use lib.Dec.{leb, ltb, eqb}
-use lib.ListN.{length, replicate}
+use lib.ListN.{take, drop}
 use Rattle.dates.specs.Dates.{lastDay}
 use Rattle.text.specs.declared.Sort.{Sort}
 use Rattle.text.specs.declared.Sort.the-variants.{Date, Number}
 use Rattle.text.specs.declared.Shape.{Shape}
-use Rattle.text.specs.declared.Fields.{Fields}
+use Rattle.text.specs.declared.KnownDate.{KnownDate}
+use Rattle.text.specs.declared.Row.{Row}
+use Rattle.text.specs.declared.Step.{Step}
+use Rattle.text.specs.declared.Step.the-variants.{On, Bad}
 use Rattle.text.specs.Decimal.{decimal, Read, number, bad, numberOf}
 use Rattle.text.specs.Days.{dayText, dayIn}
+use Rattle.text.specs.Known.{IsKnown}
 
 -- A field's text in front of l: 59 is the byte of `;`.
 abbrev pub fieldText : Sort → ℕ → List ℕ → List ℕ
@@ -45,22 +51,18 @@ unfoldable pub fieldOf : Sort → List ℕ → Read
 fieldOf k [] = bad
 fieldOf k (c ∷ l) = cond (eqb c 59) (valueOf k l) bad
 
--- The values of a row of fields, or none.
+-- The values of a row of fields and the text behind them, or none.
 pub data Values : Type 0 where
-  values : List ℕ → Values
+  values : List ℕ → List ℕ → Values
   unread : Values
-
-abbrev pub atEnd : List ℕ → List ℕ → Values
-atEnd acc [] = values acc
-atEnd acc (c ∷ l) = unread
 
 abbrev pub andThen : Read → (ℕ → List ℕ → Values) → Values
 andThen (number n r) f = f n r
 andThen bad f = unread
 
--- The values of all the fields of a row, where nothing follows them; acc has those already read.
+-- The values of all the fields of a row that a text begins with; acc has those already read.
 unfoldable pub fieldsOf : List Sort → List ℕ → List ℕ → Values
-fieldsOf [] acc l = atEnd acc l
+fieldsOf [] acc l = values acc l
 fieldsOf (k ∷ ks) acc l = andThen (fieldOf k l) (λ n r. fieldsOf ks (acc ++ (n ∷ [])) r)
 
 -- The sorts of a shape's n fields from the one at i on: the first is a date, and so is the one at second.
@@ -74,10 +76,29 @@ sortsFrom second i (suc n) = sortAt second i ∷ sortsFrom second (suc i) n
 abbrev pub sortsOf : Shape → List Sort
 sortsOf s = sortsFrom (s .second) 0 (s .count)
 
--- The values in the first of seven places; a shape of more fields is not read.
-abbrev pub placed : Values → Fields
-placed (values vs) = record { ok = true; values = vs ++ replicate (7 - length vs) 0 }
-placed unread = record { ok = false; values = replicate 7 0 }
+-- The fields of a shape that a text begins with; a shape of more than seven is not read.
+unfoldable pub fieldsIn : Shape → List ℕ → Values
+fieldsIn s l = cond (leb (s .count) 7) (fieldsOf (sortsOf s) [] l) unread
 
-unfoldable pub fieldsIn : Shape → List ℕ → Fields
-fieldsIn s l = placed (cond (leb (s .count) 7) (fieldsOf (sortsOf s) [] l) unread)
+-- What the code read of the text s: one field, and a row of fields with their values.
+abbrev pub stepIn : List ℕ → Step → Read
+stepIn s (On v next known) = number v (drop next s)
+stepIn s Bad = bad
+
+abbrev pub rowIn : List ℕ → List ℕ → Row → Values
+rowIn s vs r = cond (r .ok) (values vs (drop (r .end) s)) unread
+
+-- The date that is known after a field.
+abbrev pub KnownAfter : Step → Type 0
+KnownAfter (On v next known) = IsKnown known
+KnownAfter Bad = Unit {0}
+
+-- What it means that a field is read as x says, and that the fields of a shape are read from a position on: where
+-- the last date
+-- was known, this is what is read, and the last date stays known.
+abbrev pub ReadStep : KnownDate → Read → List ℕ → Step → Type 0
+ReadStep last x s r = IsKnown last → (x ≡ stepIn s r) × KnownAfter r
+
+abbrev pub ReadRow : KnownDate → Shape → ℕ → List ℕ → List ℕ → Row → Type 0
+ReadRow last shape from s vs r =
+    IsKnown last → (fieldsIn shape (drop from s) ≡ rowIn s (take (shape .count) vs) r) × IsKnown (r .known)

@@ -14,10 +14,23 @@ pub struct Shape {
     pub second: usize,
 }
 
-// The values of a line's fields in the first places, where it has all of them and nothing more; else zeros.
-pub struct Fields {
+// The last date read: its eight bytes as one number, the first byte the lowest, and its day.
+pub struct KnownDate {
+    pub bytes: u64,
+    pub day: u64,
+}
+
+// Whether a line has all the fields of a shape, the position behind them, and the last date read.
+pub struct Row {
     pub ok: bool,
-    pub values: [u64; 7],
+    pub end: usize,
+    pub known: KnownDate,
+}
+
+// A field's value, the position behind it and the last date read, or no such field.
+pub enum Step {
+    On(u64, usize, KnownDate),
+    Bad,
 }
 
 // A field's value and the position behind it, or no such field.

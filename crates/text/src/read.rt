@@ -1,16 +1,19 @@
 // Reading the fields of a line. A position is an index of the line; a field is read from its `;` on.
 use crate::Field;
-use crate::Fields;
+use crate::KnownDate;
+use crate::Row;
 use crate::Shape;
 use crate::Sort;
+use crate::Step;
 use dates::DayAnswer;
 ghost use mathlib.Core.Path.{_≡_};
-ghost use Prim.Native.Nat.{_-_, _≤_, _<_};
-ghost use lib.ListN.{drop};
+ghost use Prim.Native.Nat.{_+_, _-_, _≤_, _<_};
+ghost use lib.ListN.{length, take, drop};
 ghost use Rattle.text.specs.Words.{isSame};
 ghost use Rattle.text.specs.Decimal.{moreOf, numberOf, fixedOf, readIn};
 ghost use Rattle.text.specs.Days.{dayIn};
-ghost use Rattle.text.specs.Fields.{sortAt, fieldOf, fieldsIn};
+ghost use Rattle.text.specs.Known.{AreFour, IsKnown};
+ghost use Rattle.text.specs.Fields.{sortAt, fieldOf, ReadStep, ReadRow};
 
 // Two slices hold the same bytes.
 pub fn same(a: &[u8], b: &[u8]) -> bool
@@ -29,41 +32,53 @@ pub fn same(a: &[u8], b: &[u8]) -> bool
     true
 }
 
-// The values of the fields of a shape that stand from a position to the line's end.
-pub fn fields(line: &[u8], from: usize, shape: Shape) -> Fields
-    ensures { λ r. ⌜ r ≡ fieldsIn shape (drop from (now (line .entry))) ⌝ }
+// The date that is known before any is read: 1 January 2000, day 0.
+pub fn first_known() -> KnownDate
+    ensures { λ r. ⌜ IsKnown r ⌝ }
+{
+    KnownDate {
+        bytes: 3_544_386_989_777_236_018,
+        day: 0,
+    }
+}
+
+// The values of the fields of a shape that stand from a position on. Lines give the same date again and again:
+// one whose bytes are those of the last one read is not read anew.
+pub fn fields(line: &[u8], from: usize, shape: Shape, last: KnownDate, values: &mut [u64; 7]) -> Row
+    ensures { λ r. ⌜ ReadRow last shape from (now (line .entry)) (now (values .exit)) r ⌝ }
 {
     let count = shape.count;
     let second = shape.second;
-    let none = [0u64; 7];
+    let mut known = last;
+    let mut at = from;
     if 7 < count {
-        return Fields {
+        return Row {
             ok: false,
-            values: none,
+            end: at,
+            known,
         };
     }
-    let mut values = [0u64; 7];
-    let mut at = from;
+    *values = [0; 7];
     let mut i: usize = 0;
     while i < count {
         let sort = sort_at(second, i);
-        let Field::Value(v, next) = field_at(line, at, sort) else {
-            return Fields {
+        let Step::On(v, next, date) = field_at(line, at, sort, known) else {
+            return Row {
                 ok: false,
-                values: none,
+                end: at,
+                known,
             };
         };
         values[i] = v;
         at = next;
+        known = date;
         i += 1;
     }
-    if at < line.len() {
-        return Fields {
-            ok: false,
-            values: none,
-        };
+    Row {
+        ok: true,
+        end: at,
+        known,
     }
-    Fields { ok: true, values }
 }
 
 // The sort of a shape's field at i.
@@ -80,19 +95,63 @@ pub fn sort_at(second: usize, i: usize) -> Sort
 }
 
 // A `;` and then a date or a number.
-fn field_at(s: &[u8], at: usize, sort: Sort) -> Field
-    ensures { λ r. ⌜ fieldOf sort (drop at (now (s .entry))) ≡ readIn (now (s .entry)) r ⌝ }
+fn field_at(s: &[u8], at: usize, sort: Sort, known: KnownDate) -> Step
+    ensures { λ r. ⌜ ReadStep known (fieldOf sort (drop at (now (s .entry)))) (now (s .entry)) r ⌝ }
 {
     if s.len() <= at {
-        return Field::Bad;
+        return Step::Bad;
     }
     if s[at] != b';' {
-        return Field::Bad;
+        return Step::Bad;
     }
     match sort {
-        Sort::Date => date_at(s, at + 1),
-        Sort::Number => number_at(s, at + 1),
+        Sort::Date => known_date_at(s, at + 1, known),
+        Sort::Number => known_number_at(s, at + 1, known),
     }
+}
+
+// A number; the known date stays.
+fn known_number_at(s: &[u8], at: usize, known: KnownDate) -> Step
+    ensures { λ r. ⌜ ReadStep known (numberOf (drop at (now (s .entry)))) (now (s .entry)) r ⌝ }
+{
+    let Field::Value(v, end) = number_at(s, at) else {
+        return Step::Bad;
+    };
+    Step::On(v, end, known)
+}
+
+// A date: the known one where the bytes are its, else one that is read and known from now on.
+fn known_date_at(s: &[u8], at: usize, known: KnownDate) -> Step
+    ensures { λ r. ⌜ ReadStep known (dayIn (drop at (now (s .entry)))) (now (s .entry)) r ⌝ }
+{
+    if s.len() < at {
+        return Step::Bad;
+    }
+    if s.len() - at < 8 {
+        return Step::Bad;
+    }
+    let bytes = four_at(s, at) + 4_294_967_296 * four_at(s, at + 4);
+    if bytes == known.bytes {
+        return Step::On(known.day, at + 8, known);
+    }
+    let Field::Value(day, end) = date_at(s, at) else {
+        return Step::Bad;
+    };
+    Step::On(day, end, KnownDate { bytes, day })
+}
+
+// Four bytes as one number, the first the lowest.
+fn four_at(s: &[u8], at: usize) -> u64
+    requires { ⌜ at + 4 ≤ length (now s) ⌝ }
+    ensures { λ r. ⌜ AreFour (take 4 (drop at (now (s .entry)))) r ⌝ }
+{
+    wide(s[at]) + 256 * wide(s[at + 1]) + 65_536 * wide(s[at + 2]) + 16_777_216 * wide(s[at + 3])
+}
+
+fn wide(c: u8) -> u64
+    ensures { λ r. ⌜ (r ≡ c) × (r < 256) ⌝ }
+{
+    c as u64
 }
 
 // A number of 1 to 12 digits, no leading zero but 0 itself.
@@ -191,5 +250,5 @@ fn digit(c: u8) -> u64
     requires { ⌜ 48 ≤ c ⌝ }
     ensures { λ r. ⌜ r ≡ c - 48 ⌝ }
 {
-    (c - b'0') as u64
+    c as u64 - 48
 }

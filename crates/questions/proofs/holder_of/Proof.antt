@@ -20,7 +20,12 @@ cast-if2 c = search needs
 
 returns-2 : tie.Need-returns-2
 unfolding holderAnswer
-returns-2 c = rw (← (c .before .before .before .is-unasked .ensures), c .before .before .if1 .left, lt-ltb _ _ (c .if2 .taken))
+returns-2 c =
+    rw (
+      ← (c .before .before .before .is-unasked .ensures),
+      c .before .before .if1 .left,
+      lt-ltb _ _ (c .if2 .taken),
+    )
 
 history-of-requires : tie.Need-history-of-requires
 history-of-requires c κs = asked-in (c .before .before .before .before .args .r) (c .before .before .before .before .args .p) (sym (c .before .before .before .is-unasked .ensures) ∙ c .before .before .if1 .left)
@@ -33,7 +38,15 @@ holder-among-requires c κs = search needs
 
 returns-3 : tie.Need-returns-3
 unfolding holderAnswer
-returns-3 c = rw (← (c .before .before .before .before .before .before .before .is-unasked .ensures), c .before .before .before .before .before .before .if1 .left, le-ltb _ _ (c .before .before .before .before .if2 .left), ← (c .before .before .before .history-of .ensures), ← (c .before .marks .ensures)) (c .holder-among .ensures)
+returns-3 c =
+    rw (
+      ← (c .before .before .before .before .before .before .before .is-unasked .ensures),
+      c .before .before .before .before .before .before .if1 .left,
+      le-ltb _ _ (c .before .before .before .before .if2 .left),
+      ← (c .before .before .before .history-of .ensures),
+      ← (c .before .marks .ensures),
+    )
+    (c .holder-among .ensures)
 
 pub holder-of-spec : {M : Type 1} → statement M
 holder-of-spec =

@@ -26,7 +26,15 @@ outside-requires c κs = search needs
 
 returns-2 : tie.Need-returns-2
 unfolding periodAnswer
-returns-2 c = rw (← (c .before .before .before .before .before .is-unasked .ensures), c .before .before .before .before .if1 .left, ← (c .before .before .before .history-of .ensures), ← (c .before .before .marks .ensures), ← (c .before .outside .ensures), c .if2 .taken)
+returns-2 c =
+    rw (
+      ← (c .before .before .before .before .before .is-unasked .ensures),
+      c .before .before .before .before .if1 .left,
+      ← (c .before .before .before .history-of .ensures),
+      ← (c .before .before .marks .ensures),
+      ← (c .before .outside .ensures),
+      c .if2 .taken,
+    )
 
 sub-i : tie.Need-sub-i
 sub-i c = omega (arith, range-in 1 (c .before .before .marks .result) (c .before .before .before .before .before .before .args .n) (sym (c .before .outside .ensures) ∙ c .if2 .left) .0)
@@ -39,7 +47,15 @@ element-copy-out-q c = let k = range-in 1 (c .before .before .marks .result) (c 
 
 returns-3 : tie.Need-returns-3
 unfolding periodAnswer
-returns-3 c = rw (← (c .before .before .before .before .before .before .is-unasked .ensures), c .before .before .before .before .before .if1 .left, ← (c .before .before .before .before .history-of .ensures), ← (c .before .before .before .marks .ensures), ← (c .before .before .outside .ensures), c .before .if2 .left)
+returns-3 c =
+    rw (
+      ← (c .before .before .before .before .before .before .is-unasked .ensures),
+      c .before .before .before .before .before .if1 .left,
+      ← (c .before .before .before .before .history-of .ensures),
+      ← (c .before .before .before .marks .ensures),
+      ← (c .before .before .outside .ensures),
+      c .before .if2 .left,
+    )
 
 pub period-of-spec : {M : Type 1} → statement M
 period-of-spec =

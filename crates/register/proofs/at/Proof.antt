@@ -7,14 +7,14 @@ use native.Mathlib.Omega.{arith}
 use borrow.Author.Tests.{lt-ltb, le-ltb, eq-eqb, ne-eqb, not-true, not-false}
 use Rattle.rules.specs.Rejections.{answer, answerTo, firstOf, outOfRange, offCalendar, rows, accepted}
 use Rattle.rules.specs.Register.{says, done, applied}
-use Rattle.point.proofs.Accepted.{at-most}
+use Rattle.answers.proofs.Within.{at-most}
 use Rattle.register.proofs.AtPoint.{turn-refused, turn-in, turn-accepted}
 use borrow.Author.Needs.{needs}
 use Rattle.register.proofs.at.Statement.{statement}
 use Rattle.register.proofs.at.Tie as tie
 use Rattle.register.proofs.at.Reads as reads
 use Rattle.register.proofs.at.Lts as lts
-use Rattle.point.proofs.is_accepted.Reads as is-accepted-reads
+use Rattle.checks.proofs.is_accepted.Reads as is-accepted-reads
 use Rattle.point.proofs.turn.Reads as turn-reads
 use Rattle.register.proofs.points.advance.Reads as advance-reads
 use Rattle.register.proofs.points.point_on.Reads as point-on-reads

@@ -14,7 +14,7 @@ use Rattle.register.proofs.fail.Statement.{statement}
 use Rattle.register.proofs.fail.Tie as tie
 use Rattle.register.proofs.fail.Reads as reads
 use Rattle.register.proofs.fail.Lts as lts
-use Rattle.point.proofs.outside.Reads as outside-reads
+use Rattle.checks.proofs.outside.Reads as outside-reads
 use Rattle.register.proofs.fail_under_contract.Reads as fail-under-contract-reads
 use Rattle.register.proofs.refused.Reads as refused-reads
 
@@ -36,7 +36,13 @@ refused-requires-2 c κs = search needs
 
 returns-2 : tie.Need-returns-2
 unfolding applied says answer answerTo outOfRange offCalendar rows accepted firstOf
-returns-2 c = rw (← (c .before .before .before .outside .ensures), c .before .before .if1 .left, lt-ltb _ _ (c .before .if2 .taken)) (c .refused2 .ensures)
+returns-2 c =
+    rw (
+      ← (c .before .before .before .outside .ensures),
+      c .before .before .if1 .left,
+      lt-ltb _ _ (c .before .if2 .taken),
+    )
+    (c .refused2 .ensures)
 
 cast-t : tie.Need-cast-t
 cast-t c = search needs
@@ -52,14 +58,29 @@ refused-requires-3 c κs = search needs
 
 returns-3 : tie.Need-returns-3
 unfolding applied says answer answerTo outOfRange offCalendar rows accepted firstOf
-returns-3 c = rw (← (c .before .before .before .before .before .outside .ensures), c .before .before .before .before .if1 .left, le-ltb _ _ (c .before .before .before .if2 .left), lt-ltb _ _ (c .before .if3 .taken)) (c .refused3 .ensures)
+returns-3 c =
+    rw (
+      ← (c .before .before .before .before .before .outside .ensures),
+      c .before .before .before .before .if1 .left,
+      le-ltb _ _ (c .before .before .before .if2 .left),
+      lt-ltb _ _ (c .before .if3 .taken),
+    )
+    (c .refused3 .ensures)
 
 refused-requires-4 : tie.Need-refused-requires-4
 refused-requires-4 c κs = search needs
 
 returns-4 : tie.Need-returns-4
 unfolding applied says answer answerTo outOfRange offCalendar rows accepted firstOf
-returns-4 c = rw (← (c .before .before .before .before .before .before .outside .ensures), c .before .before .before .before .before .if1 .left, le-ltb _ _ (c .before .before .before .before .if2 .left), le-ltb _ _ (c .before .before .if3 .left), lt-ltb _ _ (c .before .if4 .taken)) (c .refused4 .ensures)
+returns-4 c =
+    rw (
+      ← (c .before .before .before .before .before .before .outside .ensures),
+      c .before .before .before .before .before .if1 .left,
+      le-ltb _ _ (c .before .before .before .before .if2 .left),
+      le-ltb _ _ (c .before .before .if3 .left),
+      lt-ltb _ _ (c .before .if4 .taken),
+    )
+    (c .refused4 .ensures)
 
 element-copy-out-if5 : tie.Need-element-copy-out-if5
 element-copy-out-if5 c = omega (arith, supplier-in (c .before .before .before .before .before .before .before .args .s) (sym (c .before .before .before .before .before .outside .ensures) ∙ c .before .before .before .before .if1 .left) .1)

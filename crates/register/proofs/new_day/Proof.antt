@@ -5,7 +5,7 @@ use native.Mathlib.Omega.{arith}
 use borrow.Author.Tests.{lt-ltb, le-ltb, eq-eqb, ne-eqb, not-true, not-false}
 use Rattle.rules.specs.Rejections.{answer, answerTo, firstOf, outOfRange, offCalendar, rows, accepted}
 use Rattle.rules.specs.Register.{says, done, applied}
-use Rattle.point.proofs.Accepted.{at-most}
+use Rattle.answers.proofs.Within.{at-most}
 use Rattle.register.proofs.AtPoint.{advanced-on, at-refused, at-accepted, point-in}
 use borrow.Author.Needs.{needs}
 use Rattle.register.proofs.new_day.Statement.{statement}
@@ -34,7 +34,12 @@ refused-requires-2 c κs = search needs
 
 returns-2 : tie.Need-returns-2
 unfolding applied says answer answerTo outOfRange offCalendar rows accepted firstOf
-returns-2 c = rw (le-ltb _ _ (c .before .before .before .if1 .left), lt-ltb _ _ (c .before .if2 .taken)) (c .refused2 .ensures)
+returns-2 c =
+    rw (
+      le-ltb _ _ (c .before .before .before .if1 .left),
+      lt-ltb _ _ (c .before .if2 .taken),
+    )
+    (c .refused2 .ensures)
 
 advance-requires : tie.Need-advance-requires
 advance-requires c κs = search needs

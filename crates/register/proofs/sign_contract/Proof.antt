@@ -5,14 +5,14 @@ use native.Mathlib.Omega.{arith}
 use borrow.Author.Tests.{lt-ltb, le-ltb, eq-eqb, ne-eqb, not-true, not-false}
 use Rattle.rules.specs.Rejections.{answer, answerTo, firstOf, outOfRange, offCalendar, rows, accepted}
 use Rattle.rules.specs.Register.{says, done, applied}
-use Rattle.point.proofs.Accepted.{at-most}
+use Rattle.answers.proofs.Within.{at-most}
 use Rattle.register.proofs.AtPoint.{advanced-on, at-refused, at-accepted, point-in}
 use borrow.Author.Needs.{needs}
 use Rattle.register.proofs.sign_contract.Statement.{statement}
 use Rattle.register.proofs.sign_contract.Tie as tie
 use Rattle.register.proofs.sign_contract.Reads as reads
 use Rattle.register.proofs.sign_contract.Lts as lts
-use Rattle.point.proofs.outside.Reads as outside-reads
+use Rattle.checks.proofs.outside.Reads as outside-reads
 use Rattle.register.proofs.accepted.Reads as accepted-reads
 use Rattle.register.proofs.points.advance.Reads as advance-reads
 use Rattle.register.proofs.refused.Reads as refused-reads
@@ -35,7 +35,13 @@ refused-requires-2 c κs = search needs
 
 returns-2 : tie.Need-returns-2
 unfolding applied says answer answerTo outOfRange offCalendar rows accepted firstOf
-returns-2 c = rw (← (c .before .before .before .outside .ensures), c .before .before .if1 .left, lt-ltb _ _ (c .before .if2 .taken)) (c .refused2 .ensures)
+returns-2 c =
+    rw (
+      ← (c .before .before .before .outside .ensures),
+      c .before .before .if1 .left,
+      lt-ltb _ _ (c .before .if2 .taken),
+    )
+    (c .refused2 .ensures)
 
 cast-if3 : tie.Need-cast-if3
 cast-if3 c = search needs
@@ -45,7 +51,14 @@ refused-requires-3 c κs = search needs
 
 returns-3 : tie.Need-returns-3
 unfolding applied says answer answerTo outOfRange offCalendar rows accepted firstOf
-returns-3 c = rw (← (c .before .before .before .before .before .outside .ensures), c .before .before .before .before .if1 .left, le-ltb _ _ (c .before .before .before .if2 .left), lt-ltb _ _ (c .before .if3 .taken)) (c .refused3 .ensures)
+returns-3 c =
+    rw (
+      ← (c .before .before .before .before .before .outside .ensures),
+      c .before .before .before .before .if1 .left,
+      le-ltb _ _ (c .before .before .before .if2 .left),
+      lt-ltb _ _ (c .before .if3 .taken),
+    )
+    (c .refused3 .ensures)
 
 advance-requires : tie.Need-advance-requires
 advance-requires c κs = search needs

@@ -30,14 +30,26 @@ named-requires c κs = search needs
 
 returns-2 : tie.Need-returns-2
 unfolding failedBy failedPoint failed
-returns-2 c = rw (le-leb _ _ (c .before .before .before .before .before .before .before .before .before .before .if1 .left), eq-eqb _ _ (c .before .before .before .before .if2 .taken), ← (c .before .before .before .before .before .before .dropped .ensures), c .named .ensures)
+returns-2 c =
+    rw (
+      le-leb _ _ (c .before .before .before .before .before .before .before .before .before .before .if1 .left),
+      eq-eqb _ _ (c .before .before .before .before .if2 .taken),
+      ← (c .before .before .before .before .before .before .dropped .ensures),
+      c .named .ensures,
+    )
 
 with-pending-requires : tie.Need-with-pending-requires
 with-pending-requires c κs = search needs
 
 returns-3 : tie.Need-returns-3
 unfolding failedBy failedPoint failed
-returns-3 c = rw (le-leb _ _ (c .before .before .before .before .before .before .before .if1 .left), ne-eqb _ _ (c .before .if2 .left), ← (c .before .before .before .dropped .ensures)) (c .with-pending .ensures)
+returns-3 c =
+    rw (
+      le-leb _ _ (c .before .before .before .before .before .before .before .if1 .left),
+      ne-eqb _ _ (c .before .if2 .left),
+      ← (c .before .before .before .dropped .ensures),
+    )
+    (c .with-pending .ensures)
 
 pub failed-spec : {M : Type 1} → statement M
 failed-spec =

@@ -1,8 +1,8 @@
+-- A reading is booked, and it becomes the last one.
 use Prim.Native.Nat.{_≤_, _<_}
 use Rattle.dates.specs.Dates.{lastDay}
 use Rattle.rules.specs.declared.Span.{Span}
 use Rattle.rules.specs.Register.{booked}
--- A reading is booked, and it becomes the last one.
 use mathlib.Core.Path.{_≡_, _∙_, ap, sym}
 use native.Mathlib.Omega.{arith}
 use Rattle.rules.specs.Volumes.{spanTo}
@@ -23,12 +23,16 @@ book-requires c κs = search needs
 
 returns : tie.Need-returns
 unfolding spanTo
-returns c = let e = c .before .before .span-to .ensures .0 in
-    let s = c .before .before .span-to .result in
-    let h = c .before .before .before .before .before .args .g .history in
-    let forward : s .from < s .to = rw e (c .before .before .before .before .before .pre .3) in
-    let within : s .to ≤ lastDay = rw e (c .before .before .before .before .before .pre .0) in
-    let books : c .book .result ≡ booked s h = c .book .ensures ∙ fair-booked s h forward within (c .before .before .span-to .ensures .1) (c .before .before .span-to .ensures .2) in
+returns c =
+    let made = c .before .before .span-to in
+    let start = c .before .before .before .before .before .before .before in
+    let e = made .ensures .0 in
+    let s = made .result in
+    let h = start .args .g .history in
+    let forward : s .from < s .to = rw e (start .pre .3) in
+    let within : s .to ≤ lastDay = rw e (start .pre .0) in
+    let books : c .book .result ≡ booked s h =
+    c .book .ensures ∙ fair-booked s h forward within (made .ensures .1) (made .ensures .2) in
     rw (books, e)
 
 pub read-spec : {M : Type 1} → statement M

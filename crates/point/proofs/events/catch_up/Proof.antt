@@ -21,7 +21,12 @@ next-event-requires-2 c κs = search needs
 
 returns-2 : tie.Need-returns-2
 unfolding caughtUp catchUp
-returns-2 c = rw (le-leb _ _ (c .before .before .if1 .left), ← (c .before .next-event .ensures)) (c .next-event2 .ensures)
+returns-2 c =
+    rw (
+      le-leb _ _ (c .before .before .if1 .left),
+      ← (c .before .next-event .ensures),
+    )
+    (c .next-event2 .ensures)
 
 pub catch-up-spec : {M : Type 1} → statement M
 catch-up-spec = tie.close (tie.spec returns next-event-requires next-event-requires-2 returns-2)

@@ -3,14 +3,14 @@ use native.Mathlib.Omega.{arith}
 use mathlib.Core.Path.{_≡_, refl, sym, _∙_, ap}
 use borrow.Author.Tests.{lt-ltb, le-ltb, le-leb, lt-leb, eq-eqb, ne-eqb}
 use Rattle.rules.specs.Rejections.{openingAnswer, firstOf}
-use Rattle.point.proofs.Accepted.{at-most}
+use Rattle.answers.proofs.Within.{at-most}
 use Rattle.register.specs.Calls.{opensWith}
 use borrow.Author.Needs.{needs}
 use Rattle.register.proofs.opening.open.Statement.{statement}
 use Rattle.register.proofs.opening.open.Tie as tie
 use Rattle.register.proofs.opening.open.Reads as reads
 use Rattle.register.proofs.opening.open.Lts as lts
-use Rattle.point.proofs.outside.Reads as outside-reads
+use Rattle.checks.proofs.outside.Reads as outside-reads
 
 outside-requires : tie.Need-outside-requires
 outside-requires c κs = search needs
@@ -24,32 +24,81 @@ outside-requires-2 c κs = search needs
 
 returns-2 : tie.Need-returns-2
 unfolding opensWith openingAnswer firstOf
-returns-2 c = rw (← (c .before .before .before .outside .ensures), c .before .before .if1 .left, ← (c .before .outside2 .ensures), c .if2 .taken)
+returns-2 c =
+    rw (
+      ← (c .before .before .before .outside .ensures),
+      c .before .before .if1 .left,
+      ← (c .before .outside2 .ensures),
+      c .if2 .taken,
+    )
 
 outside-requires-3 : tie.Need-outside-requires-3
 outside-requires-3 c κs = search needs
 
 returns-3 : tie.Need-returns-3
 unfolding opensWith openingAnswer firstOf
-returns-3 c = rw (← (c .before .before .before .before .before .outside .ensures), c .before .before .before .before .if1 .left, ← (c .before .before .before .outside2 .ensures), c .before .before .if2 .left, ← (c .before .outside3 .ensures), c .if3 .taken)
+returns-3 c =
+    rw (
+      ← (c .before .before .before .before .before .outside .ensures),
+      c .before .before .before .before .if1 .left,
+      ← (c .before .before .before .outside2 .ensures),
+      c .before .before .if2 .left,
+      ← (c .before .outside3 .ensures),
+      c .if3 .taken,
+    )
 
 outside-requires-4 : tie.Need-outside-requires-4
 outside-requires-4 c κs = search needs
 
 returns-4 : tie.Need-returns-4
 unfolding opensWith openingAnswer firstOf
-returns-4 c = rw (← (c .before .before .before .before .before .before .before .outside .ensures), c .before .before .before .before .before .before .if1 .left, ← (c .before .before .before .before .before .outside2 .ensures), c .before .before .before .before .if2 .left, ← (c .before .before .before .outside3 .ensures), c .before .before .if3 .left, ← (c .before .outside4 .ensures), c .if4 .taken)
+returns-4 c =
+    rw (
+      ← (c .before .before .before .before .before .before .before .outside .ensures),
+      c .before .before .before .before .before .before .if1 .left,
+      ← (c .before .before .before .before .before .outside2 .ensures),
+      c .before .before .before .before .if2 .left,
+      ← (c .before .before .before .outside3 .ensures),
+      c .before .before .if3 .left,
+      ← (c .before .outside4 .ensures),
+      c .if4 .taken,
+    )
 
 outside-requires-5 : tie.Need-outside-requires-5
 outside-requires-5 c κs = search needs
 
 returns-5 : tie.Need-returns-5
 unfolding opensWith openingAnswer firstOf
-returns-5 c = rw (← (c .before .before .before .before .before .before .before .before .before .outside .ensures), c .before .before .before .before .before .before .before .before .if1 .left, ← (c .before .before .before .before .before .before .before .outside2 .ensures), c .before .before .before .before .before .before .if2 .left, ← (c .before .before .before .before .before .outside3 .ensures), c .before .before .before .before .if3 .left, ← (c .before .before .before .outside4 .ensures), c .before .before .if4 .left, ← (c .before .outside5 .ensures), c .if5 .taken)
+returns-5 c =
+    rw (
+      ← (c .before .before .before .before .before .before .before .before .before .outside .ensures),
+      c .before .before .before .before .before .before .before .before .if1 .left,
+      ← (c .before .before .before .before .before .before .before .outside2 .ensures),
+      c .before .before .before .before .before .before .if2 .left,
+      ← (c .before .before .before .before .before .outside3 .ensures),
+      c .before .before .before .before .if3 .left,
+      ← (c .before .before .before .outside4 .ensures),
+      c .before .before .if4 .left,
+      ← (c .before .outside5 .ensures),
+      c .if5 .taken,
+    )
 
 returns-6 : tie.Need-returns-6
 unfolding opensWith openingAnswer firstOf
-returns-6 c = rw (← (c .before .before .before .before .before .before .before .before .before .before .before .outside .ensures), c .before .before .before .before .before .before .before .before .before .before .if1 .left, ← (c .before .before .before .before .before .before .before .before .before .outside2 .ensures), c .before .before .before .before .before .before .before .before .if2 .left, ← (c .before .before .before .before .before .before .before .outside3 .ensures), c .before .before .before .before .before .before .if3 .left, ← (c .before .before .before .before .before .outside4 .ensures), c .before .before .before .before .if4 .left, ← (c .before .before .before .outside5 .ensures), c .before .before .if5 .left, eq-eqb _ _ (c .if6 .taken))
+returns-6 c =
+    rw (
+      ← (c .before .before .before .before .before .before .before .before .before .before .before .outside .ensures),
+      c .before .before .before .before .before .before .before .before .before .before .if1 .left,
+      ← (c .before .before .before .before .before .before .before .before .before .outside2 .ensures),
+      c .before .before .before .before .before .before .before .before .if2 .left,
+      ← (c .before .before .before .before .before .before .before .outside3 .ensures),
+      c .before .before .before .before .before .before .if3 .left,
+      ← (c .before .before .before .before .before .outside4 .ensures),
+      c .before .before .before .before .if4 .left,
+      ← (c .before .before .before .outside5 .ensures),
+      c .before .before .if5 .left,
+      eq-eqb _ _ (c .if6 .taken),
+    )
 
 cast-if7 : tie.Need-cast-if7
 cast-if7 c = search needs

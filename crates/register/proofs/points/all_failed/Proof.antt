@@ -35,17 +35,17 @@ mul-out c = search needs
 array-set-from-out : tie.Need-array-set-from-out Inv-loop μ-loop
 array-set-from-out c = search needs
 
-add-i : tie.Need-add-i Inv-loop μ-loop
-add-i c = search needs
+add-n : tie.Need-add-n Inv-loop μ-loop
+add-n c = search needs
 
 loop-less : tie.Need-loop-less Inv-loop μ-loop
 loop-less c = search needs
 
 loop-again : tie.Need-loop-again Inv-loop μ-loop
-loop-again c = (search needs, rw (c .failed .ensures, c .before .before .before .loop .inv .1) (swept-more _ (c .before .before .before .before .args .ps) (c .before .before .before .loop .i) _ (search needs)))
+loop-again c = (search needs, rw (c .failed .ensures, c .before .before .before .loop .inv .1) (swept-more _ (c .before .before .before .before .args .ps) (c .before .before .before .loop .n) _ (search needs)))
 
 returns : tie.Need-returns Inv-loop μ-loop
-returns c = c .before .loop .inv .1 ∙ swept-all _ (c .before .before .args .ps) (c .before .loop .i) (search needs)
+returns c = c .before .loop .inv .1 ∙ swept-all _ (c .before .before .args .ps) (c .before .loop .n) (search needs)
 
 pub all-failed-spec : {M : Type 1} → statement M
 all-failed-spec =
@@ -59,7 +59,7 @@ all-failed-spec =
     failed-requires
     mul-out
     array-set-from-out
-    add-i
+    add-n
     loop-less
     loop-again
     returns)

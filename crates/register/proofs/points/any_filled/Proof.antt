@@ -1,6 +1,6 @@
+-- The points are looked at in turn: what is left to look at decides.
 use mathlib.Core.Bool.{Bool}
 use Rattle.register.proofs.Search.{point-next}
--- The points are looked at in turn: what is left to look at decides.
 use mathlib.Core.Path.{_≡_, refl, sym, _∙_, ap}
 use Prim.Native.Nat.{ℕ, _≤_, _-_, _+_}
 use native.Mathlib.Omega.{arith}
@@ -35,23 +35,23 @@ failure-fills-requires : tie.Need-failure-fills-requires Inv-loop μ-loop
 failure-fills-requires c κs = search needs
 
 returns : tie.Need-returns Inv-loop μ-loop
-returns c = let a = c .before .before .before .before .before .args in let i = c .before .before .before .before .loop .i in
+returns c = let a = c .before .before .before .before .before .args in let i = c .before .before .before .before .loop .k in
     let f : ℕ → Bool = λ p. failureFills (a .set) (a .t) (a .s) (pointAt p (a .t4)) in
     sym (c .before .before .before .before .loop .inv .1 ∙ any-found f (i + 1) (32 - i) (omega arith) (rw (point-next (a .t4) i) (sym (c .before .failure-fills .ensures) ∙ c .if1 .taken)))
 
-add-i : tie.Need-add-i Inv-loop μ-loop
-add-i c = search needs
+add-k : tie.Need-add-k Inv-loop μ-loop
+add-k c = search needs
 
 loop-less : tie.Need-loop-less Inv-loop μ-loop
 loop-less c = search needs
 
 loop-again : tie.Need-loop-again Inv-loop μ-loop
-loop-again c = let a = c .before .before .before .before .before .args in let i = c .before .before .before .before .loop .i in
+loop-again c = let a = c .before .before .before .before .before .args in let i = c .before .before .before .before .loop .k in
     let f : ℕ → Bool = λ p. failureFills (a .set) (a .t) (a .s) (pointAt p (a .t4)) in
     (search needs, c .before .before .before .before .loop .inv .1 ∙ any-passed f i (omega arith) (rw (point-next (a .t4) i) (sym (c .before .failure-fills .ensures) ∙ c .if1 .left)))
 
 returns-2 : tie.Need-returns-2 Inv-loop μ-loop
-returns-2 c = let a = c .before .before .args in let i = c .before .loop .i in
+returns-2 c = let a = c .before .before .args in let i = c .before .loop .k in
     let f : ℕ → Bool = λ p. failureFills (a .set) (a .t) (a .s) (pointAt p (a .t4)) in
     let z : 32 - i ≡ 0 = omega arith in
     sym (c .before .loop .inv .1 ∙ ap (λ (n : ℕ). anyPoint (i + 1) n f) z ∙ any-none f (i + 1))
@@ -67,7 +67,7 @@ any-filled-spec =
     array-copy-out-g
     failure-fills-requires
     returns
-    add-i
+    add-k
     loop-less
     loop-again
     returns-2)

@@ -27,7 +27,12 @@ blank-point-requires-2 c κs = search needs
 
 returns-2 : tie.Need-returns-2
 unfolding pointOn
-returns-2 c = rw (le-ltb (c .before .before .before .args .p) 1 (c .before .before .if1 .left), lt-ltb 32 (c .before .before .before .args .p) (c .before .if2 .taken)) (c .blank-point2 .ensures)
+returns-2 c =
+    rw (
+      le-ltb (c .before .before .before .args .p) 1 (c .before .before .if1 .left),
+      lt-ltb 32 (c .before .before .before .args .p) (c .before .if2 .taken),
+    )
+    (c .blank-point2 .ensures)
 
 mul-g : tie.Need-mul-g
 mul-g c = search needs

@@ -1,0 +1,42 @@
+// The checks of the calls that name a point: their answers.
+mod ranges;
+mod rows;
+
+use dates::LAST_DAY;
+use ranges::off_calendar_at;
+use ranges::out_of_range_at;
+use rows::ruling_at;
+use rules::Answer;
+use rules::Point;
+use rules::PointAction;
+use rules::Settings;
+ghost use mathlib.Core.Path.{_≡_};
+ghost use Rattle.answers.specs.Ruling.{answerAt};
+
+// The answer to a call that names point p, which is g, brought up to today: 22, 20 and 21 first, then the rows.
+pub fn answer_at(
+    set: Settings,
+    day: u32,
+    contracts: [bool; 100],
+    today: u64,
+    p: u64,
+    a: PointAction,
+    g: Point,
+) -> Answer
+    ensures { λ r. ⌜ r ≡ answerAt set day contracts today p a g ⌝ }
+{
+    if out_of_range_at(a) {
+        return Answer::Refused(22);
+    }
+    if today > LAST_DAY as u64 {
+        return Answer::Refused(20);
+    }
+    let t = today as u32;
+    if off_calendar_at(set, t, a) {
+        return Answer::Refused(20);
+    }
+    if t < day {
+        return Answer::Refused(21);
+    }
+    ruling_at(set, contracts, t, p, a, g)
+}

@@ -1,0 +1,128 @@
+// The first rows of the table: ranges, the calendar, contracts and points.
+use checks::outside;
+use dates::LAST_DAY;
+use rules::Pending;
+use rules::PointAction;
+use rules::Settings;
+ghost use mathlib.Core.Path.{_≡_};
+ghost use mathlib.Core.Bool.{false, not, _||_};
+ghost use Prim.Native.Nat.{_≤_};
+ghost use lib.ListN.{getD};
+ghost use Rattle.rules.specs.Rejections.{notPoint, outOfRangeAt, offCalendarAt, isPending};
+
+fn or(a: bool, b: bool) -> bool
+    ensures { λ r. ⌜ r ≡ (a || b) ⌝ }
+{
+    if a {
+        return true;
+    }
+    b
+}
+
+// 22: a field out of range.
+pub(crate) fn out_of_range_at(a: PointAction) -> bool
+    ensures { λ r. ⌜ r ≡ outOfRangeAt a ⌝ }
+{
+    match a {
+        PointAction::Enrol {
+            before,
+            after,
+            index: _,
+        } => or(outside(1, 8, before), outside(0, 3, after)),
+        PointAction::IntoService { supplier, key } => or(
+            outside(1, 99, supplier),
+            outside(1, 999999999, key),
+        ),
+        PointAction::DefaultSupply { key } => outside(1, 999999999, key),
+        PointAction::AskSwitch {
+            supplier,
+            key,
+            day: _,
+        } => or(outside(1, 99, supplier), outside(1, 999999999, key)),
+        PointAction::Cancel { supplier } => outside(1, 99, supplier),
+        PointAction::Read {
+            day: _,
+            index: _,
+            zero,
+        } => outside(0, 1, zero),
+        PointAction::ChangeMeter {
+            index: _,
+            zero,
+            before,
+            after,
+            fresh: _,
+        } => {
+            or(
+                outside(0, 1, zero),
+                or(outside(1, 8, before), outside(0, 3, after)),
+            )
+        }
+        PointAction::OutOfService => false,
+        PointAction::Suspend { mark } => outside(0, 1, mark),
+    }
+}
+
+// 20: a day past the calendar's end.
+pub(crate) fn off_calendar_at(set: Settings, t: u32, a: PointAction) -> bool
+    requires { ⌜ t ≤ 73048 ⌝ }
+    ensures { λ r. ⌜ r ≡ offCalendarAt set t a ⌝ }
+{
+    match a {
+        PointAction::Enrol {
+            before: _,
+            after: _,
+            index: _,
+        } => false,
+        PointAction::IntoService {
+            supplier: _,
+            key: _,
+        } => false,
+        PointAction::DefaultSupply { key: _ } => LAST_DAY < t + (set.a as u32) + (set.b as u32),
+        PointAction::AskSwitch {
+            supplier: _,
+            key: _,
+            day,
+        } => (LAST_DAY as u64) < day,
+        PointAction::Cancel { supplier: _ } => false,
+        PointAction::Read {
+            day,
+            index: _,
+            zero: _,
+        } => (LAST_DAY as u64) < day,
+        PointAction::ChangeMeter {
+            index: _,
+            zero: _,
+            before: _,
+            after: _,
+            fresh: _,
+        } => false,
+        PointAction::OutOfService => false,
+        PointAction::Suspend { mark: _ } => false,
+    }
+}
+
+// 1: s is not under contract.
+pub(crate) fn no_contract(contracts: [bool; 100], s: u64) -> bool
+    requires { ⌜ s ≤ 99 ⌝ }
+    ensures { λ r. ⌜ r ≡ not (getD contracts s false) ⌝ }
+{
+    let i = s as usize;
+    !contracts[i]
+}
+
+// 2: no point, or not enrolled.
+pub(crate) fn not_enrolled(p: u64, enrolled: bool) -> bool
+    ensures { λ r. ⌜ r ≡ (notPoint p || not enrolled) ⌝ }
+{
+    or(outside(1, 32, p), !enrolled)
+}
+
+// 5: a request is pending.
+pub(crate) fn is_pending(q: Pending) -> bool
+    ensures { λ r. ⌜ r ≡ isPending q ⌝ }
+{
+    match q {
+        Pending::Nothing => false,
+        Pending::Request(_, _) => true,
+    }
+}

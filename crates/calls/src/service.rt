@@ -1,0 +1,60 @@
+// Points in and out of service, and their suspension.
+use crate::apply_at;
+use rules::Outcome;
+use rules::PointAction;
+use rules::Register;
+ghost use mathlib.Core.Path.{_≡_};
+ghost use Rattle.rules.specs.Register.{applied};
+ghost use Rattle.register.specs.Calls.{callAt};
+
+// 3. Point p is enrolled, with the wheels of its meter and its index.
+pub fn enrol(r: Register, today: u64, p: u64, before: u64, after: u64, index: u64) -> Outcome
+    ensures { λ x. ⌜ x ≡ applied r (callAt today p (PointAction.Enrol before after index)) ⌝ }
+{
+    apply_at(
+        r,
+        today,
+        p,
+        PointAction::Enrol {
+            before: before,
+            after: after,
+            index: index,
+        },
+    )
+}
+
+// 4. Point p goes into service with supplier s.
+pub fn into_service(r: Register, today: u64, p: u64, s: u64, key: u64) -> Outcome
+    ensures { λ x. ⌜ x ≡ applied r (callAt today p (PointAction.IntoService s key)) ⌝ }
+{
+    apply_at(
+        r,
+        today,
+        p,
+        PointAction::IntoService {
+            supplier: s,
+            key: key,
+        },
+    )
+}
+
+// 5. Point p goes into default supply.
+pub fn default_supply(r: Register, today: u64, p: u64, key: u64) -> Outcome
+    ensures { λ x. ⌜ x ≡ applied r (callAt today p (PointAction.DefaultSupply key)) ⌝ }
+{
+    apply_at(r, today, p, PointAction::DefaultSupply { key: key })
+}
+
+// 10. Point p goes out of service.
+pub fn out_of_service(r: Register, today: u64, p: u64) -> Outcome
+    ensures { λ x. ⌜ x ≡ applied r (callAt today p PointAction.OutOfService) ⌝ }
+{
+    apply_at(r, today, p, PointAction::OutOfService)
+}
+
+// 11. Access is suspended, or free again.
+pub fn suspend(r: Register, today: u64, p: u64, mark: u64) -> Outcome
+    ensures { λ x. ⌜ x ≡ applied r (callAt today p (PointAction.Suspend mark)) ⌝ }
+{
+    apply_at(r, today, p, PointAction::Suspend { mark: mark })
+}

@@ -1,0 +1,4 @@
+pub mod Openings
+pub mod Tabled
+pub mod Dues
+pub mod OnePoint

@@ -1,0 +1,3 @@
+pub mod Desk
+pub mod Table
+pub mod Quick

@@ -1,0 +1,98 @@
+// What a message is answered, and what it changes, before and after the register is opened.
+mod quick;
+
+use message::Message;
+pub use quick::day_after;
+pub use quick::due_day;
+pub use quick::first_due;
+pub use quick::is_quick;
+pub use quick::place_of;
+pub use quick::signed_after;
+pub use quick::supplier_of;
+pub use quick::turn_of;
+use register::Opened;
+use register::apply;
+use register::begin;
+use register::open;
+use rules::Answer;
+use rules::Call;
+use rules::Opening;
+use rules::Register;
+ghost use mathlib.Core.Path.{_≡_};
+ghost use Rattle.desk.specs.Desk.{replied};
+
+// The register, once a set has opened it; before that the register is not looked at.
+pub struct Desk {
+    pub ready: bool,
+    pub register: Register,
+}
+
+// The answer to a message, and the desk after it.
+pub struct Reply {
+    pub answer: Answer,
+    pub desk: Desk,
+}
+
+// The answer to a message, and what it changes.
+pub fn respond(d: Desk, m: Message) -> Reply
+    ensures { λ r. ⌜ r ≡ replied d m ⌝ }
+{
+    match m {
+        Message::Open(o) => respond_opening(d, o),
+        Message::Ask(c) => respond_call(d, c),
+        Message::Unreadable => unreadable(d),
+    }
+}
+
+fn unreadable(d: Desk) -> Reply
+    ensures { λ r. ⌜ r ≡ record { answer = Answer.Refused 31; desk = d } ⌝ }
+{
+    Reply {
+        answer: Answer::Refused(31),
+        desk: d,
+    }
+}
+
+fn respond_opening(d: Desk, o: Opening) -> Reply
+    ensures { λ r. ⌜ r ≡ replied d (Message.Open o) ⌝ }
+{
+    if d.ready {
+        return unreadable(d);
+    }
+    let x = open(o);
+    match x {
+        Opened::Ready(s) => {
+            let r = begin(s);
+            Reply {
+                answer: Answer::Accepted,
+                desk: Desk {
+                    ready: true,
+                    register: r,
+                },
+            }
+        }
+        Opened::Turned(n) => Reply {
+            answer: Answer::Refused(n),
+            desk: d,
+        },
+    }
+}
+
+fn respond_call(d: Desk, c: Call) -> Reply
+    ensures { λ r. ⌜ r ≡ replied d (Message.Ask c) ⌝ }
+{
+    if d.ready {
+        let r = d.register;
+        let x = apply(r, c);
+        let answer = x.answer;
+        let after = x.register;
+        return Reply {
+            answer: answer,
+            desk: Desk {
+                ready: true,
+                register: after,
+            },
+        };
+    }
+    unreadable(d)
+}

@@ -1,0 +1,62 @@
+-- The register's day stays on the calendar.
+use mathlib.Core.Path.{_≡_, refl, _∙_}
+use mathlib.Core.Bool.{Bool, true, false, cond}
+use mathlib.Core.List.{List, [], _∷_, map}
+use Prim.Native.Nat.{ℕ, _≤_}
+use lib.Dec.{eqb, ltb}
+use borrow.Author.Tests.{eqb-true, ltb-false}
+use Rattle.dates.specs.Dates.{lastDay}
+use Rattle.rules.specs.declared.Register.{Register}
+use Rattle.rules.specs.declared.Opening.{Opening}
+use Rattle.rules.specs.declared.Call.{Call}
+use Rattle.rules.specs.declared.Action.{Action}
+use Rattle.rules.specs.declared.Action.the-variants.{SignContract, Failure, At, Day}
+use Rattle.rules.specs.Answers.{isAccepted}
+use Rattle.rules.specs.Rejections.{answer, openingAnswer}
+use Rattle.rules.specs.Register.{register, catchUp, advanced, says, done, applied, after, opened}
+use Rattle.rules.proofs.Accept.{pass}
+use Rattle.rules.proofs.Answered.{passed}
+
+done-day : (t : ℕ) (a : Action) (r : Register) → done t a r .day ≡ r .day
+unfolding done
+done-day t (SignContract s) r = refl
+done-day t (Failure s) r = refl
+done-day t (At p a) r = refl
+done-day t Day r = refl
+
+advanced-day : (t : ℕ) (r : Register) → advanced t r .day ≡ t
+unfolding advanced
+advanced-day t r = go (eqb (r .day) t) refl
+  where
+    go : (b : Bool) → eqb (r .day) t ≡ b
+        → cond b r (register (r .settings) t (r .contracts) (map (catchUp (r .settings) t) (r .points))) .day ≡ t
+    go true e = eqb-true _ _ e
+    go false e = refl
+
+day-next : (r : Register) (c : Call) → r .day ≤ lastDay → applied r c .register .day ≤ lastDay
+unfolding applied says answer
+day-next r c le = go (isAccepted (says r c)) refl
+  where
+    go : (b : Bool) → isAccepted (says r c) ≡ b
+        → cond b (done (c .today) (c .action) (advanced (c .today) r)) r .day ≤ lastDay
+    go true ok =
+        rw (done-day (c .today) (c .action) (advanced (c .today) r), advanced-day (c .today) r)
+        (passed (r .settings) (r .day) (r .contracts) (c .today) (c .action) _ ok .calendar)
+    go false q = le
+
+day-after : (cs : List Call) (r : Register) → r .day ≤ lastDay → after r cs .day ≤ lastDay
+unfolding after
+day-after [] r le = le
+day-after (c ∷ cs) r le = day-after cs (applied r c .register) (day-next r c le)
+
+opened-day : (o : Opening) → isAccepted (openingAnswer o) ≡ true → o .day ≤ lastDay
+unfolding openingAnswer
+opened-day o ok =
+    let a = pass _ _ _ _ (pass _ _ _ _ (pass _ _ _ _ ok .1) .1) in
+    let b = pass _ _ _ _ (pass _ _ _ _ (pass _ _ _ _ (a .1) .1) .1) in
+    ltb-false lastDay (o .day) (pass _ _ _ _ (b .1) .0)
+
+pub run-day : (o : Opening) → isAccepted (openingAnswer o) ≡ true → (cs : List Call)
+    → after (opened o) cs .day ≤ lastDay
+unfolding opened
+run-day o ok cs = day-after cs (opened o) (opened-day o ok)

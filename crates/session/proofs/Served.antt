@@ -1,0 +1,193 @@
+-- However an input is cut, what is handed on for writing is its transcript. The statement is specs/Transcript.antt.
+use Prim.Native.Nat.{ℕ, suc, _+_, _/_, _≤_}
+use mathlib.Core.Path.{_≡_, refl, sym, ap, ap₂, _∙_}
+use mathlib.Core.Bool.{Bool, true, false, cond, false≢true}
+use mathlib.Core.List.{List, [], _∷_, _++_, append-assoc, append-nil}
+use native.Mathlib.Omega.{arith}
+use native.Mathlib.Nat.{not-suc-le-zero}
+use borrow.Author.Tests.{ne-eqb}
+use lib.Dec.{eqb}
+use lib.ListN.{length, take, drop}
+use lib.Seq.{take-append-seam, take-all, drop-length}
+use Rattle.rules.specs.declared.Register.{Register}
+use Rattle.text.specs.Appending.{put}
+use Rattle.listing.specs.declared.Listed.{Listed}
+use Rattle.listing.specs.Listing.{listing, listingFrom, piece}
+use Rattle.listing.specs.Listing as L
+use Rattle.listing.specs.Pieces.{left}
+use Rattle.listing.proofs.Pieces.{pieces-join}
+use Rattle.message.specs.Lines.{kindOf}
+use Rattle.message.specs.Reading.{readLine}
+use Rattle.answer_lines.specs.Answers.{answerLine}
+use Rattle.input.specs.declared.Part.{Part}
+use Rattle.input.specs.Lines.{fitting, lastLine}
+use Rattle.input.specs.Part.{capped, kept, partOf}
+use Rattle.input.specs.Machine.{said, afterLines, transcript, Run, behind, run}
+use Rattle.input.proofs.Feeds.{fitting-all}
+use Rattle.input.proofs.Parts.{kept-partOf}
+use Rattle.input.proofs.Runs.{run-append, run-part-le, run-transcript, lastSaid, lastState}
+use Rattle.desk.specs.declared.Desk.{Desk}
+use Rattle.desk.specs.Desk.{answerOf, deskAfter}
+use Rattle.session.specs.declared.Session.{Session}
+use Rattle.session.specs.declared.Fed.{Fed}
+use Rattle.session.specs.Session.{
+  nextDesk,
+  sayLine,
+  runOf,
+  runFrom,
+  startSession,
+  takenOf,
+  fedRun,
+  fedAs,
+  FedBy,
+  missingFeed,
+  closing,
+  closingPiece,
+  closedNext,
+  ClosedFrom,
+}
+use Rattle.session.specs.Transcript.{Closing, done, more, Served, fed, ended, TranscriptServed}
+use Rattle.session.proofs.Capped.{read-capped}
+use Rattle.session.proofs.Sized.{Sized, run-sized}
+
+-- what was put at the start of a buffer can be taken from it
+put-start : (t o : List ℕ) → take (length t) (put 0 t o) ≡ t
+unfolding put
+put-start t o = take-append-seam t (drop (0 + length t) o)
+
+-- ---- the closing lines
+
+-- what is still to be listed
+abbrev toList : Desk → ℕ → List ℕ
+toList d from = cond (d .ready) (left (d .register) from) []
+
+none-left : (r : Register) (from : ℕ) → length (r .points) ≡ 32 → from ≡ 32 → left r from ≡ []
+unfolding listingFrom
+none-left r from h e =
+    rw e (ap (listingFrom 33) (ap (λ (n : ℕ). drop n (r .points)) (sym h) ∙ drop-length (r .points)))
+
+closing-all : {d : Desk} {from : ℕ} {w : List ℕ} → Sized d → from ≤ 32 → Closing d from w → w ≡ toList d from
+closing-all {d} {from} s le (done h) = go (d .ready) refl
+  where
+    go : (b : Bool) → d .ready ≡ b → [] ≡ cond b (left (d .register) from) []
+    go true e = sym (none-left (d .register) from (s e) (omega arith))
+    go false e = refl
+closing-all {d} {from} s le (more {w = w} before after x c rest) =
+    let n = length before in
+    let at : x .next ≡ closedNext d from n = ap (λ (y : Listed). y .next) (c .answer) in
+    let long : x .written ≡ length (closingPiece d from n) = ap (λ (y : Listed). y .written) (c .answer) in
+    let text : take (x .written) after ≡ closingPiece d from n =
+    ap₂ (λ (k : ℕ) (o : List ℕ). take k o) long (c .bytes) ∙ put-start (closingPiece d from n) before
+    in
+    let tail : w ≡ toList d (closedNext d from n) = rw at at (closing-all s (rw at (reach (d .ready) n)) rest) in
+    ap₂ (λ (a b : List ℕ). a ++ b) text tail ∙ joins (d .ready) n
+  where
+    reach : (b : Bool) (n : ℕ) → cond b (from + L.taken from n) 32 ≤ 32
+    reach true n = pieces-join .in-range from n le
+    reach false n = omega arith
+
+    joins : (b : Bool) (n : ℕ) →
+        cond b (piece (d .register) from n) [] ++ cond b (left (d .register) (cond b (from + L.taken from n) 32)) []
+        ≡ cond b (left (d .register) from) []
+    joins true n = pieces-join .one (d .register) from n
+    joins false n = refl
+
+closing-from-start : (d : Desk) (w : List ℕ) → Sized d → Closing d 0 w → w ≡ closing d
+unfolding listing
+closing-from-start d w s h = closing-all s (omega arith) h
+
+-- ---- the last line
+
+-- a run over nothing but the line feed that is missing
+abbrev ends : Run Desk → List ℕ
+ends r = r .out ++ closing (r .state)
+
+last-line : (d : Desk) (l : List ℕ) →
+    ends (runOf d l (cond (eqb (length l) 0) [] (10 ∷ [])))
+    ≡ lastSaid nextDesk sayLine (runOf d l []) ++ closing (lastState nextDesk sayLine (runOf d l []))
+unfolding run said afterLines
+last-line d [] = refl
+last-line d (b ∷ l) = rw (ne-eqb (length (b ∷ l)) 0 (λ e. not-suc-le-zero {n = length l} (omega arith)), append-nil)
+
+-- ---- the whole input
+
+module _ (s : Session) (l : List ℕ) (is : s .part ≡ partOf l) (short : length l ≤ 97) where
+  kept-is : kept (s .part) ≡ l
+  kept-is = ap kept is ∙ kept-partOf l short
+
+  run-is : (input : List ℕ) → runFrom s input ≡ runOf (s .desk) l input
+  run-is input = ap (λ (p : List ℕ). runOf (s .desk) p input) kept-is
+
+  missing-is : missingFeed s ≡ cond (eqb (length l) 0) [] (10 ∷ [])
+  unfolding partOf
+  missing-is = ap (λ (p : Part). cond (eqb (p .len) 0) [] (10 ∷ [])) is
+
+abbrev wholly : Desk → List ℕ → List ℕ → List ℕ
+wholly d l input = lastSaid nextDesk sayLine (runOf d l input) ++ closing (lastState nextDesk sayLine (runOf d l input))
+
+four : (a x y z : List ℕ) → a ++ ((x ++ y) ++ z) ≡ ((a ++ x) ++ y) ++ z
+four a x y z = ap (λ (l : List ℕ). a ++ l) (append-assoc x y z) ∙ sym (append-assoc (a ++ x) y z ∙ append-assoc a x (y ++ z))
+
+wholly-append : (d : Desk) (l a rest : List ℕ) →
+    runOf d l a .out ++ wholly (runOf d l a .state) (runOf d l a .part) rest ≡ wholly d l (a ++ rest)
+wholly-append d l a rest =
+    let r = runOf d l a in
+    let x = runOf (r .state) (r .part) rest in
+    rw (run-append nextDesk sayLine d l a rest)
+    (four (r .out) (x .out) (said nextDesk sayLine (x .state) (lastLine (x .part))) (closing (lastState nextDesk sayLine x)))
+
+missing-short : (b : Bool) → length {A = ℕ} (cond b [] (10 ∷ [])) ≤ 1
+missing-short true = omega arith
+missing-short false = omega arith
+
+served : {s : Session} {input w : List ℕ} (l : List ℕ) → s .part ≡ partOf l → length l ≤ 97 → Sized (s .desk) → Served s input w →
+    w ≡ wholly (s .desk) l input
+unfolding fedAs
+served {s} l is short sized (fed {piece = c} {rest = rest} {w = w} before after f h next) =
+    let r = fedRun s c before in
+    let a = take (takenOf c before) c in
+    let run = run-is s l is short a in
+    let text : take (f .written) after ≡ r .out =
+    ap₂ (λ (k : ℕ) (o : List ℕ). take k o) (ap (λ (y : Fed). y .written) (h .result)) (h .bytes) ∙ put-start (r .out) before
+    in
+    let desk-is : f .session .desk ≡ r .state = ap (λ (y : Fed). y .session .desk) (h .result) in
+    let part-is : f .session .part ≡ partOf (r .part) = ap (λ (y : Fed). y .session .part) (h .result) in
+    let taken-is : take (f .taken) c ≡ a = ap (λ (y : Fed). take (y .taken) c) (h .result) in
+    let part-le : length (r .part) ≤ 97 = ap-le run (run-part-le nextDesk sayLine (s .desk) l a short) in
+    let sized′ : Sized (f .session .desk) = rw (desk-is, run) (run-sized (s .desk) l a sized) in
+    let tail : w ≡ wholly (r .state) (r .part) rest = rw desk-is at (served (r .part) part-is part-le sized′ next) in
+    rw (text, tail, taken-is, run) (wholly-append (s .desk) l a rest)
+  where
+    ap-le : {x y : Run Desk} → x ≡ y → length (y .part) ≤ 97 → length (x .part) ≤ 97
+    ap-le e k = rw e k
+served {s} l is short sized (ended {w = w} before after f h room close) =
+    let r = fedRun s (missingFeed s) before in
+    let m : List ℕ = cond (eqb (length l) 0) [] (10 ∷ []) in
+    let missing = missing-is s l is short in
+    let enough : fitting (length before / 24) (missingFeed s) ≡ length (missingFeed s) =
+    fitting-all (length before / 24) (missingFeed s) (omega (arith, missing-short (eqb (s .part .len) 0)))
+    in
+    let all : take (takenOf (missingFeed s) before) (missingFeed s) ≡ m =
+    take-all (takenOf (missingFeed s) before) (missingFeed s) (omega (arith, enough)) ∙ missing
+    in
+    let run : r ≡ runOf (s .desk) l m = ap (runFrom s) all ∙ run-is s l is short m in
+    let text : take (f .written) after ≡ r .out =
+    ap₂ (λ (k : ℕ) (o : List ℕ). take k o) (ap (λ (y : Fed). y .written) (h .result)) (h .bytes) ∙ put-start (r .out) before
+    in
+    let desk-is : f .session .desk ≡ r .state = ap (λ (y : Fed). y .session .desk) (h .result) in
+    let sized′ : Sized (f .session .desk) = rw (desk-is, run) (run-sized (s .desk) l m sized) in
+    let tail : w ≡ closing (r .state) = closing-from-start (f .session .desk) w sized′ close ∙ ap closing desk-is in
+    rw (text, tail, run) (last-line (s .desk) l)
+
+-- a line says what its first 97 bytes say
+say-capped : (d : Desk) (l : List ℕ) → sayLine d (capped l) ≡ sayLine d l
+say-capped d l = rw (read-capped l)
+
+next-capped : (d : Desk) (l : List ℕ) → nextDesk d (capped l) ≡ nextDesk d l
+next-capped d l = rw (read-capped l)
+
+pub transcript-served : TranscriptServed
+unfolding startSession
+transcript-served input w h =
+    served [] refl (omega arith) (λ e. absurd (false≢true e)) h ∙
+    run-transcript nextDesk sayLine say-capped next-capped closing (startSession .desk) input

@@ -1,0 +1,44 @@
+use borrow.Author.Needs.{needs}
+use Rattle.session.proofs.finish.Statement.{statement}
+use Rattle.session.proofs.finish.Tie as tie
+use Rattle.session.proofs.finish.Reads as reads
+use Rattle.session.proofs.finish.Lts as lts
+use Rattle.session.proofs.at_most_one.Reads as at-most-one-reads
+use Rattle.session.proofs.feed.Reads as feed-reads
+use Prim.Native.Nat.{ℕ, _≤_, min}
+use mathlib.Core.Path.{_≡_, refl, sym, ap, _∙_}
+use mathlib.Core.List.{List, [], _∷_}
+use lib.ListN.{length, take}
+use lib.Seq.{length-take-le}
+use native.Mathlib.Omega.{arith}
+use Rattle.session.specs.Session.{missingFeed, FedBy}
+use Rattle.session.proofs.Turns.{missing-taken}
+
+at-most-one-requires : tie.Need-at-most-one-requires
+at-most-one-requires c κs = search needs
+
+array-share-prefix-line-feed : tie.Need-array-share-prefix-line-feed
+array-share-prefix-line-feed c = search needs
+
+slice-aggregate-feed : tie.Need-slice-aggregate-feed
+slice-aggregate-feed c = sym (length-take-le ((c .before .at-most-one) .result) (10 ∷ []) (omega (arith, (c .before .at-most-one) .ensures)))
+
+feed-requires : tie.Need-feed-requires
+feed-requires c κs = search needs
+
+same-length : tie.Need-same-length
+same-length c = search needs
+
+returns : tie.Need-returns
+returns c = rw (missing-taken ((c .before .before .before .before .before .before .before .before) .args .s) ((c .before .before .before .before .before .at-most-one) .result) ((c .before .before .before .before .before .at-most-one) .ensures)) ((c .before .before .feed) .ensures)
+
+pub finish-spec : {M : Type 1} → statement M
+finish-spec =
+    tie.close
+    (tie.spec
+    at-most-one-requires
+    array-share-prefix-line-feed
+    slice-aggregate-feed
+    feed-requires
+    same-length
+    returns)

@@ -1,0 +1,92 @@
+-- 01, Message lines: what is written for the lines of an input, and what a piece of it does to a session. Definitions only.
+use Prim.Native.Nat.{ℕ, _+_, _/_}
+use mathlib.Core.Path.{_≡_}
+use mathlib.Core.Bool.{false, cond}
+use mathlib.Core.List.{List, [], _∷_}
+use lib.Dec.{eqb}
+use lib.ListN.{length, take}
+use Rattle.text.specs.Appending.{put}
+use Rattle.message.specs.Lines.{kindOf}
+use Rattle.message.specs.Reading.{readLine}
+use Rattle.answer_lines.specs.Answers.{answerLine}
+use Rattle.input.specs.Lines.{fitting}
+use Rattle.input.specs.Part.{kept, partOf}
+use Rattle.input.specs.Machine.{Run, run}
+use Rattle.desk.specs.declared.Desk.{Desk}
+use Rattle.desk.specs.Desk.{desk, answerOf, deskAfter}
+use Rattle.register.specs.Calls.{newRegister}
+use Rattle.listing.specs.declared.Listed.{Listed}
+use Rattle.listing.specs.Listing
+use Rattle.listing.specs.Listing.{listing, piece}
+use Rattle.session.specs.declared.Session.{Session}
+use Rattle.session.specs.declared.Fed.{Fed}
+use Rattle.session.specs.declared.pieces.Answered.{Answered}
+
+-- The desk after a line.
+abbrev pub nextDesk : Desk → List ℕ → Desk
+nextDesk d l = deskAfter d (readLine l)
+
+-- The line that is written for a line.
+abbrev pub sayLine : Desk → List ℕ → List ℕ
+sayLine d l = answerLine (kindOf (readLine l)) (answerOf d (readLine l))
+
+abbrev pub runOf : Desk → List ℕ → List ℕ → Run Desk
+runOf d part l = run nextDesk sayLine d part l
+
+abbrev pub runFrom : Session → List ℕ → Run Desk
+runFrom s piece = runOf (s .desk) (kept (s .part)) piece
+
+-- A session that stands where a run has come to.
+abbrev pub sessionAt : Run Desk → Session
+sessionAt r = record { desk = r .state; part = partOf (r .part) }
+
+-- Before any input: the register of a desk that is not ready is not looked at.
+unfoldable pub startSession : Session
+startSession =
+    record {
+      desk = desk false (newRegister (record { settings = record { w = 0; a = 0; b = 0; default = 0; resort = 0 }; day = 0 }));
+      part = partOf [];
+    }
+
+-- The lines of a piece have been answered: nothing else of out has changed.
+pub record AnsweredBy (s : Session) (piece before after : List ℕ) (r : Answered) : Type 0 where
+  pub result : r ≡ record { session = sessionAt (runFrom s piece); written = length (runFrom s piece .out) }
+  pub bytes : after ≡ put 0 (runFrom s piece .out) before
+
+-- An answer line has at most 24 bytes: of a piece as many bytes are taken as have lines that can surely be answered.
+abbrev pub takenOf : List ℕ → List ℕ → ℕ
+takenOf piece out = fitting (length out / 24) piece
+
+abbrev pub fedRun : Session → List ℕ → List ℕ → Run Desk
+fedRun s piece out = runFrom s (take (takenOf piece out) piece)
+
+unfoldable pub fedAs : Session → List ℕ → List ℕ → Fed
+fedAs s piece out =
+    record {
+      session = sessionAt (fedRun s piece out);
+      taken = takenOf piece out;
+      written = length (fedRun s piece out .out);
+    }
+
+pub record FedBy (s : Session) (piece before after : List ℕ) (r : Fed) : Type 0 where
+  pub result : r ≡ fedAs s piece before
+  pub bytes : after ≡ put 0 (fedRun s piece before .out) before
+
+-- The line feed that a last line lacks.
+abbrev pub missingFeed : Session → List ℕ
+missingFeed s = cond (eqb (s .part .len) 0) [] (10 ∷ [])
+
+-- 01: "At the end come .. its periods .. and `total`": nothing where no register is open.
+abbrev pub closing : Desk → List ℕ
+closing d = cond (d .ready) (listing (d .register)) []
+
+-- What a call writes of the closing lines, where those of the first points are written already, and how far it comes.
+abbrev pub closingPiece : Desk → ℕ → ℕ → List ℕ
+closingPiece d from room = cond (d .ready) (piece (d .register) from room) []
+
+abbrev pub closedNext : Desk → ℕ → ℕ → ℕ
+closedNext d from room = cond (d .ready) (from + Listing.taken from room) 32
+
+pub record ClosedFrom (d : Desk) (from : ℕ) (before after : List ℕ) (x : Listed) : Type 0 where
+  pub bytes : after ≡ put 0 (closingPiece d from (length before)) before
+  pub answer : x ≡ record { next = closedNext d from (length before); written = length (closingPiece d from (length before)) }

@@ -1,0 +1,115 @@
+-- A whole input: what the calls of `feed`, `finish` and `close` hand on for writing, in whatever pieces the input comes, and what that
+-- means. Definitions only: proofs/Served and proofs/Told prove them.
+use Prim.Native.Nat.{ℕ, _≤_}
+use mathlib.Core.Path.{_≡_}
+use mathlib.Core.Bool.{cond}
+use mathlib.Core.List.{List, [], _∷_, _++_, map}
+use lib.ListN.{length, take}
+use Rattle.rules.specs.declared.Opening.{Opening}
+use Rattle.rules.specs.declared.Call.{Call}
+use Rattle.rules.specs.declared.Answer.{Answer}
+use Rattle.rules.specs.Answers.{isAccepted}
+use Rattle.rules.specs.Rejections.{openingAnswer}
+use Rattle.rules.specs.Register
+use Rattle.rules.specs.DayBook
+use Rattle.rules.specs.DayBook.{Book}
+use Rattle.rules.specs.Demand3.{Demand3}
+use Rattle.message.specs.declared.Message.{Message}
+use Rattle.message.specs.declared.Message.the-variants.{Open, Ask, Unreadable}
+use Rattle.message.specs.Lines.{kindOf}
+use Rattle.message.specs.Reading.{readLine}
+use Rattle.answer_lines.specs.Answers.{answerLine}
+use Rattle.listing.specs.declared.Listed.{Listed}
+use Rattle.listing.specs.Listing.{listing}
+use Rattle.input.specs.Lines.{linesOf}
+use Rattle.input.specs.Machine.{said, afterLines, transcript}
+use Rattle.desk.specs.declared.Desk.{Desk}
+use Rattle.desk.specs.Desk.{unreadable}
+use Rattle.session.specs.declared.Session.{Session}
+use Rattle.session.specs.declared.Fed.{Fed}
+use Rattle.session.specs.Session.{nextDesk, sayLine, startSession, FedBy, missingFeed, closing, ClosedFrom}
+
+-- ---- what is handed on for writing
+
+-- `close` again and again, until all 32 points are done.
+pub data Closing : Desk → ℕ → List ℕ → Type 0 where
+  done : {d : Desk} {from : ℕ} → 32 ≤ from → Closing d from []
+  more : {d : Desk} {from : ℕ} {w : List ℕ} (before after : List ℕ) (x : Listed) → ClosedFrom d from before after x →
+      Closing d (x .next) w → Closing d from (take (x .written) after ++ w)
+
+-- `feed` over pieces, each as far as it was taken; at the end `finish`, with room for one answer, and then `close`.
+pub data Served : Session → List ℕ → List ℕ → Type 0 where
+  fed : {s : Session} {piece rest w : List ℕ} (before after : List ℕ) (f : Fed) → FedBy s piece before after f →
+      Served (f .session) rest w → Served s (take (f .taken) piece ++ rest) (take (f .written) after ++ w)
+  ended : {s : Session} {w : List ℕ} (before after : List ℕ) (f : Fed) → FedBy s (missingFeed s) before after f →
+      24 ≤ length before → Closing (f .session .desk) 0 w → Served s [] (take (f .written) after ++ w)
+
+-- However an input is cut, what is handed on is the answers to its lines, in order, and then the closing lines.
+abbrev pub TranscriptServed : Type 0
+TranscriptServed = (input w : List ℕ) → Served startSession input w →
+    w ≡ transcript nextDesk sayLine closing (startSession .desk) input
+
+-- ---- what that means: the day book beside it
+
+-- The day book, once a `set` has opened it.
+pub data BookDesk : Type 0 where
+  closed : BookDesk
+  at : Book → BookDesk
+
+abbrev pub bookAnswer : BookDesk → Message → Answer
+bookAnswer closed (Open o) = openingAnswer o
+bookAnswer closed (Ask c) = unreadable
+bookAnswer closed Unreadable = unreadable
+bookAnswer (at b) (Open o) = unreadable
+bookAnswer (at b) (Ask c) = DayBook.says b c
+bookAnswer (at b) Unreadable = unreadable
+
+abbrev pub bookAfter : BookDesk → Message → BookDesk
+bookAfter closed (Open o) = cond (isAccepted (openingAnswer o)) (at (DayBook.opened o)) closed
+bookAfter closed (Ask c) = closed
+bookAfter closed Unreadable = closed
+bookAfter (at b) (Open o) = at b
+bookAfter (at b) (Ask c) = at (DayBook.next b c)
+bookAfter (at b) Unreadable = at b
+
+abbrev pub nextBook : BookDesk → List ℕ → BookDesk
+nextBook b l = bookAfter b (readLine l)
+
+abbrev pub sayBook : BookDesk → List ℕ → List ℕ
+sayBook b l = answerLine (kindOf (readLine l)) (bookAnswer b (readLine l))
+
+-- What the messages of an input tell: the first accepted opening, and the calls behind it.
+pub data Story : Type 0 where
+  untold : Story
+  told : Opening → List Call → Story
+
+unfoldable pub callsIn : List Message → List Call
+callsIn [] = []
+callsIn (Open o ∷ ms) = callsIn ms
+callsIn (Ask c ∷ ms) = c ∷ callsIn ms
+callsIn (Unreadable ∷ ms) = callsIn ms
+
+unfoldable pub storyOf : List Message → Story
+storyOf [] = untold
+storyOf (Open o ∷ ms) = cond (isAccepted (openingAnswer o)) (told o (callsIn ms)) (storyOf ms)
+storyOf (Ask c ∷ ms) = storyOf ms
+storyOf (Unreadable ∷ ms) = storyOf ms
+
+abbrev pub storyTold : List ℕ → Story
+storyTold input = storyOf (map readLine (linesOf input))
+
+-- The desk at the end of an input.
+abbrev pub lastDesk : List ℕ → Desk
+lastDesk input = afterLines nextDesk sayLine (startSession .desk) (linesOf input)
+
+pub record TranscriptTold (input : List ℕ) : Type 0 where
+  -- the answers printed are the day book's for the calls that the lines read as
+  pub answers : said nextDesk sayLine (startSession .desk) (linesOf input) ≡ said nextBook sayBook closed (linesOf input)
+  -- where no opening was accepted there are no closing lines
+  pub unopened : storyTold input ≡ untold → closing (lastDesk input) ≡ []
+  -- else they list the register after those calls, of which demand 3 holds
+  pub opened : (o : Opening) (cs : List Call) → storyTold input ≡ told o cs →
+      Demand3 o cs × (closing (lastDesk input) ≡ listing (Register.after (Register.opened o) cs))
+
+abbrev pub EveryInput : Type 0
+EveryInput = (input : List ℕ) → TranscriptTold input

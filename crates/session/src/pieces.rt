@@ -1,0 +1,125 @@
+// The lines of a piece, answered one by one. The register stays in place: a quick line costs the point that it names.
+use crate::Session;
+use answer_lines::put_answer;
+use desk::Desk;
+use desk::day_after;
+use desk::due_day;
+use desk::first_due;
+use desk::is_quick;
+use desk::place_of;
+use desk::respond;
+use desk::signed_after;
+use desk::supplier_of;
+use desk::turn_of;
+use input::Part;
+use input::append;
+use input::line_end;
+use message::Message;
+use message::read::read_line;
+use message::write::kind_of;
+ghost use mathlib.Core.Path.{_≡_};
+ghost use mathlib.Core.List.{_++_};
+ghost use Prim.Native.Nat.{_*_, _≤_, min};
+ghost use lib.ListN.{length, take};
+ghost use Rattle.input.specs.Lines.{feeds};
+ghost use Rattle.input.specs.Part.{capped, kept};
+ghost use Rattle.message.specs.Reading.{readLine};
+ghost use Rattle.session.specs.Session.{AnsweredBy};
+
+// The session after the lines of a piece, and how many bytes were written.
+pub(crate) struct Answered {
+    pub session: Session,
+    pub written: usize,
+}
+
+// What a line says of which a part had come before.
+fn line_message(part: Part, line: &[u8]) -> Message
+    ensures { λ r. ⌜ r ≡ readLine (capped (kept part ++ now (line .entry))) ⌝ }
+{
+    if part.len == 0 {
+        return read_line(line);
+    }
+    let whole = append(part, line);
+    let bytes = whole.bytes;
+    let n = whole.len;
+    read_first(bytes, n)
+}
+
+fn read_first(bytes: [u8; 97], n: usize) -> Message
+    ensures { λ r. ⌜ r ≡ readLine (take (min n 97) bytes) ⌝ }
+{
+    if n < 97 {
+        return read_line(&bytes[..n]);
+    }
+    read_line(&bytes)
+}
+
+fn earlier(a: u32, b: u32) -> u32
+    ensures { λ r. ⌜ r ≡ min a b ⌝ }
+{
+    if a < b {
+        return a;
+    }
+    b
+}
+
+// Answers the lines that end in a piece.
+pub(crate) fn answer_lines(s: Session, piece: &[u8], out: &mut [u8]) -> Answered
+    requires { ⌜ 24 * feeds (now piece) ≤ length (now out) ⌝ }
+    ensures { λ r. ⌜ AnsweredBy s (now (piece .entry)) (now (out .entry)) (now (out .exit)) r ⌝ }
+{
+    let d = s.desk;
+    let mut part = s.part;
+    let mut ready = d.ready;
+    let mut reg = d.register;
+    let mut quiet = first_due(reg.points);
+    let mut at: usize = 0;
+    let mut written: usize = 0;
+    let mut end = line_end(piece, 0);
+    while end < piece.len() {
+        let m = line_message(part, &piece[at..end]);
+        part.len = 0;
+        at = end + 1;
+        end = line_end(piece, at);
+        if is_quick(ready, quiet, m) {
+            let i = place_of(m);
+            let g = reg.points[i];
+            let x = turn_of(reg.settings, reg.day, reg.contracts, ready, m, g);
+            let answer = x.answer;
+            let h = x.point;
+            let f = h.fields;
+            let u = f.supply;
+            quiet = earlier(quiet, due_day(u));
+            reg.points[i] = h;
+            reg.day = day_after(reg.day, m, answer);
+            let j = supplier_of(m);
+            reg.contracts[j] = signed_after(m, answer, reg.contracts[j]);
+            written = put_answer(out, written, kind_of(m), answer);
+        } else {
+            let now = Desk {
+                ready: ready,
+                register: reg,
+            };
+            let x = respond(now, m);
+            let answer = x.answer;
+            let after = x.desk;
+            ready = after.ready;
+            reg = after.register;
+            quiet = first_due(reg.points);
+            written = put_answer(out, written, kind_of(m), answer);
+        }
+    }
+    let rest = append(part, &piece[at..]);
+    let desk = Desk {
+        ready: ready,
+        register: reg,
+    };
+    let after = Session {
+        desk: desk,
+        part: rest,
+    };
+    Answered {
+        session: after,
+        written: written,
+    }
+}

@@ -13,7 +13,7 @@ ghost use Rattle.rules.specs.Register.{used, pointAt};
 ghost use Rattle.rules.specs.Questions.{unasked, holderAmong, holderAnswer, periodAnswer, sumOf, advanceAnswer};
 
 // No point, or one that is not enrolled.
-fn is_unasked(r: Register, p: u64) -> bool
+pub fn is_unasked(r: Register, p: u64) -> bool
     ensures { λ x. ⌜ x ≡ unasked r p ⌝ }
 {
     if outside(1, 32, p) {

@@ -155,7 +155,7 @@ fn wide(c: u8) -> u64
 }
 
 // A number of 1 to 12 digits, no leading zero but 0 itself.
-fn number_at(s: &[u8], at: usize) -> Field
+pub fn number_at(s: &[u8], at: usize) -> Field
     ensures { λ r. ⌜ numberOf (drop at (now (s .entry))) ≡ readIn (now (s .entry)) r ⌝ }
 {
     if s.len() <= at {
@@ -199,7 +199,7 @@ fn more_digits(s: &[u8], at: usize, first: u64) -> Field
 }
 
 // A date aaaammjj of the calendar; its value is the day.
-fn date_at(s: &[u8], at: usize) -> Field
+pub fn date_at(s: &[u8], at: usize) -> Field
     ensures { λ r. ⌜ dayIn (drop at (now (s .entry))) ≡ readIn (now (s .entry)) r ⌝ }
 {
     let Field::Value(year, after_year) = fixed_at(s, at, 4) else {

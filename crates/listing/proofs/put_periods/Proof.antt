@@ -1,3 +1,4 @@
+-- The lines of the periods passed so far stand behind the position.
 use borrow.Author.Needs.{needs}
 use Rattle.listing.proofs.put_periods.Statement.{statement}
 use Rattle.listing.proofs.put_periods.Tie as tie

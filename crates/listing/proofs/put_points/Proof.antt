@@ -74,7 +74,7 @@ loop-again c =
 
 same-length : tie.Need-same-length Inv-loop μ-loop
 same-length c =
-    let l = (c .before .loop) in
+    let l = c .before .loop in
     within-length (l .i * 918) 0 _ _ _ _ (l .inv .1) (omega arith)
 
 returns : tie.Need-returns Inv-loop μ-loop

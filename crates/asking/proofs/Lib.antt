@@ -1,0 +1,6 @@
+pub mod Writing
+pub mod Values
+pub mod Indexing
+pub mod Handing
+pub mod Pieces
+pub mod Examples

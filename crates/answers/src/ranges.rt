@@ -8,7 +8,7 @@ ghost use mathlib.Core.Path.{_≡_};
 ghost use mathlib.Core.Bool.{false, not, _||_};
 ghost use Prim.Native.Nat.{_≤_};
 ghost use lib.ListN.{getD};
-ghost use Rattle.rules.specs.Rejections.{notPoint, outOfRangeAt, offCalendarAt, isPending};
+ghost use Rattle.rules.specs.Rejections.{notPoint, notWheels, outOfRangeAt, offCalendarAt, isPending};
 
 fn or(a: bool, b: bool) -> bool
     ensures { λ r. ⌜ r ≡ (a || b) ⌝ }
@@ -17,6 +17,13 @@ fn or(a: bool, b: bool) -> bool
         return true;
     }
     b
+}
+
+// The wheels of a meter are out of range.
+fn not_wheels(before: u64, after: u64) -> bool
+    ensures { λ r. ⌜ r ≡ notWheels before after ⌝ }
+{
+    or(outside(1, 8, before), outside(0, 3, after))
 }
 
 // 22: a field out of range.
@@ -28,7 +35,7 @@ pub(crate) fn out_of_range_at(a: PointAction) -> bool
             before,
             after,
             index: _,
-        } => or(outside(1, 8, before), outside(0, 3, after)),
+        } => not_wheels(before, after),
         PointAction::IntoService { supplier, key } => or(
             outside(1, 99, supplier),
             outside(1, 999999999, key),
@@ -51,12 +58,7 @@ pub(crate) fn out_of_range_at(a: PointAction) -> bool
             before,
             after,
             fresh: _,
-        } => {
-            or(
-                outside(0, 1, zero),
-                or(outside(1, 8, before), outside(0, 3, after)),
-            )
-        }
+        } => or(outside(0, 1, zero), not_wheels(before, after)),
         PointAction::OutOfService => false,
         PointAction::Suspend { mark } => outside(0, 1, mark),
     }

@@ -21,8 +21,11 @@ use rules::SupplyKind;
 ghost use mathlib.Core.Path.{_≡_};
 ghost use mathlib.Core.Bool.{false};
 ghost use mathlib.Core.List.{[], _∷_};
-ghost use Prim.Native.Nat.{_≤_};
-ghost use Rattle.rules.specs.Rejections.{firstOf, lastResortNear, _⇒_};
+ghost use Prim.Native.Nat.{_+_, _≤_};
+ghost use lib.Dec.{ltb};
+ghost use Rattle.rules.specs.Effects.{effectiveDay};
+ghost use Rattle.rules.specs.Rejections.{firstOf, lastResortNear, kindDue, _⇒_};
+ghost use Rattle.rules.specs.Register.{used};
 ghost use Rattle.answers.specs.Ranges.{InRange};
 ghost use Rattle.answers.specs.Ruling.{rulingAt};
 
@@ -126,10 +129,16 @@ fn if_room(full: bool, e: u32) -> Answer
 }
 
 // Rows 8 and 30 of a request, and its acceptance.
-fn last_rows(t: u32, k: SupplyKind, full: bool, e: u32) -> Answer
-    requires { ⌜ t ≤ 73048 ⌝ }
-    ensures { λ r. ⌜ r ≡ firstOf (lastResortNear t k ∷ (full ⇒ 30) ∷ []) (Answer.AcceptedOn e) ⌝ }
+fn last_rows(t: u32, s: u64, day: u64, g: Point) -> Answer
+    requires { ⌜ (t ≤ 73048) × (s ≤ 99) × (day ≤ 73048) ⌝ }
+    ensures { λ r. ⌜ r ≡ firstOf (lastResortNear t (g .fields .supply .kind) ∷ (ltb 24 (used (g .history) + (1 + kindDue (g .fields .supply .kind))) ⇒ 30) ∷ []) (Answer.AcceptedOn (effectiveDay t day)) ⌝ }
 {
+    let f = g.fields;
+    let h = g.history;
+    let now = f.supply;
+    let k = now.kind;
+    let e = effective_day(t, day as u32) as u32;
+    let full = is_full_kept(h, k, Pending::Request(s as u8, e));
     let rest = if_room(full, e);
     match k {
         SupplyKind::None => rest,
@@ -182,11 +191,7 @@ fn ask_switch(
     if f.mark == 1 {
         return Answer::Refused(7);
     }
-    let h = g.history;
-    let k = now.kind;
-    let e = effective_day(t, day as u32) as u32;
-    let full = is_full_kept(h, k, Pending::Request(s as u8, e));
-    last_rows(t, k, full, e)
+    last_rows(t, s, day, g)
 }
 
 fn cancel(set: Settings, contracts: [bool; 100], t: u32, p: u64, s: u64, g: Point) -> Answer

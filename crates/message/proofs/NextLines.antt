@@ -27,7 +27,8 @@ use Rattle.message.specs.declared.Message.{Message}
 use Rattle.message.specs.declared.Message.the-variants.{Unreadable}
 use Rattle.message.specs.Lines.{messageOf}
 use Rattle.message.specs.Reading.{wordEnd, readLine}
-use Rattle.message.specs.NextLine.{lineEnd, firstLine, feedFirst, stopAt, IsNext}
+use Rattle.input.specs.Lines.{untilFeed}
+use Rattle.message.specs.NextLine.{firstLine, feedFirst, stopAt, IsNext}
 use Rattle.message.proofs.LineTexts.{message-first}
 use Rattle.message.proofs.OneLine.{line-is, its-line-back}
 use Rattle.message.proofs.PlainTexts.{Plain, plain-end, plain-append, plain-fields, plain-word}
@@ -46,22 +47,10 @@ module _ (l : List ℕ) (i : ℕ) (h : i < length l) where
   unfolding stopAt
   stop-past n m = rw (drop-cons l i 0 h, ne-eqb _ _ n, ne-eqb _ _ m, add-one i)
 
-  pub feed-here : getD l i 0 ≡ 10 → lineEnd (drop i l) ≡ 0
-  unfolding lineEnd
-  feed-here e = rw (drop-cons l i 0 h, eq-eqb _ _ e)
-
-  pub feed-past : (getD l i 0 ≡ 10 → ⊥) → lineEnd (drop i l) ≡ suc (lineEnd (drop (i + 1) l))
-  unfolding lineEnd
-  feed-past n = rw (drop-cons l i 0 h, ne-eqb _ _ n, add-one i)
-
 module _ (l : List ℕ) (i : ℕ) (h : length l ≤ i) where
   pub stop-none : stopAt (drop i l) ≡ 0
   unfolding stopAt
   stop-none = rw (drop-of-length-le l h)
-
-  pub feed-none : lineEnd (drop i l) ≡ 0
-  unfolding lineEnd
-  feed-none = rw (drop-of-length-le l h)
 
 -- a line feed at a position, or not
 pub feed-off : (l : List ℕ) (i : ℕ) → length l ≤ i → feedFirst (drop i l) ≡ false
@@ -71,13 +60,13 @@ pub feed-at : (l : List ℕ) (i : ℕ) → i < length l → feedFirst (drop i l)
 feed-at l i h = rw (drop-cons l i 0 h)
 
 -- a word before a line feed is the line
-word-is-line : (l : List ℕ) → feedFirst (drop (stopAt l) l) ≡ true → lineEnd l ≡ stopAt l
-unfolding stopAt lineEnd
+word-is-line : (l : List ℕ) → feedFirst (drop (stopAt l) l) ≡ true → untilFeed l ≡ stopAt l
+unfolding stopAt untilFeed
 word-is-line [] e = refl
 word-is-line (c ∷ l) e = go (word-is-line l) (eqb c 59) (eqb c 10) refl refl e where
-  go : (feedFirst (drop (stopAt l) l) ≡ true → lineEnd l ≡ stopAt l) → (a b : Bool) → eqb c 59 ≡ a → eqb c 10 ≡ b →
+  go : (feedFirst (drop (stopAt l) l) ≡ true → untilFeed l ≡ stopAt l) → (a b : Bool) → eqb c 59 ≡ a → eqb c 10 ≡ b →
       feedFirst (drop (cond a 0 (cond b 0 (suc (stopAt l)))) (c ∷ l)) ≡ true →
-      cond b 0 (suc (lineEnd l)) ≡ cond a 0 (cond b 0 (suc (stopAt l)))
+      cond b 0 (suc (untilFeed l)) ≡ cond a 0 (cond b 0 (suc (stopAt l)))
   go ih true true p q e = refl
   go ih false true p q e = refl
   go ih true false p q e = absurd (let f : eqb c 10 ≡ true = e in let z : _≡_ {A = ℕ} 0 1 = cc in omega arith)
@@ -118,11 +107,11 @@ word-found w k unnamed h = absurd (h refl)
 
 -- a text of one line, its line feed, and more
 first-line : (t r l : List ℕ) → Plain t → l ≡ t ++ r → feedFirst r ≡ true →
-    (firstLine l ≡ t) × (length l ≡ lineEnd l + length r)
+    (firstLine l ≡ t) × (length l ≡ untilFeed l + length r)
 first-line t [] l p e h = absurd (let z : _≡_ {A = ℕ} 0 1 = cc in omega arith)
 first-line t (c ∷ r) l p e h =
     let ten : c ≡ 10 = eqb-true c 10 h in
-    let end : lineEnd l ≡ length t = ap lineEnd (e ∙ ap (λ (x : ℕ). t ++ (x ∷ r)) ten) ∙ plain-end t r p in
+    let end : untilFeed l ≡ length t = ap untilFeed (e ∙ ap (λ (x : ℕ). t ++ (x ∷ r)) ten) ∙ plain-end t r p in
     let sum = ap length e ∙ length-append t (c ∷ r) in
     (rw (end, e) (take-at t (c ∷ r) (length t) refl), omega arith)
 
@@ -147,7 +136,7 @@ feed-some (c ∷ r) h = omega arith
 -- the line of a word, a row of fields and a line feed
 module _ (l : List ℕ) (n : ℕ) (k : Kind) (vs r : List ℕ) (hn : n ≡ stopAt l) (hk : k ≡ kindNamed (take n l))
     (hf : fieldsOf (sortsOf (shapeOf k)) [] (drop n l) ≡ values vs r) (feed : feedFirst r ≡ true) where
-  known-line : (k ≡ Unknown → ⊥) → (readLine (firstLine l) ≡ messageOf k vs) × (length l ≡ lineEnd l + length r)
+  known-line : (k ≡ Unknown → ⊥) → (readLine (firstLine l) ≡ messageOf k vs) × (length l ≡ untilFeed l + length r)
   known-line h =
       let q = word-found (take n l) k (rw (← hk) at (found kinds (take n l))) h in
       let a = fields-only (sortsOf (shapeOf k)) [] (drop n l) vs r hf in
@@ -165,7 +154,7 @@ module _ (l : List ℕ) (n : ℕ) (k : Kind) (vs r : List ℕ) (hn : n ≡ stopA
       }) h in
       (ap readLine (first .0 ∙ own .0) ∙ its-line-back (messageOf k vs) (own .1), first .1)
 
-  unknown-line : k ≡ Unknown → (readLine (firstLine l) ≡ messageOf k vs) × (length l ≡ lineEnd l + length r)
+  unknown-line : k ≡ Unknown → (readLine (firstLine l) ≡ messageOf k vs) × (length l ≡ untilFeed l + length r)
   unfolding fieldsOf sortsFrom
   unknown-line u =
       let read : values [] (drop n l) ≡ values vs r = rw u at hf in
@@ -178,7 +167,7 @@ module _ (l : List ℕ) (n : ℕ) (k : Kind) (vs r : List ℕ) (hn : n ≡ stopA
             hn ∙ sym end in omega arith,
       )
 
-  pub next-is : (readLine (firstLine l) ≡ messageOf k vs) × (length l ≡ lineEnd l + length r)
+  pub next-is : (readLine (firstLine l) ≡ messageOf k vs) × (length l ≡ untilFeed l + length r)
   next-is = ⊎-elim unknown-line known-line (known-or k)
 
 -- what is taken: behind the end, by its fields, and by its end
@@ -188,17 +177,17 @@ empty-line = refl
 
 pub next-off : (buf : List ℕ) (from : ℕ) (d : KnownDate) → length buf < from → IsKnown d →
     IsNext buf from (record { message = Unreadable; end = from; known = d })
-unfolding lineEnd
+unfolding untilFeed
 next-off buf from d h known =
     let past : length buf ≤ from = omega arith in
     let none = drop-of-length-le buf past in
     record { message = rw none (sym empty-line); end = rw none (omega arith); known = known }
 
-pub next-by-end : (buf : List ℕ) (from e : ℕ) (m : Message) (d : KnownDate) → e ≡ from + lineEnd (drop from buf) →
+pub next-by-end : (buf : List ℕ) (from e : ℕ) (m : Message) (d : KnownDate) → e ≡ from + untilFeed (drop from buf) →
     m ≡ readLine (take (e - from) (drop from buf)) → IsKnown d →
     IsNext buf from (record { message = m; end = e; known = d })
 next-by-end buf from e m d he hm known =
-    let n : e - from ≡ lineEnd (drop from buf) = omega arith in
+    let n : e - from ≡ untilFeed (drop from buf) = omega arith in
     record { message = rw n at hm; end = he; known = known }
 
 module _ (buf : List ℕ) (from e : ℕ) (k : Kind) (s : Shape) (v : List ℕ) (row : Row) (m : Message) (h : from ≤

@@ -18,14 +18,14 @@ use Rattle.text.specs.Fields.{fieldsText}
 use Rattle.kinds.specs.declared.Kind.{Kind}
 use Rattle.kinds.specs.declared.Kind.the-variants.{Set, Ctr, Def, Enr, Demmespc, I, Demcf, Adc, Ri, Cdt, Demmhs, Sus, Jour, Unknown}
 use Rattle.kinds.specs.Kinds.{word}
-use Rattle.message.specs.NextLine.{lineEnd}
+use Rattle.input.specs.Lines.{untilFeed}
 
 abbrev pub Plain : List ℕ → Type 0
 Plain [] = Unit {0}
 Plain (c ∷ l) = (eqb c 10 ≡ false) × Plain l
 
-pub plain-end : (t r : List ℕ) → Plain t → lineEnd (t ++ (10 ∷ r)) ≡ length t
-unfolding lineEnd
+pub plain-end : (t r : List ℕ) → Plain t → untilFeed (t ++ (10 ∷ r)) ≡ length t
+unfolding untilFeed
 plain-end [] r p = refl
 plain-end (c ∷ t) r p = rw (p .0) (ap suc (plain-end t r (p .1)))
 

@@ -7,17 +7,13 @@ use lib.Dec.{eqb}
 use lib.ListN.{take, drop}
 use Rattle.text.specs.declared.KnownDate.{KnownDate}
 use Rattle.text.specs.Known.{IsKnown}
+use Rattle.input.specs.Lines.{untilFeed}
 use Rattle.message.specs.declared.Taken.{Taken}
 use Rattle.message.specs.Reading.{readLine}
 
--- How many bytes stand before the first line feed, 10.
-unfoldable pub lineEnd : List ℕ → ℕ
-lineEnd [] = 0
-lineEnd (c ∷ l) = cond (eqb c 10) 0 (suc (lineEnd l))
-
 -- The first line of a text, without its line feed.
 abbrev pub firstLine : List ℕ → List ℕ
-firstLine l = take (lineEnd l) l
+firstLine l = take (untilFeed l) l
 
 -- A text begins with a line feed.
 abbrev pub feedFirst : List ℕ → Bool
@@ -33,7 +29,7 @@ stopAt (c ∷ l) = cond (eqb c 59) 0 (cond (eqb c 10) 0 (suc (stopAt l)))
 -- known date.
 pub record IsNext (l : List ℕ) (from : ℕ) (t : Taken) : Type 0 where
   pub message : t .message ≡ readLine (firstLine (drop from l))
-  pub end : t .end ≡ from + lineEnd (drop from l)
+  pub end : t .end ≡ from + untilFeed (drop from l)
   pub known : IsKnown (t .known)
 
 -- This holds where the last date was known.

@@ -3,6 +3,7 @@ use crate::Message;
 use crate::Taken;
 use crate::read::message_of;
 use crate::read::read_line;
+use input::line_end;
 use kinds::words::kind_named;
 use kinds::words::shape_of;
 use text::KnownDate;
@@ -10,7 +11,7 @@ use text::read::fields;
 ghost use mathlib.Core.Path.{_≡_};
 ghost use Prim.Native.Nat.{_+_, _≤_};
 ghost use lib.ListN.{length, drop};
-ghost use Rattle.message.specs.NextLine.{lineEnd, feedFirst, stopAt, NextLine};
+ghost use Rattle.message.specs.NextLine.{feedFirst, stopAt, NextLine};
 
 // The line that begins at a position: up to its line feed, or to the buffer's end.
 pub fn next_line(buf: &[u8], from: usize, last: KnownDate) -> Taken
@@ -67,21 +68,6 @@ fn word_end_from(buf: &[u8], from: usize) -> usize
         if buf[i] == b';' {
             return i;
         }
-        if buf[i] == b'\n' {
-            return i;
-        }
-        i += 1;
-    }
-    i
-}
-
-// The end of a line that begins at a position: its line feed, or the buffer's end.
-fn line_end(buf: &[u8], from: usize) -> usize
-    requires { ⌜ from ≤ length (now buf) ⌝ }
-    ensures { λ r. ⌜ (r ≡ from + lineEnd (drop from (now (buf .entry)))) × (r ≤ length (now (buf .entry))) ⌝ }
-{
-    let mut i = from;
-    while i < buf.len() {
         if buf[i] == b'\n' {
             return i;
         }

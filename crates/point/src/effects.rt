@@ -1,4 +1,5 @@
 // What accepted calls do to a point.
+use crate::events::supplied;
 use crate::meter::span_to;
 use crate::readings::reading_of;
 use checks::effective_day;
@@ -18,7 +19,8 @@ use rules::Supply;
 use rules::SupplyKind;
 ghost use mathlib.Core.Path.{_≡_};
 ghost use Prim.Native.Nat.{_≤_, _<_};
-ghost use Rattle.rules.specs.Effects.{dropped as Effects·dropped};
+ghost use Rattle.rules.specs.declared.Pending.the-variants.{Request};
+ghost use Rattle.rules.specs.Effects.{dropped as Effects·dropped, effectiveDay};
 ghost use Rattle.rules.specs.Fields.{reading, withPending, withMark, withReading};
 ghost use Rattle.rules.specs.Volumes.{spanTo};
 ghost use Rattle.rules.specs.Rejections.{isBy};
@@ -146,20 +148,7 @@ fn read(d: u32, x: u64, z: u64, m: Meter, y: u64, g: Point) -> Point
 fn out_of_service(set: Settings, t: u32, g: Point) -> Point
     ensures { λ r. ⌜ r ≡ Register·acted set t PointAction.OutOfService g ⌝ }
 {
-    let f = g.fields;
-    let h = g.history;
-    let supply = Supply {
-        holder: 0,
-        kind: SupplyKind::None,
-        pending: Pending::Nothing,
-    };
-    Point {
-        fields: Fields {
-            supply: supply,
-            ..f
-        },
-        history: named(t, 0, h),
-    }
+    supplied(t, 0, SupplyKind::None, Pending::Nothing, g)
 }
 
 fn suspend(mark: u64, g: Point) -> Point
@@ -175,6 +164,15 @@ fn suspend(mark: u64, g: Point) -> Point
         },
         history: h,
     }
+}
+
+// A request becomes pending.
+fn ask(t: u32, s: u64, day: u64, g: Point) -> Point
+    requires { ⌜ (t ≤ 73048) × (s ≤ 99) × (day ≤ 73048) ⌝ }
+    ensures { λ r. ⌜ r ≡ record { fields = withPending (g .fields) (Request s (effectiveDay t day)); history = g .history } ⌝ }
+{
+    let e = effective_day(t, day as u32) as u32;
+    with_pending(Pending::Request(s as u8, e), g)
 }
 
 // An accepted call, at the point that it names.
@@ -200,10 +198,7 @@ pub(crate) fn acted(set: Settings, t: u32, a: PointAction, g: Point) -> Point
             supplier,
             key: _,
             day,
-        } => {
-            let e = effective_day(t, day as u32) as u32;
-            with_pending(Pending::Request(supplier as u8, e), g)
-        }
+        } => ask(t, supplier, day, g),
         PointAction::Cancel { supplier: _ } => with_pending(Pending::Nothing, g),
         PointAction::OutOfService => out_of_service(set, t, g),
         PointAction::Suspend { mark } => suspend(mark, g),
@@ -272,23 +267,12 @@ pub fn failed(set: Settings, t: u32, s: u8, g: Point) -> Point
         return g;
     }
     let f = g.fields;
-    let h = g.history;
     let now = f.supply;
     let q = now.pending;
     let left = dropped(s, q);
     if now.holder == s {
-        let supply = Supply {
-            holder: set.resort,
-            kind: SupplyKind::LastResort(t + set.b as u32),
-            pending: left,
-        };
-        return Point {
-            fields: Fields {
-                supply: supply,
-                ..f
-            },
-            history: named(t, set.resort, h),
-        };
+        let end = t + set.b as u32;
+        return supplied(t, set.resort, SupplyKind::LastResort(end), left, g);
     }
     with_pending(left, g)
 }

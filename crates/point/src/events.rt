@@ -10,7 +10,8 @@ use rules::Supply;
 use rules::SupplyKind;
 ghost use mathlib.Core.Path.{_≡_};
 ghost use Prim.Native.Nat.{_≤_};
-ghost use Rattle.rules.specs.Register.{expiryBy, endsBefore, dueBy, happened, nextEvent};
+ghost use Rattle.rules.specs.Fields.{supply, withSupply};
+ghost use Rattle.rules.specs.Register.{named as Register·named, expiryBy, endsBefore, dueBy, happened, nextEvent};
 ghost use Rattle.point.specs.Turn.{caughtUp};
 
 // What ends a supply kind by day t.
@@ -79,49 +80,35 @@ fn due_by(set: Settings, t: u32, k: SupplyKind, q: Pending) -> Due
     }
 }
 
+// A holder is named at a point on a day, with the kind of its supply and the request that is left.
+pub(crate) fn supplied(day: u32, s: u8, k: SupplyKind, q: Pending, g: Point) -> Point
+    ensures { λ r. ⌜ r ≡ record { fields = withSupply (g .fields) (supply s k q); history = Register·named day s (g .history) } ⌝ }
+{
+    let f = g.fields;
+    let h = g.history;
+    let now = Supply {
+        holder: s,
+        kind: k,
+        pending: q,
+    };
+    Point {
+        fields: Fields { supply: now, ..f },
+        history: named(day, s, h),
+    }
+}
+
 // The point after an event.
 fn happen(d: Due, g: Point) -> Point
     ensures { λ r. ⌜ r ≡ happened d g ⌝ }
 {
     let f = g.fields;
-    let h = g.history;
     let s = f.supply;
     let q = s.pending;
     match d {
         Due::Nothing => g,
-        Due::Switch { day, holder, kind } => Point {
-            fields: Fields {
-                supply: Supply {
-                    holder: holder,
-                    kind: kind,
-                    pending: Pending::Nothing,
-                },
-                ..f
-            },
-            history: named(day, holder, h),
-        },
-        Due::Fallback { day, holder, kind } => Point {
-            fields: Fields {
-                supply: Supply {
-                    holder: holder,
-                    kind: kind,
-                    pending: q,
-                },
-                ..f
-            },
-            history: named(day, holder, h),
-        },
-        Due::End { day, holder, kind } => Point {
-            fields: Fields {
-                supply: Supply {
-                    holder: holder,
-                    kind: kind,
-                    pending: Pending::Nothing,
-                },
-                ..f
-            },
-            history: named(day, holder, h),
-        },
+        Due::Switch { day, holder, kind } => supplied(day, holder, kind, Pending::Nothing, g),
+        Due::Fallback { day, holder, kind } => supplied(day, holder, kind, q, g),
+        Due::End { day, holder, kind } => supplied(day, holder, kind, Pending::Nothing, g),
     }
 }
 

@@ -2,7 +2,7 @@
 use mathlib.Core.Path.{_≡_, refl, sym, _∙_, ap}
 use mathlib.Core.Bool.{Bool, true, false, cond, _&&_}
 use mathlib.Core.List.{List, [], _∷_, _++_, map, append-nil}
-use Prim.Native.Nat.{ℕ, zero, suc, _+_, _^_, _≤_, _<_}
+use Prim.Native.Nat.{ℕ, zero, suc, _+_, _-_, _^_, _≤_, _<_}
 use native.Mathlib.Omega.{arith}
 use native.Mathlib.Decide.{decLe}
 use native.Mathlib.Nat.{mod-eq-of-lt, le-trans}
@@ -82,3 +82,40 @@ unfolding sumOf recent sumVolumes
 sum-exact zero ps fits = refl
 sum-exact (suc n) ps fits =
     rw (sum-exact n ps (omega arith)) (mod-eq-of-lt (omega arith) ∙ omega arith)
+
+-- Period n of m periods whose starts rise.
+module _ (ps : List Period) (n : ℕ) (lo : 1 ≤ n) where
+  abbrev one : Period
+  one = getD ps (n - 1) noPeriod
+
+  pub start-below : (m e : ℕ) → n ≤ m → Desc e (recent m ps) → one .start < e
+  unfolding recent
+  start-below zero e le r = let z : ⊥ = omega arith in absurd z
+  start-below (suc m) e le r =
+      elim (decLe n m) [
+        | yes y ↦ let k = start-below m (getD ps m noPeriod .start) y (r .1) in omega (arith, k, r .0)
+        | no y ↦ let k : n - 1 ≡ m = omega arith in rw k (r .0)
+      ]
+
+  pub oldest-first : (m e x : ℕ) → n ≤ m → Desc e (recent m ps) → oldest (recent m ps) x ≤ one .start
+  unfolding recent oldest
+  oldest-first zero e x le r = let z : ⊥ = omega arith in absurd z
+  oldest-first (suc m) e x le r =
+      elim (decLe n m) [
+        | yes y ↦ oldest-first m (getD ps m noPeriod .start) (getD ps m noPeriod .start) y (r .1)
+        | no y ↦ let k : n - 1 ≡ m = omega arith in
+            rw k (oldest-le (getD ps m noPeriod .start) (recent m ps) (desc-up (recent m ps) (omega arith) (r .1)))
+      ]
+
+  -- on its first day the walk finds it
+  pub among-own : (m e : ℕ) → n ≤ m → Desc e (recent m ps) → holderAmong (one .start) m ps ≡ holder.Holder (one .holder)
+  unfolding recent holderAmong
+  among-own zero e le r = let z : ⊥ = omega arith in absurd z
+  among-own (suc m) e le r =
+      elim (decLe n m) [
+        | yes y ↦ let below = start-below m (getD ps m noPeriod .start) y (r .1) in
+            rw (lt-leb (getD ps m noPeriod .start) (one .start) below)
+            (among-own m (getD ps m noPeriod .start) y (r .1))
+        | no y ↦ let k : n - 1 ≡ m = omega arith in
+            rw (k, le-leb (getD ps m noPeriod .start) (getD ps m noPeriod .start) (omega arith))
+      ]

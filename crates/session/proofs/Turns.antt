@@ -38,13 +38,12 @@ use Rattle.desk.proofs.OnePoint.{placed, pointIn, signedIn, quick-reply}
 use Rattle.session.specs.declared.Session.{Session}
 use Rattle.session.specs.declared.Fed.{Fed}
 use Rattle.session.specs.declared.pieces.Answered.{Answered}
-use Rattle.session.specs.Session.{nextDesk, sayLine, runOf, runFrom, AnsweredBy, fedAs, FedBy, missingFeed, ClosedFrom}
+use Rattle.session.specs.Session.{nextDesk, sayLine, runOf, runFrom, answeredWith, AnsweredBy, fedAs, FedBy, missingFeed, ClosedFrom}
 
 -- What holds at the loop's head.
 pub record Going (piece out₀ : List ℕ) (d₀ : Desk) (part₀ out : List ℕ) (part : Part) (ready : Bool) (reg : Register)
-    (quiet at written end : ℕ) : Type 0 where
+    (quiet at written : ℕ) : Type 0 where
   pub here : at ≤ length piece
-  pub next : end ≡ at + untilFeed (drop at piece)
   pub calm : quiet ≤ firstDue (reg .points)
   pub room : written + 24 * feeds (drop at piece) ≤ length out₀
   pub size : length out ≡ length out₀
@@ -62,15 +61,16 @@ abbrev emptied : Part → Part
 emptied p = record { len = 0; bytes = p .bytes }
 
 module _ (piece out₀ : List ℕ) (d₀ : Desk) (part₀ out : List ℕ) (part : Part) (ready : Bool) (reg : Register)
-    (quiet at written end : ℕ) (g : Going piece out₀ d₀ part₀ out part ready reg quiet at written end) (more : end < length piece)
+    (quiet at written : ℕ) (g : Going piece out₀ d₀ part₀ out part ready reg quiet at written) (end : ℕ)
+    (stops : end ≡ at + untilFeed (drop at piece)) (more : end < length piece)
     (m : Message) (says : m ≡ readLine (capped (kept part ++ take (end - at) (drop at piece)))) where
   abbrev now : Desk
   now = desk ready reg
 
   -- a line, whatever the desk made of it
   module _ (reply : Reply) (is : reply ≡ replied now m) (quiet′ : ℕ) (calm′ : quiet′ ≤ firstDue (reply .desk .register .points))
-      (out′ : List ℕ) (written′ end′ : ℕ) (w : Appended written (answerLine (kindOf m) (reply .answer)) out out′ written′)
-      (next′ : end′ ≡ (end + 1) + untilFeed (drop (end + 1) piece)) where
+      (out′ : List ℕ) (written′ : ℕ)
+      (w : Appended written (answerLine (kindOf m) (reply .answer)) out out′ written′) where
     abbrev text : List ℕ
     text = answerLine (kindOf m) (answerOf now m)
 
@@ -86,14 +86,14 @@ module _ (piece out₀ : List ℕ) (d₀ : Desk) (part₀ out : List ℕ) (part 
     desk-is = ap (λ (x : Reply). x .desk) is
 
     within : untilFeed l < length l
-    within = omega (arith, g .next, length-drop at piece, more)
+    within = omega (arith, stops, length-drop at piece, more)
 
     one-fewer : feeds l ≡ suc (feeds (drop (suc (untilFeed l)) l))
     one-fewer = feeds-behind l within
 
     behind-line : drop (suc (untilFeed l)) l ≡ drop (end + 1) piece
     behind-line =
-        let e : at + suc (untilFeed l) ≡ end + 1 = omega (arith, g .next) in
+        let e : at + suc (untilFeed l) ≡ end + 1 = omega (arith, stops) in
         drop-drop (suc (untilFeed l)) at piece ∙ ap (λ (n : ℕ). drop n piece) e
 
     appended : Appended written text out out′ written′
@@ -107,7 +107,7 @@ module _ (piece out₀ : List ℕ) (d₀ : Desk) (part₀ out : List ℕ) (part 
 
     line-is : take (end - at) l ≡ take (untilFeed l) l
     line-is =
-        let e : end - at ≡ untilFeed l = omega (arith, g .next) in
+        let e : end - at ≡ untilFeed l = omega (arith, stops) in
         ap (λ (n : ℕ). take n l) e
 
     step : runOf now (kept part) l ≡ behind text (runOf (deskAfter now m) [] (drop (end + 1) piece))
@@ -115,11 +115,10 @@ module _ (piece out₀ : List ℕ) (d₀ : Desk) (part₀ out : List ℕ) (part 
         run-found nextDesk sayLine now (kept part) l (kept-le part) within ∙
         rw (← line-is, ← says, behind-line)
 
-    pub line-turn : Going piece out₀ d₀ part₀ out′ (emptied part) (reply .desk .ready) (reply .desk .register) quiet′ (end + 1) written′ end′
+    pub line-turn : Going piece out₀ d₀ part₀ out′ (emptied part) (reply .desk .ready) (reply .desk .register) quiet′ (end + 1) written′
     line-turn =
         record {
           here = omega (arith, more);
-          next = next′;
           calm = calm′;
           room = omega (arith, g .room, one-fewer, said-short now m, end-is, ap feeds behind-line);
           size = appended-length written text out out′ written′ appended ∙ g .size;
@@ -141,29 +140,27 @@ module _ (piece out₀ : List ℕ) (d₀ : Desk) (part₀ out : List ℕ) (part 
   module _ (quick : isQuick ready quiet m ≡ true) (i j : ℕ) (hi : i ≡ placeOf m) (hj : j ≡ supplierOf m) (x : Ruling)
       (turns : x ≡ turnOf (reg .settings) (reg .day) (reg .contracts) ready m (pointIn reg i)) (day′ : ℕ)
       (hd : day′ ≡ dayAfter (reg .day) m (x .answer)) (b : Bool) (hb : b ≡ signedAfter m (x .answer) (signedIn reg j)) (quiet′ : ℕ)
-      (hq : quiet′ ≡ min quiet (dueDay (x .point .fields .supply))) (out′ : List ℕ) (written′ end′ : ℕ)
-      (w : Appended written (answerLine (kindOf m) (x .answer)) out out′ written′)
-      (next′ : end′ ≡ (end + 1) + untilFeed (drop (end + 1) piece)) where
+      (hq : quiet′ ≡ min quiet (dueDay (x .point .fields .supply))) (out′ : List ℕ) (written′ : ℕ)
+      (w : Appended written (answerLine (kindOf m) (x .answer)) out out′ written′) where
     abbrev stored : Register
     stored = placed reg day′ i (x .point) j b
 
     replies : record { answer = x .answer; desk = desk ready stored } ≡ replied now m
     replies = rw (hd, hb, turns, hi, hj) (quick-reply reg quiet (g .calm) ready m quick)
 
-    pub quick-turn : Going piece out₀ d₀ part₀ out′ (emptied part) ready stored quiet′ (end + 1) written′ end′
+    pub quick-turn : Going piece out₀ d₀ part₀ out′ (emptied part) ready stored quiet′ (end + 1) written′
     quick-turn =
         line-turn (record { answer = x .answer; desk = desk ready stored }) replies quiet′
-        (first-set (reg .points) i (x .point) quiet′ (omega (arith, hq, g .calm)) (omega (arith, hq))) out′ written′ end′ w next′
+        (first-set (reg .points) i (x .point) quiet′ (omega (arith, hq, g .calm)) (omega (arith, hq))) out′ written′ w
 
 -- ---- the loop's ends
 
-pub going-start : (s : Session) (piece out : List ℕ) (quiet end : ℕ) → quiet ≡ firstDue (s .desk .register .points) →
-    end ≡ 0 + untilFeed (drop 0 piece) → 24 * feeds piece ≤ length out →
-    Going piece out (desk (s .desk .ready) (s .desk .register)) (kept (s .part)) out (s .part) (s .desk .ready) (s .desk .register) quiet 0 0 end
-going-start s piece out quiet end hq he hr =
+pub going-start : (s : Session) (piece out : List ℕ) (quiet : ℕ) → quiet ≡ firstDue (s .desk .register .points) →
+    24 * feeds piece ≤ length out →
+    Going piece out (desk (s .desk .ready) (s .desk .register)) (kept (s .part)) out (s .part) (s .desk .ready) (s .desk .register) quiet 0 0
+going-start s piece out quiet hq hr =
     record {
       here = omega arith;
-      next = he;
       calm = omega (arith, hq);
       room = omega (arith, hr);
       size = refl;
@@ -172,8 +169,9 @@ going-start s piece out quiet end hq he hr =
     }
 
 -- no line feed is left: what stands behind the last one is kept
-module _ (s : Session) (piece out₀ out : List ℕ) (part : Part) (ready : Bool) (reg : Register) (quiet at written end : ℕ)
-    (g : Going piece out₀ (s .desk) (kept (s .part)) out part ready reg quiet at written end) (none : length piece ≤ end) where
+module _ (s : Session) (piece out₀ out : List ℕ) (part : Part) (ready : Bool) (reg : Register) (quiet at written : ℕ)
+    (g : Going piece out₀ (s .desk) (kept (s .part)) out part ready reg quiet at written)
+    (none : length piece ≤ at + untilFeed (drop at piece)) where
   abbrev left : List ℕ
   left = drop at piece
 
@@ -181,20 +179,19 @@ module _ (s : Session) (piece out₀ out : List ℕ) (part : Part) (ready : Bool
   whole =
       sym (g .does) ∙
       rw (
-        run-none nextDesk sayLine (desk ready reg) (kept part) left (kept-le part) (omega (arith, g .next, length-drop at piece)),
+        run-none nextDesk sayLine (desk ready reg) (kept part) left (kept-le part) (omega (arith, none, length-drop at piece)),
         append-nil,
       )
 
   written-le : written ≤ length out
   written-le = omega (arith, g .room, g .size)
 
-  pub going-end : (rest : Part) (line : List ℕ) → line ≡ left → rest ≡ partOf (capped (kept part ++ line)) →
-      AnsweredBy s piece out₀ out (record { session = record { desk = desk ready reg; part = rest }; written = written })
+  pub going-end : (x : Answered) (line : List ℕ) → line ≡ left → x ≡ answeredWith (desk ready reg) (capped (kept part ++ line)) written →
+      AnsweredBy s piece out₀ out x
   unfolding put
-  going-end rest line hl hr =
+  going-end x line hl hx =
       record {
-        result =
-            rw (whole, length-take-le written out written-le, hr, hl);
+        result = rw (whole, length-take-le written out written-le, hx, hl);
         bytes =
             rw (whole, length-take-le written out written-le, zero-add written, ← (g .tail)) (sym (take-append-drop written out));
       }
@@ -232,3 +229,11 @@ closed-ready d from before after x e h = record { bytes = rw e (h .bytes); answe
 pub closed-unready : (d : Desk) (from : ℕ) (out : List ℕ) → d .ready ≡ false →
     ClosedFrom d from out out (record { next = 32; written = 0 })
 closed-unready d from out e = record { bytes = rw e (sym (put-none 0 out)); answer = rw e }
+
+-- ---- the line that was read is the one up to the line feed
+
+pub line-read : (piece : List ℕ) (at end : ℕ) (m : Message) → end ≡ at + untilFeed (drop at piece) →
+    m ≡ readLine (take (untilFeed (drop at piece)) (drop at piece)) → m ≡ readLine (take (end - at) (drop at piece))
+line-read piece at end m e h =
+    let n : end - at ≡ untilFeed (drop at piece) = omega (arith, e) in
+    h ∙ ap (λ (k : ℕ). readLine (take k (drop at piece))) (sym n)

@@ -2,15 +2,17 @@
 use Prim.Native.Nat.{ℕ, _+_, _/_}
 use mathlib.Core.Path.{_≡_}
 use mathlib.Core.Bool.{false, cond}
-use mathlib.Core.List.{List, [], _∷_}
+use mathlib.Core.List.{List, [], _∷_, _++_}
 use lib.Dec.{eqb}
 use lib.ListN.{length, take}
 use Rattle.text.specs.Appending.{put}
+use Rattle.message.specs.declared.Message.{Message}
 use Rattle.message.specs.Lines.{kindOf}
 use Rattle.message.specs.Reading.{readLine}
 use Rattle.answer_lines.specs.Answers.{answerLine}
 use Rattle.input.specs.Lines.{fitting}
-use Rattle.input.specs.Part.{kept, partOf}
+use Rattle.input.specs.declared.Part.{Part}
+use Rattle.input.specs.Part.{capped, kept, partOf}
 use Rattle.input.specs.Machine.{Run, run}
 use Rattle.desk.specs.declared.Desk.{Desk}
 use Rattle.desk.specs.Desk.{desk, answerOf, deskAfter}
@@ -47,6 +49,13 @@ startSession =
       desk = desk false (newRegister (record { settings = record { w = 0; a = 0; b = 0; default = 0; resort = 0 }; day = 0 }));
       part = partOf [];
     }
+
+-- What a line says with its part, where read is what it says by itself.
+abbrev pub WholeMessage : Part → List ℕ → Message → Message → Type 0
+WholeMessage p l read m = read ≡ readLine l → m ≡ readLine (capped (kept p ++ l))
+
+abbrev pub answeredWith : Desk → List ℕ → ℕ → Answered
+answeredWith d l n = record { session = record { desk = d; part = partOf l }; written = n }
 
 -- The lines of a piece have been answered: nothing else of out has changed.
 pub record AnsweredBy (s : Session) (piece before after : List ℕ) (r : Answered) : Type 0 where

@@ -13,10 +13,13 @@ use desk::supplier_of;
 use desk::turn_of;
 use input::Part;
 use input::append;
-use input::line_end;
 use message::Message;
+use message::next::next_line;
 use message::read::read_line;
 use message::write::kind_of;
+use rules::Point;
+use rules::Register;
+use text::read::first_known;
 ghost use mathlib.Core.Path.{_≡_};
 ghost use mathlib.Core.List.{_++_};
 ghost use Prim.Native.Nat.{_*_, _≤_, min};
@@ -24,7 +27,9 @@ ghost use lib.ListN.{length, take};
 ghost use Rattle.input.specs.Lines.{feeds};
 ghost use Rattle.input.specs.Part.{capped, kept};
 ghost use Rattle.message.specs.Reading.{readLine};
-ghost use Rattle.session.specs.Session.{AnsweredBy};
+ghost use Rattle.desk.specs.Desk.{desk};
+ghost use Rattle.desk.specs.Quick.{dueDay};
+ghost use Rattle.session.specs.Session.{AnsweredBy, answeredWith, WholeMessage};
 
 // The session after the lines of a piece, and how many bytes were written.
 pub(crate) struct Answered {
@@ -54,13 +59,44 @@ fn read_first(bytes: [u8; 97], n: usize) -> Message
     read_line(&bytes)
 }
 
-fn earlier(a: u32, b: u32) -> u32
-    ensures { λ r. ⌜ r ≡ min a b ⌝ }
+// A day before which nothing falls due, with another point among them.
+fn quiet_with(quiet: u32, g: Point) -> u32
+    ensures { λ r. ⌜ r ≡ min quiet (dueDay (g .fields .supply)) ⌝ }
 {
-    if a < b {
-        return a;
+    let f = g.fields;
+    let due = due_day(f.supply);
+    if quiet < due {
+        return quiet;
     }
-    b
+    due
+}
+
+// The message of a line, which next_line has read; with the part of it that had come before, if there is one.
+fn whole_message(part: Part, read: Message, line: &[u8]) -> Message
+    ensures { λ r. ⌜ WholeMessage part (now (line .entry)) read r ⌝ }
+{
+    if part.len == 0 {
+        return read;
+    }
+    line_message(part, line)
+}
+
+// The session at the end of a piece: what stands behind its last line feed is kept.
+fn at_end(ready: bool, reg: Register, part: Part, rest: &[u8], written: usize) -> Answered
+    ensures { λ r. ⌜ r ≡ answeredWith (desk ready reg) (capped (kept part ++ now (rest .entry))) written ⌝ }
+{
+    let desk = Desk {
+        ready: ready,
+        register: reg,
+    };
+    let session = Session {
+        desk: desk,
+        part: append(part, rest),
+    };
+    Answered {
+        session: session,
+        written: written,
+    }
 }
 
 // Answers the lines that end in a piece.
@@ -73,26 +109,30 @@ pub(crate) fn answer_lines(s: Session, piece: &[u8], out: &mut [u8]) -> Answered
     let mut ready = d.ready;
     let mut reg = d.register;
     let mut quiet = first_due(reg.points);
+    let mut known = first_known();
     let mut at: usize = 0;
     let mut written: usize = 0;
-    let mut end = line_end(piece, 0);
-    while end < piece.len() {
-        let m = line_message(part, &piece[at..end]);
+    while at < piece.len() {
+        let line = next_line(piece, at, known);
+        let end = line.end;
+        if piece.len() <= end {
+            return at_end(ready, reg, part, &piece[at..], written);
+        }
+        let read = line.message;
+        let m = whole_message(part, read, &piece[at..end]);
+        known = line.known;
         part.len = 0;
         at = end + 1;
-        end = line_end(piece, at);
         if is_quick(ready, quiet, m) {
             let i = place_of(m);
+            let j = supplier_of(m);
             let g = reg.points[i];
             let x = turn_of(reg.settings, reg.day, reg.contracts, ready, m, g);
             let answer = x.answer;
             let h = x.point;
-            let f = h.fields;
-            let u = f.supply;
-            quiet = earlier(quiet, due_day(u));
+            quiet = quiet_with(quiet, h);
             reg.points[i] = h;
             reg.day = day_after(reg.day, m, answer);
-            let j = supplier_of(m);
             reg.contracts[j] = signed_after(m, answer, reg.contracts[j]);
             written = put_answer(out, written, kind_of(m), answer);
         } else {
@@ -109,17 +149,5 @@ pub(crate) fn answer_lines(s: Session, piece: &[u8], out: &mut [u8]) -> Answered
             written = put_answer(out, written, kind_of(m), answer);
         }
     }
-    let rest = append(part, &piece[at..]);
-    let desk = Desk {
-        ready: ready,
-        register: reg,
-    };
-    let after = Session {
-        desk: desk,
-        part: rest,
-    };
-    Answered {
-        session: after,
-        written: written,
-    }
+    at_end(ready, reg, part, &piece[at..], written)
 }

@@ -1,7 +1,7 @@
 -- The rows of a request, in order.
 use native.Mathlib.Omega.{arith}
 use borrow.Author.Tests.{lt-ltb, le-ltb, le-leb, lt-leb, eq-eqb, ne-eqb, not-true, not-false}
-use Rattle.rules.specs.Effects.{effectOf, effectiveDay}
+use Rattle.rules.specs.Effects.{effectOf}
 use Rattle.rules.specs.Rejections.{firstOf, rowsAt, acceptedAt}
 use Rattle.answers.specs.Ruling.{rulingAt}
 use borrow.Author.Needs.{needs}
@@ -11,8 +11,6 @@ use Rattle.answers.proofs.rows.ask_switch.Reads as reads
 use Rattle.answers.proofs.rows.ask_switch.Lts as lts
 use Rattle.answers.proofs.rows.last_rows.Reads as last-rows-reads
 use Rattle.checks.proofs.bad_day.Reads as bad-day-reads
-use Rattle.checks.proofs.effective_day.Reads as effective-day-reads
-use Rattle.checks.proofs.is_full_kept.Reads as is-full-kept-reads
 use Rattle.answers.proofs.ranges.is_pending.Reads as is-pending-reads
 use Rattle.answers.proofs.ranges.no_contract.Reads as no-contract-reads
 use Rattle.answers.proofs.ranges.not_enrolled.Reads as not-enrolled-reads
@@ -91,34 +89,69 @@ returns-5 c =
 
 returns-6 : tie.Need-returns-6
 unfolding rulingAt rowsAt acceptedAt firstOf
-returns-6 c = rw (← (c .before .before .before .before .before .before .before .before .before .before .before .no-contract .ensures), c .before .before .before .before .before .before .before .before .before .before .if1 .left, ← (c .before .before .before .before .before .before .before .before .before .not-enrolled .ensures), c .before .before .before .before .before .before .before .before .if2 .left, ← (c .before .before .before .before .before .before .before .bad-day .ensures), c .before .before .before .before .before .before .if3 .left, eq-eqb _ _ (c .before .before .before .before .if4 .left), ← (c .before .before .before .is-pending .ensures), c .before .before .if5 .left, eq-eqb _ _ (c .if6 .taken))
+returns-6 c =
+    let key = c .before .before .before .before in
+    let asked = key .before .before in
+    let point = asked .before .before in
+    let signed = point .before .before in
+    rw (
+      ← (signed .before .no-contract .ensures),
+      signed .if1 .left,
+      ← (point .before .not-enrolled .ensures),
+      point .if2 .left,
+      ← (asked .before .bad-day .ensures),
+      asked .if3 .left,
+      eq-eqb _ _ (key .if4 .left),
+      ← (c .before .before .before .is-pending .ensures),
+      c .before .before .if5 .left,
+      eq-eqb _ _ (c .if6 .taken),
+    )
 
 returns-7 : tie.Need-returns-7
 unfolding rulingAt rowsAt acceptedAt firstOf
-returns-7 c = rw (← (c .before .before .before .before .before .before .before .before .before .before .before .before .before .no-contract .ensures), c .before .before .before .before .before .before .before .before .before .before .before .before .if1 .left, ← (c .before .before .before .before .before .before .before .before .before .before .before .not-enrolled .ensures), c .before .before .before .before .before .before .before .before .before .before .if2 .left, ← (c .before .before .before .before .before .before .before .before .before .bad-day .ensures), c .before .before .before .before .before .before .before .before .if3 .left, eq-eqb _ _ (c .before .before .before .before .before .before .if4 .left), ← (c .before .before .before .before .before .is-pending .ensures), c .before .before .before .before .if5 .left, ne-eqb _ _ (c .before .before .if6 .left), eq-eqb _ _ (c .if7 .taken))
-
-cast-effective-day : tie.Need-cast-effective-day
-cast-effective-day c = search needs
-
-effective-day-requires : tie.Need-effective-day-requires
-effective-day-requires c κs = search needs
-
-cast-e : tie.Need-cast-e
-unfolding effectiveDay
-cast-e c = omega (arith, c .effective-day .ensures)
-
-cast-t23 : tie.Need-cast-t23
-cast-t23 c = search needs
-
-is-full-kept-requires : tie.Need-is-full-kept-requires
-is-full-kept-requires c κs = search needs
+returns-7 c =
+    let key = c .before .before .before .before .before .before in
+    let asked = key .before .before in
+    let point = asked .before .before in
+    let signed = point .before .before in
+    rw (
+      ← (signed .before .no-contract .ensures),
+      signed .if1 .left,
+      ← (point .before .not-enrolled .ensures),
+      point .if2 .left,
+      ← (asked .before .bad-day .ensures),
+      asked .if3 .left,
+      eq-eqb _ _ (key .if4 .left),
+      ← (c .before .before .before .before .before .is-pending .ensures),
+      c .before .before .before .before .if5 .left,
+      ne-eqb _ _ (c .before .before .if6 .left),
+      eq-eqb _ _ (c .if7 .taken),
+    )
 
 last-rows-requires : tie.Need-last-rows-requires
 last-rows-requires c κs = search needs
 
 returns-8 : tie.Need-returns-8
 unfolding rulingAt rowsAt acceptedAt firstOf effectOf
-returns-8 c = rw (← (c .before .before .before .before .before .before .before .before .before .before .before .before .before .before .before .before .before .no-contract .ensures), c .before .before .before .before .before .before .before .before .before .before .before .before .before .before .before .before .if1 .left, ← (c .before .before .before .before .before .before .before .before .before .before .before .before .before .before .before .not-enrolled .ensures), c .before .before .before .before .before .before .before .before .before .before .before .before .before .before .if2 .left, ← (c .before .before .before .before .before .before .before .before .before .before .before .before .before .bad-day .ensures), c .before .before .before .before .before .before .before .before .before .before .before .before .if3 .left, eq-eqb _ _ (c .before .before .before .before .before .before .before .before .before .before .if4 .left), ← (c .before .before .before .before .before .before .before .before .before .is-pending .ensures), c .before .before .before .before .before .before .before .before .if5 .left, ne-eqb _ _ (c .before .before .before .before .before .before .if6 .left), ne-eqb _ _ (c .before .before .before .before .if7 .left), ← (c .before .before .effective-day .ensures), ← (c .before .is-full-kept .ensures)) (c .last-rows .ensures)
+returns-8 c =
+    let key = c .before .before .before .before .before .before .before in
+    let asked = key .before .before in
+    let point = asked .before .before in
+    let signed = point .before .before in
+    rw (
+      ← (signed .before .no-contract .ensures),
+      signed .if1 .left,
+      ← (point .before .not-enrolled .ensures),
+      point .if2 .left,
+      ← (asked .before .bad-day .ensures),
+      asked .if3 .left,
+      eq-eqb _ _ (key .if4 .left),
+      ← (c .before .before .before .before .before .before .is-pending .ensures),
+      c .before .before .before .before .before .if5 .left,
+      ne-eqb _ _ (c .before .before .before .if6 .left),
+      ne-eqb _ _ (c .before .if7 .left),
+    )
+    (c .last-rows .ensures)
 
 pub ask-switch-spec : {M : Type 1} → statement M
 ask-switch-spec =
@@ -137,10 +170,5 @@ ask-switch-spec =
     returns-5
     returns-6
     returns-7
-    cast-effective-day
-    effective-day-requires
-    cast-e
-    cast-t23
-    is-full-kept-requires
     last-rows-requires
     returns-8)

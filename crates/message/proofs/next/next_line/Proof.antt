@@ -4,6 +4,9 @@ use Rattle.message.proofs.NextLines.{next-off, next-by-end, next-by-fie
 use borrow.Author.Needs.{needs}
 use Rattle.message.proofs.next.next_line.Statement.{statement}
 use Rattle.message.proofs.next.next_line.Tie as tie
+use Rattle.input.proofs.Feeds.{until-le}
+use lib.ListN.{drop, length-drop}
+use native.Mathlib.Omega.{arith}
 
 returns : tie.Need-returns
 returns c = λ k. next-off _ _ _ (c .if1 .taken) k
@@ -65,7 +68,7 @@ part-read-line-start : tie.Need-part-read-line-start
 part-read-line-start c = search needs
 
 part-read-line-end : tie.Need-part-read-line-end
-part-read-line-end c = search needs
+part-read-line-end c = omega (arith, (c .line-end) .ensures, (c .before .before .before .before .before .before .before .before .before .if1) .left, until-le (drop ((c .before .before .before .before .before .before .before .before .before .before .before) .args .from) ((c .before .before .before .before .before .before .before .before .before .before .before) .args .buf .now)), length-drop ((c .before .before .before .before .before .before .before .before .before .before .before) .args .from) ((c .before .before .before .before .before .before .before .before .before .before .before) .args .buf .now))
 
 read-line-requires : tie.Need-read-line-requires
 read-line-requires c κs = search needs
@@ -74,7 +77,7 @@ returns-3 : tie.Need-returns-3
 returns-3 c =
     let c₂ = c .before .before in
     let c₅ = c₂ .before .before .before in
-    λ k. next-by-end _ _ _ _ _ (c₂ .line-end .ensures .0) (c .read-line .ensures) (c₅ .fields .ensures k .1)
+    λ k. next-by-end _ _ _ _ _ (c₂ .line-end .ensures) (c .read-line .ensures) (c₅ .fields .ensures k .1)
 
 pub next-line-spec : {M : Type 1} → statement M
 next-line-spec =

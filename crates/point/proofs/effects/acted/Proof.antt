@@ -3,7 +3,7 @@ use Rattle.point.proofs.effects.acted.Statement.{statement}
 use Rattle.point.proofs.effects.acted.Tie as tie
 use Rattle.point.proofs.effects.acted.Reads as reads
 use Rattle.point.proofs.effects.acted.Lts as lts
-use Rattle.checks.proofs.effective_day.Reads as effective-day-reads
+use Rattle.point.proofs.effects.ask.Reads as ask-reads
 use Rattle.point.proofs.effects.default_supply.Reads as default-supply-reads
 use Rattle.point.proofs.effects.enrol.Reads as enrol-reads
 use Rattle.point.proofs.effects.into_service.Reads as into-service-reads
@@ -14,7 +14,7 @@ use Rattle.point.proofs.effects.with_pending.Reads as with-pending-read
 use Rattle.point.proofs.readings.reading_of.Reads as reading-of-reads
 use mathlib.Core.Path.{_∙_}
 use native.Mathlib.Omega.{arith}
-use Rattle.rules.specs.Effects.{effectOf, effectiveDay}
+use Rattle.rules.specs.Effects.{effectOf}
 use Rattle.rules.specs.Volumes.{spansOf}
 use Rattle.rules.specs.Register.{acted}
 use Rattle.point.proofs.Booked.{reading-fair, reading-acts, no-reading}
@@ -49,27 +49,14 @@ default-supply-requires c κs = ((c .before .before .before .before .before .bef
 enum-known-a-4 : tie.Need-enum-known-a-4
 enum-known-a-4 c = search needs
 
-cast-effective-day : tie.Need-cast-effective-day
-cast-effective-day c = let k = rw ((c .before .a4) .given .1) at ((c .before .before .before .before .before .before) .pre .1) in omega (arith, k .2)
-
-effective-day-requires : tie.Need-effective-day-requires
-effective-day-requires c κs = search needs
-
-cast-e : tie.Need-cast-e
-unfolding effectiveDay
-cast-e c = let k = rw ((c .before .before .a4) .given .1) at ((c .before .before .before .before .before .before .before) .pre .1) in omega (arith, k .2, (c .effective-day) .ensures)
-
-cast-t22 : tie.Need-cast-t22
-cast-t22 c = let k = rw ((c .before .before .a4) .given .1) at ((c .before .before .before .before .before .before .before) .pre .1) in omega (arith, k .0)
-
-with-pending-requires : tie.Need-with-pending-requires
-with-pending-requires c κs = search needs
+ask-requires : tie.Need-ask-requires
+ask-requires c κs = let k = rw ((c .before .a4) .given .1) at ((c .before .before .before .before .before .before) .pre .1) in ((c .before .before .before .before .before .before) .pre .0, k .0, k .2)
 
 enum-told : tie.Need-enum-told
 enum-told c = search needs
 
-with-pending-requires-2 : tie.Need-with-pending-requires-2
-with-pending-requires-2 c κs = search needs
+with-pending-requires : tie.Need-with-pending-requires
+with-pending-requires c κs = search needs
 
 enum-told-2 : tie.Need-enum-told-2
 enum-told-2 c = search needs
@@ -100,11 +87,11 @@ returns-4 c = rw ((c .before .before .a3) .given .1) ((c .default-supply) .ensur
 
 returns-5 : tie.Need-returns-5
 unfolding acted effectOf spansOf
-returns-5 c = rw ((c .before .before .before .a4) .given .1, ← ((c .before .effective-day) .ensures)) ((c .with-pending) .ensures)
+returns-5 c = rw ((c .before .before .a4) .given .1) ((c .ask) .ensures)
 
 returns-6 : tie.Need-returns-6
 unfolding acted effectOf spansOf
-returns-6 c = rw ((c .before .enum-told) .given .1) ((c .with-pending2) .ensures)
+returns-6 c = rw ((c .before .enum-told) .given .1) ((c .with-pending) .ensures)
 
 returns-7 : tie.Need-returns-7
 returns-7 c = rw ((c .before .enum-told2) .given .1) ((c .out-of-service) .ensures)
@@ -133,13 +120,9 @@ acted-spec =
     enum-known-a-3
     default-supply-requires
     enum-known-a-4
-    cast-effective-day
-    effective-day-requires
-    cast-e
-    cast-t22
-    with-pending-requires
+    ask-requires
     enum-told
-    with-pending-requires-2
+    with-pending-requires
     enum-told-2
     out-of-service-requires
     enum-known-a-5

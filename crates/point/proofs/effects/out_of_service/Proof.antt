@@ -7,14 +7,14 @@ use Rattle.point.proofs.effects.out_of_service.Statement.{statement}
 use Rattle.point.proofs.effects.out_of_service.Tie as tie
 use Rattle.point.proofs.effects.out_of_service.Reads as reads
 use Rattle.point.proofs.effects.out_of_service.Lts as lts
-use Rattle.periods.proofs.named.Reads as named-reads
+use Rattle.point.proofs.events.supplied.Reads as supplied-reads
 
-named-requires : tie.Need-named-requires
-named-requires c κs = search needs
+supplied-requires : tie.Need-supplied-requires
+supplied-requires c κs = search needs
 
 returns : tie.Need-returns
 unfolding acted effectOf spansOf
-returns c = rw (c .named .ensures)
+returns c = c .supplied .ensures
 
 pub out-of-service-spec : {M : Type 1} → statement M
-out-of-service-spec = tie.close (tie.spec named-requires returns)
+out-of-service-spec = tie.close (tie.spec supplied-requires returns)

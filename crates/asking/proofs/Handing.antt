@@ -5,7 +5,8 @@ use mathlib.Core.List.{List, [], _∷_, _++_, append-assoc, append-nil}
 use native.Mathlib.Omega.{arith}
 use native.Mathlib.Numerals.{add-one}
 use borrow.Author.Tests.{le-leb, lt-leb}
-use lib.ListN.{length, take, drop, getD}
+use lib.ListN.{length, take, drop, getD, length-append}
+use Rattle.text.specs.Appending.{put}
 use Rattle.rules.specs.declared.Register.{Register}
 use Rattle.listing.proofs.Growing.{within-length}
 use Rattle.text.proofs.Appends.{room-put, put-none}
@@ -80,3 +81,12 @@ pub lines-length : (r : Register) (s : Scope) (p from n : ℕ) (o o₁ : List �
     length o₁ ≡ length o
 lines-length r s p from n o o₁ e w h =
     within-length (n * 128) 0 (lines r (take n (drop from (questionsIn p s)))) o o₁ e w (omega arith)
+
+-- what is written stands within the buffer
+pub handed-within : (r : Register) (l : Place) (before after : List ℕ) (x : Handed) → HandedFrom r l before after x →
+    x .written ≤ length after
+unfolding put
+handed-within r l before after x h =
+    let t = piece r l (length before) in
+    let e : x .written ≡ length t = ap (λ (y : Handed). y .written) (h .answer) in
+    omega (arith, ap length (h .bytes), length-append t (drop (0 + length t) before))

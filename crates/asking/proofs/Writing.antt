@@ -1,9 +1,13 @@
 -- Texts of a bounded length, put one behind the other.
 use Prim.Native.Nat.{ℕ, _+_, _≤_, _<_, _^_}
-use mathlib.Core.Path.{_≡_}
+use mathlib.Core.Path.{refl, _≡_}
+use mathlib.Core.Bool.{Bool, true, false}
 use mathlib.Core.List.{List, [], _∷_, _++_, append-assoc}
 use native.Mathlib.Omega.{arith}
+use borrow.Author.Tests.{leb-true, leb-false}
+use lib.Dec.{leb}
 use lib.ListN.{length}
+use Rattle.text.proofs.Appends.{room-put, no-room, appended-length}
 use Rattle.text.specs.Appending.{Appended}
 use Rattle.text.specs.Ascii.{ascii}
 use Rattle.text.specs.Decimal.{decimal}
@@ -66,3 +70,16 @@ three-put at a b c o o₁ o₂ o₃ e₁ e₂ e₃ h p q s =
       append-assoc (field a 59) (field b 59)
           (field c 10),
     ) at all
+
+-- where a text ends, put or not, stands within the buffer
+pub appended-within : (at : ℕ) (t o o₁ : List ℕ) (e : ℕ) → Appended at t o o₁ e → at ≤ length o → e ≤ length o₁
+appended-within at t o o₁ e w h = go (leb (at + length t) (length o)) refl
+  where
+    go : (b : Bool) → leb (at + length t) (length o) ≡ b → e ≤ length o₁
+    go true k =
+        let room = leb-true (at + length t) (length o) k in
+        let p = room-put at t o o₁ e w room in
+        omega (arith, p .1, appended-length at t o o₁ e w)
+    go false k =
+        let p = no-room at t o o₁ e w (leb-false (at + length t) (length o) k) in
+        omega (arith, p .1, appended-length at t o o₁ e w)

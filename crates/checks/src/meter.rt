@@ -4,26 +4,25 @@ ghost use mathlib.Core.Path.{_≡_};
 ghost use Prim.Native.Nat.{_^_, _≤_};
 ghost use Rattle.rules.specs.Volumes.{fullTurn, unitOf};
 
-const POWERS: [u64; 12] = [
-    1,
-    10,
-    100,
-    1000,
-    10000,
-    100000,
-    1000000,
-    10000000,
-    100000000,
-    1000000000,
-    10000000000,
-    100000000000,
-];
-
+// A match and not a table: a table would be laid out anew at every read.
 fn power(n: usize) -> u64
     requires { ⌜ n ≤ 11 ⌝ }
     ensures { λ r. ⌜ r ≡ 10 ^ n ⌝ }
 {
-    POWERS[n]
+    match n {
+        0 => 1,
+        1 => 10,
+        2 => 100,
+        3 => 1000,
+        4 => 10000,
+        5 => 100000,
+        6 => 1000000,
+        7 => 10000000,
+        8 => 100000000,
+        9 => 1000000000,
+        10 => 10000000000,
+        _ => 100000000000,
+    }
 }
 
 // 10^w, with w the wheels before and after the comma.

@@ -5,13 +5,16 @@ mod rows;
 use dates::LAST_DAY;
 use ranges::off_calendar_at;
 use ranges::out_of_range_at;
+use checks::outside;
+use rows::read_rows;
 use rows::ruling_at;
+use rules::Fields;
 use rules::Answer;
 use rules::Point;
 use rules::PointAction;
 use rules::Settings;
 ghost use mathlib.Core.Path.{_≡_};
-ghost use Rattle.answers.specs.Ruling.{answerAt};
+ghost use Rattle.answers.specs.Ruling.{answerAt, readAnswer};
 
 // The answer to a call that names point p, which is g, brought up to today: 22, 20 and 21 first, then the rows.
 pub fn answer_at(
@@ -39,4 +42,24 @@ pub fn answer_at(
         return Answer::Refused(21);
     }
     ruling_at(set, contracts, t, p, a, g)
+}
+
+// The answer to a reading: it looks at the point's fields alone.
+pub fn read_answer(day: u32, today: u64, p: u64, d: u64, x: u64, z: u64, f: Fields) -> Answer
+    ensures { λ r. ⌜ r ≡ readAnswer day today p d x z f ⌝ }
+{
+    if outside(0, 1, z) {
+        return Answer::Refused(22);
+    }
+    if today > LAST_DAY as u64 {
+        return Answer::Refused(20);
+    }
+    let t = today as u32;
+    if (LAST_DAY as u64) < d {
+        return Answer::Refused(20);
+    }
+    if t < day {
+        return Answer::Refused(21);
+    }
+    read_rows(t, p, d, x, z, f)
 }

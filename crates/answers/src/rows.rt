@@ -12,6 +12,7 @@ use checks::out_of_time;
 use checks::outside;
 use holidays::working_between;
 use rules::Answer;
+use rules::Fields;
 use rules::Meter;
 use rules::Pending;
 use rules::Point;
@@ -27,7 +28,7 @@ ghost use Rattle.rules.specs.Effects.{effectiveDay};
 ghost use Rattle.rules.specs.Rejections.{firstOf, lastResortNear, kindDue, _⇒_};
 ghost use Rattle.rules.specs.Register.{used};
 ghost use Rattle.answers.specs.Ranges.{InRange};
-ghost use Rattle.answers.specs.Ruling.{rulingAt};
+ghost use Rattle.answers.specs.Ruling.{rulingAt, readRuling};
 
 fn enrol(
     set: Settings,
@@ -215,6 +216,25 @@ fn cancel(set: Settings, contracts: [bool; 100], t: u32, p: u64, s: u64, g: Poin
     Answer::Accepted
 }
 
+// The rows of a reading: they look at no period.
+pub(crate) fn read_rows(t: u32, p: u64, d: u64, x: u64, z: u64, f: Fields) -> Answer
+    requires { ⌜ d ≤ 73048 ⌝ }
+    ensures { λ r. ⌜ r ≡ readRuling t p d x z f ⌝ }
+{
+    let m = f.meter;
+    let last = f.reading;
+    if not_enrolled(p, f.enrolled) {
+        return Answer::Refused(2);
+    }
+    if out_of_time(t, d as u32, last.day) {
+        return Answer::Refused(27);
+    }
+    if index_disagrees(full_turn(m), last.index, x, z) {
+        return Answer::Refused(28);
+    }
+    Answer::Accepted
+}
+
 fn read(
     set: Settings,
     contracts: [bool; 100],
@@ -229,18 +249,7 @@ fn read(
     ensures { λ r. ⌜ r ≡ rulingAt set contracts t p (PointAction.Read d x z) g ⌝ }
 {
     let f = g.fields;
-    let m = f.meter;
-    let last = f.reading;
-    if not_enrolled(p, f.enrolled) {
-        return Answer::Refused(2);
-    }
-    if out_of_time(t, d as u32, last.day) {
-        return Answer::Refused(27);
-    }
-    if index_disagrees(full_turn(m), last.index, x, z) {
-        return Answer::Refused(28);
-    }
-    Answer::Accepted
+    read_rows(t, p, d, x, z, f)
 }
 
 fn change_meter(

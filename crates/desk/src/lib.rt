@@ -1,7 +1,11 @@
 // What a message is answered, and what it changes, before and after the register is opened.
+mod daily;
 mod quick;
 
 use message::Message;
+pub use daily::Daily;
+pub use daily::daily_of;
+pub use daily::reading_in;
 pub use quick::day_after;
 pub use quick::due_day;
 pub use quick::first_due;

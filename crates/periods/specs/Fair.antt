@@ -4,8 +4,9 @@ use Prim.Native.Nat.{ℕ, _≤_, _<_}
 use lib.Dec.{leb, ltb}
 use Rattle.dates.specs.Dates.{lastDay}
 use Rattle.rules.specs.declared.History.{History}
+use Rattle.rules.specs.declared.Period.{Period}
 use Rattle.rules.specs.declared.Span.{Span}
-use Rattle.rules.specs.Register.{booked}
+use Rattle.rules.specs.Register.{bookedPeriod, booked}
 
 -- A reading goes forward to a day of the calendar, by at most two full turns of the largest meter, with a unit of at most a cubic metre:
 -- its shares are then computed without overflow.
@@ -24,3 +25,7 @@ isFair s = ltb (s .from) (s .to) && leb (s .to) lastDay && leb (s .advance) most
 -- A reading that is not fair changes nothing; no accepted call makes one.
 unfoldable pub bookedIfFair : Span → History → History
 bookedIfFair s h = cond (isFair s) (booked s h) h
+
+-- The same on the newest period alone: all of a reading whose days lie in it.
+unfoldable pub bookedNewest : Span → Period → Period
+bookedNewest s q = cond (isFair s) (bookedPeriod s (s .to) q) q

@@ -5,7 +5,7 @@ use rules::Span;
 ghost use mathlib.Core.Path.{_≡_};
 ghost use Prim.Native.Nat.{_-_, _≤_, _<_, min};
 ghost use Rattle.rules.specs.Register.{used, startsOn, replaced as Register·replaced, appended as Register·appended, named as Register·named, sharesBefore, bookedPeriod, bookedSlots};
-ghost use Rattle.periods.specs.Fair.{Fair, isFair, bookedIfFair};
+ghost use Rattle.periods.specs.Fair.{Fair, isFair, bookedIfFair, bookedNewest};
 
 // How many slots are in use.
 fn slots(count: usize) -> usize
@@ -164,4 +164,25 @@ pub fn book(s: Span, h: History) -> History
         count: h.count,
         periods: booked,
     }
+}
+
+// The place of the newest period; 0 where there is none.
+pub fn newest_place(count: usize) -> usize
+    ensures { λ r. ⌜ r ≡ min count 24 - 1 ⌝ }
+{
+    let n = slots(count);
+    if n == 0 {
+        return 0;
+    }
+    n - 1
+}
+
+// A reading whose days all lie in the newest period is booked on that period alone.
+pub fn book_newest(s: Span, q: Period) -> Period
+    ensures { λ r. ⌜ r ≡ bookedNewest s q ⌝ }
+{
+    if !is_fair(s) {
+        return q;
+    }
+    booked_period(s, s.to, q)
 }

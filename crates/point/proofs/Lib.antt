@@ -1,3 +1,4 @@
 pub mod Accepted
 pub mod Booked
 pub mod Fairness
+pub mod NewestTurn

@@ -2,6 +2,7 @@
 mod effects;
 mod events;
 mod meter;
+mod newest;
 mod readings;
 
 use answers::answer_at;
@@ -10,6 +11,8 @@ use effects::acted;
 pub use effects::failed;
 pub use effects::failure_fills;
 pub use events::catch_up;
+pub use newest::Newest;
+pub use newest::read_newest;
 use rules::Answer;
 use rules::Point;
 use rules::PointAction;

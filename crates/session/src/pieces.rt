@@ -2,11 +2,13 @@
 use crate::Session;
 use answer_lines::put_answer;
 use desk::Desk;
+use desk::daily_of;
 use desk::day_after;
 use desk::due_day;
 use desk::first_due;
 use desk::is_quick;
 use desk::place_of;
+use desk::reading_in;
 use desk::respond;
 use desk::signed_after;
 use desk::supplier_of;
@@ -17,8 +19,15 @@ use message::Message;
 use message::next::next_line;
 use message::read::read_line;
 use message::write::kind_of;
+use periods::newest_place;
+use rules::Answer;
 use rules::Point;
 use rules::Register;
+use tables::counts_of;
+use tables::fields_of;
+use tables::joined;
+use tables::points_of;
+use tables::slots_of;
 use text::read::first_known;
 ghost use mathlib.Core.Path.{_≡_};
 ghost use mathlib.Core.List.{_++_};
@@ -105,10 +114,17 @@ pub(crate) fn answer_lines(s: Session, piece: &[u8], out: &mut [u8]) -> Answered
     ensures { λ r. ⌜ AnsweredBy s (now (piece .entry)) (now (out .entry)) (now (out .exit)) r ⌝ }
 {
     let d = s.desk;
+    let r = d.register;
+    let ps = r.points;
     let mut part = s.part;
     let mut ready = d.ready;
-    let mut reg = d.register;
-    let mut quiet = first_due(reg.points);
+    let mut set = r.settings;
+    let mut day = r.day;
+    let mut contracts = r.contracts;
+    let mut fields = fields_of(ps);
+    let mut counts = counts_of(ps);
+    let mut slots = slots_of(ps);
+    let mut quiet = first_due(ps);
     let mut known = first_known();
     let mut at: usize = 0;
     let mut written: usize = 0;
@@ -116,6 +132,7 @@ pub(crate) fn answer_lines(s: Session, piece: &[u8], out: &mut [u8]) -> Answered
         let line = next_line(piece, at, known);
         let end = line.end;
         if piece.len() <= end {
+            let reg = Register { settings: set, day: day, contracts: contracts, points: points_of(fields, counts, slots) };
             return at_end(ready, reg, part, &piece[at..], written);
         }
         let read = line.message;
@@ -123,19 +140,39 @@ pub(crate) fn answer_lines(s: Session, piece: &[u8], out: &mut [u8]) -> Answered
         known = line.known;
         part.len = 0;
         at = end + 1;
-        if is_quick(ready, quiet, m) {
-            let i = place_of(m);
+        let i = place_of(m);
+        let n = counts[i];
+        let k = newest_place(n);
+        let f = fields[i];
+        let q = slots[i][k];
+        let r = reading_in(ready, quiet, m);
+        let x = daily_of(day, r, n, f, q);
+        if x.is {
+            let f2 = x.fields;
+            let q2 = x.period;
+            fields[i] = f2;
+            slots[i][k] = q2;
+            day = day_after(day, m, Answer::Accepted);
+            written = put_answer(out, written, kind_of(m), Answer::Accepted);
+        } else if is_quick(ready, quiet, m) {
             let j = supplier_of(m);
-            let g = reg.points[i];
-            let x = turn_of(reg.settings, reg.day, reg.contracts, ready, m, g);
+            let s = slots[i];
+            let g = joined(f, n, s);
+            let x = turn_of(set, day, contracts, ready, m, g);
             let answer = x.answer;
             let h = x.point;
             quiet = quiet_with(quiet, h);
-            reg.points[i] = h;
-            reg.day = day_after(reg.day, m, answer);
-            reg.contracts[j] = signed_after(m, answer, reg.contracts[j]);
+            let f2 = h.fields;
+            let h2 = h.history;
+            let s2 = h2.periods;
+            fields[i] = f2;
+            counts[i] = h2.count;
+            slots[i] = s2;
+            day = day_after(day, m, answer);
+            contracts[j] = signed_after(m, answer, contracts[j]);
             written = put_answer(out, written, kind_of(m), answer);
         } else {
+            let reg = Register { settings: set, day: day, contracts: contracts, points: points_of(fields, counts, slots) };
             let now = Desk {
                 ready: ready,
                 register: reg,
@@ -144,10 +181,18 @@ pub(crate) fn answer_lines(s: Session, piece: &[u8], out: &mut [u8]) -> Answered
             let answer = x.answer;
             let after = x.desk;
             ready = after.ready;
-            reg = after.register;
-            quiet = first_due(reg.points);
+            let r = after.register;
+            let ps = r.points;
+            set = r.settings;
+            day = r.day;
+            contracts = r.contracts;
+            fields = fields_of(ps);
+            counts = counts_of(ps);
+            slots = slots_of(ps);
+            quiet = first_due(ps);
             written = put_answer(out, written, kind_of(m), answer);
         }
     }
+    let reg = Register { settings: set, day: day, contracts: contracts, points: points_of(fields, counts, slots) };
     at_end(ready, reg, part, &piece[at..], written)
 }

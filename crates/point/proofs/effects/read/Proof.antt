@@ -32,7 +32,7 @@ returns c =
     let forward : s .from < s .to = rw e (start .pre .3) in
     let within : s .to ≤ lastDay = rw e (start .pre .0) in
     let books : c .book .result ≡ booked s h =
-    c .book .ensures ∙ fair-booked s h forward within (made .ensures .1) (made .ensures .2) in
+    c .book .ensures ∙ fair-booked s forward within (made .ensures .1) (made .ensures .2) h in
     rw (books, e)
 
 pub read-spec : {M : Type 1} → statement M

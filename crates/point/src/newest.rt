@@ -1,0 +1,60 @@
+// A reading whose days all lie in a point's newest period.
+use crate::meter::span_to;
+use answers::read_answer;
+use checks::is_accepted;
+use periods::book_newest;
+use rules::Fields;
+use rules::Period;
+use rules::Reading;
+ghost use mathlib.Core.Path.{_≡_};
+ghost use Rattle.point.specs.Newest.{readNewest};
+
+// Whether a reading is accepted and lies in the newest period; then the fields and that period after it, else as they were.
+pub struct Newest {
+    pub is: bool,
+    pub fields: Fields,
+    pub period: Period,
+}
+
+pub fn read_newest(
+    day: u32,
+    today: u64,
+    p: u64,
+    d: u64,
+    x: u64,
+    z: u64,
+    f: Fields,
+    q: Period,
+) -> Newest
+    ensures { λ r. ⌜ r ≡ readNewest day today p d x z f q ⌝ }
+{
+    let last = f.reading;
+    let answer = read_answer(day, today, p, d, x, z, f);
+    if !is_accepted(answer) {
+        return Newest {
+            is: false,
+            fields: f,
+            period: q,
+        };
+    }
+    if last.day < q.start {
+        return Newest {
+            is: false,
+            fields: f,
+            period: q,
+        };
+    }
+    let m = f.meter;
+    let s = span_to(m, last, d as u32, x, z);
+    Newest {
+        is: true,
+        fields: Fields {
+            reading: Reading {
+                day: d as u32,
+                index: x,
+            },
+            ..f
+        },
+        period: book_newest(s, q),
+    }
+}

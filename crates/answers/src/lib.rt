@@ -2,14 +2,14 @@
 mod ranges;
 mod rows;
 
+use checks::outside;
 use dates::LAST_DAY;
 use ranges::off_calendar_at;
 use ranges::out_of_range_at;
-use checks::outside;
 use rows::read_rows;
 use rows::ruling_at;
-use rules::Fields;
 use rules::Answer;
+use rules::Fields;
 use rules::Point;
 use rules::PointAction;
 use rules::Settings;

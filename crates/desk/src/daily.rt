@@ -1,58 +1,45 @@
-// A reading that needs no look at other points, nor at the periods before the newest.
-use checks::outside;
+// A reading that needs no look at the periods before the newest: the daily readings.
+use crate::quick::Named;
+use crate::quick::named_in;
 use message::Message;
 use point::Newest;
 use point::read_newest;
-use rules::Action;
 use rules::Fields;
 use rules::Period;
 use rules::PointAction;
 ghost use mathlib.Core.Path.{_≡_};
-ghost use Rattle.desk.specs.Daily.{noReading, readingAt, readingBy, readingIn, dailyOf};
+ghost use Rattle.point.specs.Newest.{leftNewest};
+ghost use Rattle.desk.specs.Daily.{noReading, readingBy, dailyOf};
 
-// The reading that a message brings, if it is one and nothing falls due before it.
-pub struct Daily {
+// The reading of an act, if it is one.
+pub(crate) struct Read {
     pub is: bool,
-    pub today: u64,
-    pub point: u64,
     pub day: u64,
     pub index: u64,
     pub zero: u64,
 }
 
-fn no_reading() -> Daily
+fn no_reading() -> Read
     ensures { λ r. ⌜ r ≡ noReading ⌝ }
 {
-    Daily {
+    Read {
         is: false,
-        today: 0,
-        point: 0,
         day: 0,
         index: 0,
         zero: 0,
     }
 }
 
-fn reading_at(ready: bool, quiet: u32, today: u64, point: u64, a: PointAction) -> Daily {
+fn reading_by(a: PointAction) -> Read
+    ensures { λ r. ⌜ r ≡ readingBy a ⌝ }
+{
     match a {
-        PointAction::Read { day, index, zero } => {
-            if !ready {
-                return no_reading();
-            }
-            if today >= quiet as u64 {
-                return no_reading();
-            }
-            if outside(1, 32, point) {
-                return no_reading();
-            }
-            Daily {
+        PointAction::Read { day, index, zero } => Read {
             is: true,
-            today: today,
-            point: point,
             day: day,
             index: index,
             zero: zero,
-        }}
+        },
         PointAction::ChangeMeter {
             index: _,
             zero: _,
@@ -81,35 +68,31 @@ fn reading_at(ready: bool, quiet: u32, today: u64, point: u64, a: PointAction) -
     }
 }
 
-fn reading_by(ready: bool, quiet: u32, today: u64, a: Action) -> Daily {
-    match a {
-        Action::SignContract { supplier: _ } => no_reading(),
-        Action::Failure { supplier: _ } => no_reading(),
-        Action::At { point, act } => reading_at(ready, quiet, today, point, act),
-        Action::Day => no_reading(),
-    }
-}
-
-pub fn reading_in(ready: bool, quiet: u32, m: Message) -> Daily {
-    match m {
-        Message::Open(_) => no_reading(),
-        Message::Ask(c) => {
-            let a = c.action;
-            reading_by(ready, quiet, c.today, a)
-        }
-        Message::Unreadable => no_reading(),
-    }
-}
-
-pub fn daily_of(day: u32, r: Daily, count: usize, f: Fields, q: Period) -> Newest {
-    if r.is {
-        if 0 < count {
-            return read_newest(day, r.today, r.point, r.day, r.index, r.zero, f, q);
-        }
-    }
+fn as_it_is(f: Fields, q: Period) -> Newest
+    ensures { λ r. ⌜ r ≡ leftNewest f q ⌝ }
+{
     Newest {
         is: false,
         fields: f,
         period: q,
     }
+}
+
+// What a message makes of the fields f and the newest of count periods, where it is a reading that is accepted and changes no other.
+pub fn daily_of(ready: bool, day: u32, m: Message, count: usize, f: Fields, q: Period) -> Newest
+    ensures { λ r. ⌜ r ≡ dailyOf ready day m count f q ⌝ }
+{
+    let n = named_in(ready, m);
+    let act = n.act;
+    let x = reading_by(act);
+    if !n.is {
+        return as_it_is(f, q);
+    }
+    if !x.is {
+        return as_it_is(f, q);
+    }
+    if count < 1 {
+        return as_it_is(f, q);
+    }
+    read_newest(day, n.today, n.point, x.day, x.index, x.zero, f, q)
 }

@@ -2,10 +2,8 @@
 mod daily;
 mod quick;
 
-use message::Message;
-pub use daily::Daily;
 pub use daily::daily_of;
-pub use daily::reading_in;
+use message::Message;
 pub use quick::day_after;
 pub use quick::due_day;
 pub use quick::first_due;

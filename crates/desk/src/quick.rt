@@ -268,7 +268,7 @@ fn named_by(ready: bool, today: u64, a: Action) -> Named
     }
 }
 
-fn named_in(ready: bool, m: Message) -> Named
+pub(crate) fn named_in(ready: bool, m: Message) -> Named
     ensures { λ r. ⌜ r ≡ namedIn ready m ⌝ }
 {
     match m {

@@ -23,7 +23,7 @@ use Rattle.answers.specs.Ruling.{noSettings, bare, readAnswer}
 use Rattle.answers.proofs.Readings.{read-answer, read-plain}
 use Rattle.point.proofs.Accepted.{passed}
 use Rattle.point.specs.declared.Ruling.{Ruling}
-use Rattle.point.specs.declared.newest.Newest.{Newest}
+use Rattle.point.specs.declared.Newest.{Newest}
 use Rattle.point.specs.Newest.{lies, leftNewest, readNewest}
 use Rattle.point.specs.Turn.{turned}
 

@@ -10,7 +10,7 @@ use Rattle.rules.specs.Fields.{reading, withReading}
 use Rattle.rules.specs.Register.{bookedPeriod}
 use Rattle.rules.specs.Volumes.{spanTo}
 use Rattle.answers.specs.Ruling.{readAnswer}
-use Rattle.point.specs.declared.newest.Newest.{Newest}
+use Rattle.point.specs.declared.Newest.{Newest}
 
 abbrev pub leftNewest : Fields → Period → Newest
 leftNewest f q = record { is = false; fields = f; period = q }

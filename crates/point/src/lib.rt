@@ -1,8 +1,8 @@
 // One point of the register: its events, and what the calls that name it do.
 mod effects;
 mod events;
+mod latest;
 mod meter;
-mod newest;
 mod readings;
 
 use answers::answer_at;
@@ -11,9 +11,10 @@ use effects::acted;
 pub use effects::failed;
 pub use effects::failure_fills;
 pub use events::catch_up;
-pub use newest::Newest;
-pub use newest::read_newest;
+pub use latest::read_newest;
 use rules::Answer;
+use rules::Fields;
+use rules::Period;
 use rules::Point;
 use rules::PointAction;
 use rules::Settings;
@@ -24,6 +25,13 @@ ghost use Rattle.point.specs.Turn.{turned};
 pub struct Ruling {
     pub answer: Answer,
     pub point: Point,
+}
+
+// Whether a reading is accepted and lies in the newest period; then the fields and that period after it, else as they were.
+pub struct Newest {
+    pub is: bool,
+    pub fields: Fields,
+    pub period: Period,
 }
 
 // A call that names point p, which is g, brought up to today.

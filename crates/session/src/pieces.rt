@@ -8,7 +8,6 @@ use desk::due_day;
 use desk::first_due;
 use desk::is_quick;
 use desk::place_of;
-use desk::reading_in;
 use desk::respond;
 use desk::signed_after;
 use desk::supplier_of;
@@ -132,7 +131,12 @@ pub(crate) fn answer_lines(s: Session, piece: &[u8], out: &mut [u8]) -> Answered
         let line = next_line(piece, at, known);
         let end = line.end;
         if piece.len() <= end {
-            let reg = Register { settings: set, day: day, contracts: contracts, points: points_of(fields, counts, slots) };
+            let reg = Register {
+                settings: set,
+                day: day,
+                contracts: contracts,
+                points: points_of(fields, counts, slots),
+            };
             return at_end(ready, reg, part, &piece[at..], written);
         }
         let read = line.message;
@@ -140,39 +144,45 @@ pub(crate) fn answer_lines(s: Session, piece: &[u8], out: &mut [u8]) -> Answered
         known = line.known;
         part.len = 0;
         at = end + 1;
-        let i = place_of(m);
-        let n = counts[i];
-        let k = newest_place(n);
-        let f = fields[i];
-        let q = slots[i][k];
-        let r = reading_in(ready, quiet, m);
-        let x = daily_of(day, r, n, f, q);
-        if x.is {
-            let f2 = x.fields;
-            let q2 = x.period;
-            fields[i] = f2;
-            slots[i][k] = q2;
-            day = day_after(day, m, Answer::Accepted);
-            written = put_answer(out, written, kind_of(m), Answer::Accepted);
-        } else if is_quick(ready, quiet, m) {
-            let j = supplier_of(m);
-            let s = slots[i];
-            let g = joined(f, n, s);
-            let x = turn_of(set, day, contracts, ready, m, g);
-            let answer = x.answer;
-            let h = x.point;
-            quiet = quiet_with(quiet, h);
-            let f2 = h.fields;
-            let h2 = h.history;
-            let s2 = h2.periods;
-            fields[i] = f2;
-            counts[i] = h2.count;
-            slots[i] = s2;
-            day = day_after(day, m, answer);
-            contracts[j] = signed_after(m, answer, contracts[j]);
-            written = put_answer(out, written, kind_of(m), answer);
+        if is_quick(ready, quiet, m) {
+            let i = place_of(m);
+            let n = counts[i];
+            let k = newest_place(n);
+            let f = fields[i];
+            let q = slots[i][k];
+            let x = daily_of(ready, day, m, n, f, q);
+            if x.is {
+                let f2 = x.fields;
+                let q2 = x.period;
+                fields[i] = f2;
+                slots[i][k] = q2;
+                day = day_after(day, m, Answer::Accepted);
+                written = put_answer(out, written, kind_of(m), Answer::Accepted);
+            } else {
+                let j = supplier_of(m);
+                let s = slots[i];
+                let g = joined(f, n, s);
+                let x = turn_of(set, day, contracts, ready, m, g);
+                let answer = x.answer;
+                let h = x.point;
+                quiet = quiet_with(quiet, h);
+                let f2 = h.fields;
+                let h2 = h.history;
+                let s2 = h2.periods;
+                fields[i] = f2;
+                counts[i] = h2.count;
+                slots[i] = s2;
+                day = day_after(day, m, answer);
+                contracts[j] = signed_after(m, answer, contracts[j]);
+                written = put_answer(out, written, kind_of(m), answer);
+            }
         } else {
-            let reg = Register { settings: set, day: day, contracts: contracts, points: points_of(fields, counts, slots) };
+            let reg = Register {
+                settings: set,
+                day: day,
+                contracts: contracts,
+                points: points_of(fields, counts, slots),
+            };
             let now = Desk {
                 ready: ready,
                 register: reg,
@@ -193,6 +203,11 @@ pub(crate) fn answer_lines(s: Session, piece: &[u8], out: &mut [u8]) -> Answered
             written = put_answer(out, written, kind_of(m), answer);
         }
     }
-    let reg = Register { settings: set, day: day, contracts: contracts, points: points_of(fields, counts, slots) };
+    let reg = Register {
+        settings: set,
+        day: day,
+        contracts: contracts,
+        points: points_of(fields, counts, slots),
+    };
     at_end(ready, reg, part, &piece[at..], written)
 }

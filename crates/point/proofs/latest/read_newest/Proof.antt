@@ -10,10 +10,10 @@ use Rattle.point.specs.Newest.{readNewest}
 use Rattle.point.proofs.Fairness.{fair-newest}
 use Rattle.point.proofs.NewestTurn.{read-passed}
 use borrow.Author.Needs.{needs}
-use Rattle.point.proofs.newest.read_newest.Statement.{statement}
-use Rattle.point.proofs.newest.read_newest.Tie as tie
-use Rattle.point.proofs.newest.read_newest.Reads as reads
-use Rattle.point.proofs.newest.read_newest.Lts as lts
+use Rattle.point.proofs.latest.read_newest.Statement.{statement}
+use Rattle.point.proofs.latest.read_newest.Tie as tie
+use Rattle.point.proofs.latest.read_newest.Reads as reads
+use Rattle.point.proofs.latest.read_newest.Lts as lts
 use Rattle.answers.proofs.read_answer.Reads as read-answer-reads
 use Rattle.checks.proofs.is_accepted.Reads as is-accepted-reads
 use Rattle.periods.proofs.book_newest.Reads as book-newest-reads

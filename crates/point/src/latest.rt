@@ -1,4 +1,5 @@
 // A reading whose days all lie in a point's newest period.
+use crate::Newest;
 use crate::meter::span_to;
 use answers::read_answer;
 use checks::is_accepted;
@@ -9,13 +10,7 @@ use rules::Reading;
 ghost use mathlib.Core.Path.{_≡_};
 ghost use Rattle.point.specs.Newest.{readNewest};
 
-// Whether a reading is accepted and lies in the newest period; then the fields and that period after it, else as they were.
-pub struct Newest {
-    pub is: bool,
-    pub fields: Fields,
-    pub period: Period,
-}
-
+// A reading of x on day d at point p, which has the fields f and the newest period q.
 pub fn read_newest(
     day: u32,
     today: u64,

@@ -52,7 +52,8 @@ points-set (_ ∷ _) [] ss (suc i) f n s = refl
 points-set (_ ∷ _) (_ ∷ _) [] zero f n s = refl
 points-set (_ ∷ _) (_ ∷ _) [] (suc i) f n s = refl
 points-set (_ ∷ _) (_ ∷ _) (_ ∷ _) zero f n s = refl
-points-set (f₀ ∷ fs) (n₀ ∷ ns) (s₀ ∷ ss) (suc i) f n s = ap (λ (l : List Point). joined f₀ n₀ s₀ ∷ l) (points-set fs ns ss i f n s)
+points-set (f₀ ∷ fs) (n₀ ∷ ns) (s₀ ∷ ss) (suc i) f n s =
+    ap (λ (l : List Point). joined f₀ n₀ s₀ ∷ l) (points-set fs ns ss i f n s)
 
 pub points-set-kept : (fs : List Fields) (ns : List ℕ) (ss : List (List Period)) (i : ℕ) (f : Fields) (s : List Period) →
     pointsOf (set fs i f) ns (set ss i s) ≡ set (pointsOf fs ns ss) i (joined f (getD ns i 0) s)
@@ -78,4 +79,5 @@ points-length [] ns ss n h j k = h
 points-length (_ ∷ _) [] ss n h j k = j
 points-length (_ ∷ _) (_ ∷ _) [] n h j k = k
 points-length (_ ∷ _) (_ ∷ _) (_ ∷ _) zero h j k = absurd (omega arith)
-points-length (_ ∷ fs) (_ ∷ ns) (_ ∷ ss) (suc n) h j k = ap suc (points-length fs ns ss n (omega arith) (omega arith) (omega arith))
+points-length (_ ∷ fs) (_ ∷ ns) (_ ∷ ss) (suc n) h j k =
+    ap suc (points-length fs ns ss n (omega arith) (omega arith) (omega arith))

@@ -74,8 +74,8 @@ pub fn points_of(fs: [Fields; 32], counts: [usize; 32], slots: [[Period; 24]; 32
     let mut points = [first; 32];
     let mut p: usize = 0;
     while p < 32 {
-        let g = joined(fs[p], counts[p], slots[p]);
-        points[p] = g;
+        let n = counts[p];
+        points[p] = joined(fs[p], n, slots[p]);
         p += 1;
     }
     points

@@ -1,6 +1,6 @@
 -- The table of counts, filled in turn.
 use mathlib.Core.Path.{refl, sym}
-use Prim.Native.Nat.{_-_}
+use Prim.Native.Nat.{_-_, _≤_}
 use native.Mathlib.Omega.{arith}
 use borrow.Author.Needs.{needs}
 use Rattle.rules.specs.Register.{noPoint}
@@ -11,13 +11,13 @@ use Rattle.tables.proofs.counts_of.Statement.{statement}
 use Rattle.tables.proofs.counts_of.Tie as tie
 
 abbrev Inv-loop : tie.InvT-loop
-Inv-loop ps counts₀ n₀ counts n = Filled 32 (countsOf ps) counts n
+Inv-loop ps counts₀ n₀ counts n = (n ≤ 32) × Filled 32 (countsOf ps) counts n
 
 abbrev μ-loop : tie.MeasureT-loop
 μ-loop ps counts₀ n₀ counts n = 32 - n
 
 loop-holds : tie.Need-loop-holds Inv-loop μ-loop
-loop-holds c = (search needs, omega (arith, counts-length (c .args .t1)), refl, refl)
+loop-holds c = (search needs, (omega (arith, counts-length (c .args .t1)), refl, refl))
 
 mul-counts : tie.Need-mul-counts Inv-loop μ-loop
 mul-counts c = search needs
@@ -41,10 +41,10 @@ loop-again : tie.Need-loop-again Inv-loop μ-loop
 loop-again c =
     let loop = c .before .loop in
     let at = counts-get (c .before .before .args .t1) (loop .n) noPoint in
-    filled-next _ _ (loop .n) (noPoint .history .count) (search needs) (loop .inv) (sym at)
+    (search needs, filled-next _ _ (loop .n) (noPoint .history .count) (search needs) (loop .inv .1) (sym at))
 
 returns : tie.Need-returns Inv-loop μ-loop
-returns c = filled-all _ _ (c .before .loop .n) (search needs) (c .before .loop .inv)
+returns c = filled-all _ _ (c .before .loop .n) (search needs) (c .before .loop .inv .1)
 
 pub counts-of-spec : {M : Type 1} → statement M
 counts-of-spec =

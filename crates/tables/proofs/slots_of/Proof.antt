@@ -1,6 +1,6 @@
 -- The table of slots, filled in turn.
 use mathlib.Core.Path.{refl, sym}
-use Prim.Native.Nat.{_-_}
+use Prim.Native.Nat.{_-_, _≤_}
 use native.Mathlib.Omega.{arith}
 use borrow.Author.Needs.{needs}
 use Rattle.rules.specs.Register.{noPoint}
@@ -11,7 +11,7 @@ use Rattle.tables.proofs.slots_of.Statement.{statement}
 use Rattle.tables.proofs.slots_of.Tie as tie
 
 abbrev Inv-loop : tie.InvT-loop
-Inv-loop ps slots₀ k₀ slots k = Filled 32 (slotsOf ps) slots k
+Inv-loop ps slots₀ k₀ slots k = (k ≤ 32) × Filled 32 (slotsOf ps) slots k
 
 abbrev μ-loop : tie.MeasureT-loop
 μ-loop ps slots₀ k₀ slots k = 32 - k
@@ -20,7 +20,7 @@ array-copy-out-g : tie.Need-array-copy-out-g Inv-loop μ-loop
 array-copy-out-g c = search needs
 
 loop-holds : tie.Need-loop-holds Inv-loop μ-loop
-loop-holds c = (search needs, omega (arith, slots-length (c .before .before .args .t1)), refl, refl)
+loop-holds c = (search needs, (omega (arith, slots-length (c .before .before .args .t1)), refl, refl))
 
 mul-g : tie.Need-mul-g Inv-loop μ-loop
 mul-g c = search needs
@@ -44,10 +44,10 @@ loop-again : tie.Need-loop-again Inv-loop μ-loop
 loop-again c =
     let loop = c .before .before .before .loop in
     let at = slots-get (c .before .before .before .before .before .before .args .t1) (loop .k) noPoint in
-    filled-next _ _ (loop .k) (noPoint .history .periods) (search needs) (loop .inv) (sym at)
+    (search needs, filled-next _ _ (loop .k) (noPoint .history .periods) (search needs) (loop .inv .1) (sym at))
 
 returns : tie.Need-returns Inv-loop μ-loop
-returns c = filled-all _ _ (c .before .loop .k) (search needs) (c .before .loop .inv)
+returns c = filled-all _ _ (c .before .loop .k) (search needs) (c .before .loop .inv .1)
 
 pub slots-of-spec : {M : Type 1} → statement M
 slots-of-spec =

@@ -20,8 +20,11 @@ use message::read::read_line;
 use message::write::kind_of;
 use periods::newest_place;
 use rules::Answer;
+use rules::Fields;
+use rules::Period;
 use rules::Point;
 use rules::Register;
+use rules::Settings;
 use tables::counts_of;
 use tables::fields_of;
 use tables::joined;
@@ -35,6 +38,8 @@ ghost use lib.ListN.{length, take};
 ghost use Rattle.input.specs.Lines.{feeds};
 ghost use Rattle.input.specs.Part.{capped, kept};
 ghost use Rattle.message.specs.Reading.{readLine};
+ghost use Rattle.rules.specs.Register.{register};
+ghost use Rattle.tables.specs.Tables.{pointsOf};
 ghost use Rattle.desk.specs.Desk.{desk};
 ghost use Rattle.desk.specs.Quick.{dueDay};
 ghost use Rattle.session.specs.Session.{AnsweredBy, answeredWith, WholeMessage};
@@ -107,23 +112,43 @@ fn at_end(ready: bool, reg: Register, part: Part, rest: &[u8], written: usize) -
     }
 }
 
-// Answers the lines that end in a piece.
+// The register, put together again.
+fn register_of(
+    set: Settings,
+    day: u32,
+    contracts: [bool; 100],
+    fields: [Fields; 32],
+    counts: [usize; 32],
+    slots: [[Period; 24]; 32],
+) -> Register
+    ensures { λ r. ⌜ r ≡ register set day contracts (pointsOf fields counts slots) ⌝ }
+{
+    Register {
+        settings: set,
+        day: day,
+        contracts: contracts,
+        points: points_of(fields, counts, slots),
+    }
+}
+
+// Answers the lines that end in a piece. The points stand in tables: a daily reading changes its point's fields and newest period where
+// they are, another quick line costs the point that it names.
 pub(crate) fn answer_lines(s: Session, piece: &[u8], out: &mut [u8]) -> Answered
     requires { ⌜ 24 * feeds (now piece) ≤ length (now out) ⌝ }
     ensures { λ r. ⌜ AnsweredBy s (now (piece .entry)) (now (out .entry)) (now (out .exit)) r ⌝ }
 {
     let d = s.desk;
     let r = d.register;
-    let ps = r.points;
+    let points = r.points;
     let mut part = s.part;
     let mut ready = d.ready;
     let mut set = r.settings;
     let mut day = r.day;
     let mut contracts = r.contracts;
-    let mut fields = fields_of(ps);
-    let mut counts = counts_of(ps);
-    let mut slots = slots_of(ps);
-    let mut quiet = first_due(ps);
+    let mut fields = fields_of(points);
+    let mut counts = counts_of(points);
+    let mut slots = slots_of(points);
+    let mut quiet = first_due(points);
     let mut known = first_known();
     let mut at: usize = 0;
     let mut written: usize = 0;
@@ -131,12 +156,7 @@ pub(crate) fn answer_lines(s: Session, piece: &[u8], out: &mut [u8]) -> Answered
         let line = next_line(piece, at, known);
         let end = line.end;
         if piece.len() <= end {
-            let reg = Register {
-                settings: set,
-                day: day,
-                contracts: contracts,
-                points: points_of(fields, counts, slots),
-            };
+            let reg = register_of(set, day, contracts, fields, counts, slots);
             return at_end(ready, reg, part, &piece[at..], written);
         }
         let read = line.message;
@@ -152,62 +172,51 @@ pub(crate) fn answer_lines(s: Session, piece: &[u8], out: &mut [u8]) -> Answered
             let q = slots[i][k];
             let x = daily_of(ready, day, m, n, f, q);
             if x.is {
-                let f2 = x.fields;
-                let q2 = x.period;
-                fields[i] = f2;
-                slots[i][k] = q2;
+                let f_read = x.fields;
+                let q_read = x.period;
+                fields[i] = f_read;
+                slots[i][k] = q_read;
                 day = day_after(day, m, Answer::Accepted);
                 written = put_answer(out, written, kind_of(m), Answer::Accepted);
             } else {
                 let j = supplier_of(m);
-                let s = slots[i];
-                let g = joined(f, n, s);
-                let x = turn_of(set, day, contracts, ready, m, g);
-                let answer = x.answer;
-                let h = x.point;
+                let ps = slots[i];
+                let g = joined(f, n, ps);
+                let y = turn_of(set, day, contracts, ready, m, g);
+                let answer = y.answer;
+                let h = y.point;
+                let f_after = h.fields;
+                let past = h.history;
+                let ps_after = past.periods;
                 quiet = quiet_with(quiet, h);
-                let f2 = h.fields;
-                let h2 = h.history;
-                let s2 = h2.periods;
-                fields[i] = f2;
-                counts[i] = h2.count;
-                slots[i] = s2;
+                fields[i] = f_after;
+                counts[i] = past.count;
+                slots[i] = ps_after;
                 day = day_after(day, m, answer);
                 contracts[j] = signed_after(m, answer, contracts[j]);
                 written = put_answer(out, written, kind_of(m), answer);
             }
         } else {
-            let reg = Register {
-                settings: set,
-                day: day,
-                contracts: contracts,
-                points: points_of(fields, counts, slots),
-            };
             let now = Desk {
                 ready: ready,
-                register: reg,
+                register: register_of(set, day, contracts, fields, counts, slots),
             };
-            let x = respond(now, m);
-            let answer = x.answer;
-            let after = x.desk;
+            let z = respond(now, m);
+            let answer = z.answer;
+            let after = z.desk;
+            let next = after.register;
+            let points_after = next.points;
             ready = after.ready;
-            let r = after.register;
-            let ps = r.points;
-            set = r.settings;
-            day = r.day;
-            contracts = r.contracts;
-            fields = fields_of(ps);
-            counts = counts_of(ps);
-            slots = slots_of(ps);
-            quiet = first_due(ps);
+            set = next.settings;
+            day = next.day;
+            contracts = next.contracts;
+            fields = fields_of(points_after);
+            counts = counts_of(points_after);
+            slots = slots_of(points_after);
+            quiet = first_due(points_after);
             written = put_answer(out, written, kind_of(m), answer);
         }
     }
-    let reg = Register {
-        settings: set,
-        day: day,
-        contracts: contracts,
-        points: points_of(fields, counts, slots),
-    };
+    let reg = register_of(set, day, contracts, fields, counts, slots);
     at_end(ready, reg, part, &piece[at..], written)
 }

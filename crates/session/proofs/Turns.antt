@@ -57,7 +57,7 @@ said-short d m =
     let e : length (answerLine (kindOf m) (answerOf d m)) ≤ 21 + 2 = answer-short (kindOf m) (answerOf d m) 2 (omega arith) n in
     omega arith
 
-abbrev emptied : Part → Part
+abbrev pub emptied : Part → Part
 emptied p = record { len = 0; bytes = p .bytes }
 
 module _ (piece out₀ : List ℕ) (d₀ : Desk) (part₀ out : List ℕ) (part : Part) (ready : Bool) (reg : Register)

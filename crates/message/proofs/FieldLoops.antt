@@ -8,11 +8,11 @@ use native.Mathlib.Omega.{arith}
 use lib.ListN.{length, take, drop, getD, drop-of-length-le}
 use lib.Seq.{drop-cons, getD-take, length-take-le}
 use Rattle.dates.proofs.Every.{and-left, and-right}
-use Rattle.text.specs.declared.Sort.{Sort}
-use Rattle.text.specs.declared.Sort.the-variants.{Date, Number}
-use Rattle.text.specs.Fields.{fieldText, fieldsText, fits, fitAll, sortAt, sortsFrom}
-use Rattle.text.proofs.FieldSteps.{sorts-next, sorts-none}
-use Rattle.text.proofs.FieldTexts.{field-append, width, widths, field-short, fields-short}
+use Rattle.fields.specs.declared.Sort.{Sort}
+use Rattle.fields.specs.declared.Sort.the-variants.{Date, Number}
+use Rattle.fields.specs.Fields.{fieldText, fieldsText, fits, fitAll, sortAt, sortsFrom}
+use Rattle.fields.proofs.FieldSteps.{sorts-next, sorts-none}
+use Rattle.fields.proofs.FieldTexts.{field-append, width, widths, field-short, fields-short}
 
 -- the values left, from the one at i on
 abbrev pub left : ℕ → ℕ → List ℕ → List ℕ

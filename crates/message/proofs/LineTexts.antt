@@ -9,9 +9,9 @@ use borrow.Author.Tests.{le-leb}
 use lib.ListN.{length, take, drop, replicate, drop-of-length-le}
 use lib.Seq.{drop-cons, getD-take}
 use Rattle.text.specs.Appending.{put}
-use Rattle.text.specs.declared.Shape.{Shape}
-use Rattle.text.specs.Fields.{Values, values, fieldsText, sortsOf, fieldsIn}
-use Rattle.text.proofs.FieldSteps.{fields-are}
+use Rattle.fields.specs.declared.Shape.{Shape}
+use Rattle.fields.specs.Fields.{Values, values, fieldsText, sortsOf, fieldsIn}
+use Rattle.fields.proofs.FieldSteps.{fields-are}
 use Rattle.kinds.specs.declared.Kind.{Kind}
 use Rattle.kinds.specs.Kinds.{word, kindNamed, shapeOf}
 use Rattle.message.specs.declared.Message.{Message}

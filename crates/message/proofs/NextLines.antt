@@ -10,14 +10,14 @@ use lib.Dec.{leb, eqb}
 use lib.ListN.{length, take, drop, getD, length-append, length-drop, take-append-drop, drop-of-length-le}
 use lib.Seq.{drop-cons, drop-drop, take-at, take-length}
 use borrow.Author.Tests.{eqb-true, eq-eqb, ne-eqb}
-use Rattle.text.specs.Fields.{values, fieldsText, sortsFrom, sortsOf, fieldsOf, fieldsIn, rowIn}
-use Rattle.text.specs.Known.{IsKnown}
-use Rattle.text.specs.Words.{isSame}
-use Rattle.text.specs.declared.KnownDate.{KnownDate}
-use Rattle.text.specs.declared.Row.{Row}
-use Rattle.text.specs.declared.Shape.{Shape}
-use Rattle.text.proofs.FieldSteps.{fields-are}
-use Rattle.text.proofs.FieldTexts.{fields-only}
+use Rattle.fields.specs.Fields.{values, fieldsText, sortsFrom, sortsOf, fieldsOf, fieldsIn, rowIn}
+use Rattle.fields.specs.Known.{IsKnown}
+use Rattle.reading.specs.Words.{isSame}
+use Rattle.fields.specs.declared.KnownDate.{KnownDate}
+use Rattle.fields.specs.declared.Row.{Row}
+use Rattle.fields.specs.declared.Shape.{Shape}
+use Rattle.fields.proofs.FieldSteps.{fields-are}
+use Rattle.fields.proofs.FieldTexts.{fields-only}
 use Rattle.kinds.specs.declared.Kind.{Kind}
 use Rattle.kinds.specs.declared.Kind.the-variants.{Set, Ctr, Def, Enr, Demmespc, I, Demcf, Adc, Ri, Cdt, Demmhs, Sus, Jour, Unknown}
 use Rattle.kinds.specs.Kinds.{word, kinds, kindIn, kindNamed, shapeOf}

@@ -8,8 +8,8 @@ use lib.Dec.{leb}
 use lib.ListN.{length, take, drop, length-append, take-append-drop}
 use lib.Seq.{take-at, take-all, drop-at}
 use borrow.Author.Tests.{le-leb}
-use Rattle.text.specs.Fields.{Values, values, unread, fieldsText, fitAll, fieldsOf, sortsFrom, sortsOf}
-use Rattle.text.proofs.FieldTexts.{fields-back, FieldsAre, fields-only, fields-short, fit-count}
+use Rattle.fields.specs.Fields.{Values, values, unread, fieldsText, fitAll, fieldsOf, sortsFrom, sortsOf}
+use Rattle.fields.proofs.FieldTexts.{fields-back, FieldsAre, fields-only, fields-short, fit-count}
 use Rattle.kinds.specs.declared.Kind.{Kind}
 use Rattle.kinds.specs.declared.Kind.the-variants.{Unknown}
 use Rattle.message.specs.declared.Message.{Message}

@@ -10,9 +10,9 @@ use lib.Seq.{drop-cons}
 use Rattle.rules.specs.declared.Action.{Action}
 use Rattle.rules.specs.declared.Action.the-variants.{SignContract, Failure, At, Day}
 use Rattle.rules.specs.declared.PointAction.the-variants.{Enrol, IntoService, DefaultSupply, AskSwitch, Cancel, Read, ChangeMeter, OutOfService, Suspend}
-use Rattle.text.specs.Words.{isSame}
-use Rattle.text.specs.Fields.{fieldsText, fitAll, sortsFrom, sortsOf}
-use Rattle.text.proofs.FieldTexts.{widths}
+use Rattle.reading.specs.Words.{isSame}
+use Rattle.fields.specs.Fields.{fieldsText, fitAll, sortsFrom, sortsOf}
+use Rattle.fields.proofs.FieldTexts.{widths}
 use Rattle.kinds.specs.declared.Kind.{Kind}
 use Rattle.kinds.specs.declared.Kind.the-variants.{Set, Ctr, Def, Enr, Demmespc, I, Demcf, Adc, Ri, Cdt, Demmhs, Sus, Jour, Unknown}
 use Rattle.message.specs.declared.Message.{Message}

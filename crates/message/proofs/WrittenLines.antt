@@ -6,8 +6,8 @@ use mathlib.Core.List.{List, [], _++_}
 use native.Mathlib.Omega.{arith}
 use native.Mathlib.Nat.{zero-add}
 use lib.ListN.{length, take, replicate}
-use Rattle.text.specs.declared.Shape.{Shape}
-use Rattle.text.specs.Fields.{fieldsText, fitAll, sortsOf}
+use Rattle.fields.specs.declared.Shape.{Shape}
+use Rattle.fields.specs.Fields.{fieldsText, fitAll, sortsOf}
 use Rattle.text.specs.Appending.{put, Appended}
 use Rattle.text.proofs.Appends.{room-put, appended-length, rest-start, rest-next, rest-done}
 use Rattle.message.specs.declared.Line.{Line}

@@ -5,8 +5,8 @@ use mathlib.Core.Bool.{Bool, false, cond}
 use mathlib.Core.List.{List, [], _∷_}
 use lib.Dec.{eqb}
 use lib.ListN.{take, drop}
-use Rattle.text.specs.declared.KnownDate.{KnownDate}
-use Rattle.text.specs.Known.{IsKnown}
+use Rattle.fields.specs.declared.KnownDate.{KnownDate}
+use Rattle.fields.specs.Known.{IsKnown}
 use Rattle.input.specs.Lines.{untilFeed}
 use Rattle.message.specs.declared.Taken.{Taken}
 use Rattle.message.specs.Reading.{readLine}

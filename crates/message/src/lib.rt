@@ -3,10 +3,10 @@ pub mod next;
 pub mod read;
 pub mod write;
 
+use fields::KnownDate;
 use kinds::Kind;
 use rules::Call;
 use rules::Opening;
-use text::KnownDate;
 
 // What a line says: an opening, one of the twelve calls, or nothing that can be read.
 pub enum Message {

@@ -3,11 +3,11 @@ use crate::Message;
 use crate::Taken;
 use crate::read::message_of;
 use crate::read::read_line;
+use fields::KnownDate;
+use fields::read_row;
 use input::line_end;
 use kinds::words::kind_named;
 use kinds::words::shape_of;
-use text::KnownDate;
-use text::read::fields;
 ghost use mathlib.Core.Path.{_≡_};
 ghost use Prim.Native.Nat.{_+_, _≤_};
 ghost use lib.ListN.{length, drop};
@@ -28,7 +28,7 @@ pub fn next_line(buf: &[u8], from: usize, last: KnownDate) -> Taken
     let kind = kind_named(&buf[from..word_end]);
     let shape = shape_of(kind);
     let mut values = [0u64; 7];
-    let row = fields(buf, word_end, shape, last, &mut values);
+    let row = read_row(buf, word_end, shape, last, &mut values);
     let known = row.known;
     if row.ok {
         if is_feed(buf, row.end) {

@@ -1,5 +1,7 @@
 // Reading a line.
 use crate::Message;
+use fields::first_known;
+use fields::read_row;
 use kinds::Kind;
 use kinds::words::kind_named;
 use kinds::words::shape_of;
@@ -7,8 +9,6 @@ use rules::Action;
 use rules::Call;
 use rules::Opening;
 use rules::PointAction;
-use text::read::fields;
-use text::read::first_known;
 ghost use mathlib.Core.Path.{_≡_};
 ghost use Prim.Native.Nat.{_≤_};
 ghost use lib.ListN.{length};
@@ -29,7 +29,7 @@ pub fn read_line(line: &[u8]) -> Message
     let kind = kind_named(&line[..end]);
     let shape = shape_of(kind);
     let mut values = [0u64; 7];
-    let row = fields(line, end, shape, first_known(), &mut values);
+    let row = read_row(line, end, shape, first_known(), &mut values);
     if !row.ok {
         return Message::Unreadable;
     }

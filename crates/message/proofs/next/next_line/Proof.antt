@@ -29,8 +29,8 @@ kind-named-requires c κs = search needs
 shape-of-requires : tie.Need-shape-of-requires
 shape-of-requires c κs = search needs
 
-fields-requires : tie.Need-fields-requires
-fields-requires c κs = search needs
+read-row-requires : tie.Need-read-row-requires
+read-row-requires c κs = search needs
 
 is-feed-requires : tie.Need-is-feed-requires
 is-feed-requires c κs = search needs
@@ -50,10 +50,10 @@ returns-2 c =
     let c₁₃ = c₁₁ .before .before in
     let a = c₁₃ .args in
     λ k.
-    let read = c₅ .fields .ensures k in
+    let read = c₅ .read-row .ensures k in
     let feed = sym (c₂ .is-feed .ensures) ∙ c .before .if3 .taken in
     next-by-fields (a .buf .now) (a .from) (c₁₀ .word-end-from .result) (c₈ .kind-named .result)
-    (c₇ .shape-of .result) _ (c₅ .fields .result)
+    (c₇ .shape-of .result) _ (c₅ .read-row .result)
     (c .message-of .result) (c₁₁ .if1 .left) (c₁₀ .word-end-from .ensures .0) (c₈ .kind-named .ensures)
     (c₇ .shape-of .ensures) (read .0) (c₃ .if2 .taken)
     feed (c .message-of .ensures) (read .1)
@@ -77,7 +77,7 @@ returns-3 : tie.Need-returns-3
 returns-3 c =
     let c₂ = c .before .before in
     let c₅ = c₂ .before .before .before in
-    λ k. next-by-end _ _ _ _ _ (c₂ .line-end .ensures) (c .read-line .ensures) (c₅ .fields .ensures k .1)
+    λ k. next-by-end _ _ _ _ _ (c₂ .line-end .ensures) (c .read-line .ensures) (c₅ .read-row .ensures k .1)
 
 pub next-line-spec : {M : Type 1} → statement M
 next-line-spec =
@@ -90,7 +90,7 @@ next-line-spec =
     part-kind-named-end
     kind-named-requires
     shape-of-requires
-    fields-requires
+    read-row-requires
     is-feed-requires
     message-of-requires
     returns-2

@@ -27,8 +27,8 @@ shape-of-requires c κs = search needs
 first-known-requires : tie.Need-first-known-requires
 first-known-requires c κs = search needs
 
-fields-requires : tie.Need-fields-requires
-fields-requires c κs = search needs
+read-row-requires : tie.Need-read-row-requires
+read-row-requires c κs = search needs
 
 returns-2 : tie.Need-returns-2
 returns-2 c =
@@ -40,10 +40,10 @@ returns-2 c =
     let c₉ = c₈ .before in
     let c₁₁ = c₉ .before .before in
     let s = c₁₁ in
-    let read = c₂ .fields .ensures (c₄ .first-known .ensures) in
+    let read = c₂ .read-row .ensures (c₄ .first-known .ensures) in
     let with = line-with (s .args .line .now) _ _ _ _ (c₉ .if1 .left) (c₈ .word-end .ensures .0)
     (c₆ .kind-named .ensures) (c₅ .shape-of .ensures) (read .0) in
-    sym (with ∙ rw (not-true (c₂ .fields .result .ok) (c .if2 .taken)))
+    sym (with ∙ rw (not-true (c₂ .read-row .result .ok) (c .if2 .taken)))
 
 returns-3 : tie.Need-returns-3
 returns-3 c =
@@ -56,10 +56,10 @@ returns-3 c =
     let c₁₁ = c₁₀ .before in
     let c₁₃ = c₁₁ .before .before in
     let s = c₁₃ in
-    let read = c₄ .fields .ensures (c₆ .first-known .ensures) in
+    let read = c₄ .read-row .ensures (c₆ .first-known .ensures) in
     let with = line-with (s .args .line .now) _ _ _ _ (c₁₁ .if1 .left) (c₁₀ .word-end .ensures .0)
     (c₈ .kind-named .ensures) (c₇ .shape-of .ensures) (read .0) in
-    sym (with ∙ rw (not-false (c₄ .fields .result .ok) (c₂ .if2 .left))
+    sym (with ∙ rw (not-false (c₄ .read-row .result .ok) (c₂ .if2 .left))
     (with-more (c₈ .kind-named .result) _ (s .args .line .now) _ (c .if3 .taken)))
 
 message-of-requires : tie.Need-message-of-requires
@@ -76,10 +76,10 @@ returns-4 c =
     let c₁₂ = c₁₁ .before in
     let c₁₄ = c₁₂ .before .before in
     let s = c₁₄ in
-    let read = c₅ .fields .ensures (c₇ .first-known .ensures) in
+    let read = c₅ .read-row .ensures (c₇ .first-known .ensures) in
     let with = line-with (s .args .line .now) _ _ _ _ (c₁₂ .if1 .left) (c₁₁ .word-end .ensures .0)
     (c₉ .kind-named .ensures) (c₈ .shape-of .ensures) (read .0) in
-    c .message-of .ensures ∙ sym (with ∙ rw (not-false (c₅ .fields .result .ok) (c₃ .if2 .left))
+    c .message-of .ensures ∙ sym (with ∙ rw (not-false (c₅ .read-row .result .ok) (c₃ .if2 .left))
     (with-all (c₉ .kind-named .result) (c₈ .shape-of .result) _ (s .args .line .now) _ (c₈ .shape-of .ensures)
     (c .before .if3 .left)))
 
@@ -93,7 +93,7 @@ read-line-spec =
     kind-named-requires
     shape-of-requires
     first-known-requires
-    fields-requires
+    read-row-requires
     returns-2
     returns-3
     message-of-requires

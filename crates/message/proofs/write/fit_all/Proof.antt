@@ -5,7 +5,7 @@ use mathlib.Core.Bool.{Bool, _&&_}
 use native.Mathlib.Omega.{arith}
 use borrow.Author.Tests.{not-true, not-false}
 use lib.ListN.{length, take}
-use Rattle.text.specs.Fields.{fitAll, sortsFrom}
+use Rattle.fields.specs.Fields.{fitAll, sortsFrom}
 use Rattle.message.proofs.FieldLoops.{left, fit-next, fit-none}
 use borrow.Author.Needs.{needs}
 use Rattle.message.proofs.write.fit_all.Statement.{statement}

@@ -4,9 +4,9 @@ use mathlib.Core.Path.{_≡_, refl, sym, ap, _∙_}
 use mathlib.Core.List.{[], _∷_, _++_}
 use native.Mathlib.Omega.{arith}
 use lib.ListN.{length}
-use Rattle.text.specs.declared.Sort.the-variants.{Date, Number}
-use Rattle.text.specs.Fields.{fieldText}
-use Rattle.text.proofs.FieldTexts.{field-short}
+use Rattle.fields.specs.declared.Sort.the-variants.{Date, Number}
+use Rattle.fields.specs.Fields.{fieldText}
+use Rattle.fields.proofs.FieldTexts.{field-short}
 use Rattle.text.proofs.Appends.{rest-start, rest-next, rest-done}
 use borrow.Author.Needs.{needs}
 use Rattle.message.proofs.write.put_field.Statement.{statement}

@@ -6,7 +6,7 @@ use mathlib.Core.List.{[]}
 use native.Mathlib.Omega.{arith}
 use lib.ListN.{length, take, getD}
 use Rattle.dates.proofs.Every.{and-left, and-right}
-use Rattle.text.specs.Fields.{fieldText, fieldsText, fits, fitAll, sortAt, sortsFrom}
+use Rattle.fields.specs.Fields.{fieldText, fieldsText, fits, fitAll, sortAt, sortsFrom}
 use Rattle.text.proofs.Appends.{Rest, room-put, appended-length, rest-start, rest-next, rest-none}
 use Rattle.message.proofs.FieldLoops.{left, fit-next, text-next, text-none, row-short, field-few}
 use borrow.Author.Needs.{needs}

@@ -3,7 +3,7 @@ use mathlib.Core.Path.{_≡_, refl, sym, ap, _∙_}
 use lib.ListN.{length, take, drop, getD, length-drop}
 use lib.Seq.{take-all}
 use native.Mathlib.Omega.{arith}
-use Rattle.text.specs.Known.{IsKnown}
+use Rattle.fields.specs.Known.{IsKnown}
 use Rattle.input.specs.Lines.{untilFeed}
 use Rattle.input.specs.Part.{kept}
 use Rattle.desk.specs.Desk.{desk}
@@ -28,7 +28,7 @@ use Rattle.message.proofs.write.kind_of.Reads as kind-of-reads
 use Rattle.session.proofs.pieces.at_end.Reads as at-end-reads
 use Rattle.session.proofs.pieces.quiet_with.Reads as quiet-with-reads
 use Rattle.session.proofs.pieces.whole_message.Reads as whole-message-reads
-use Rattle.text.proofs.read.first_known.Reads as first-known-reads
+use Rattle.fields.proofs.first_known.Reads as first-known-reads
 
 abbrev Inv-loop : tie.InvT-loop
 Inv-loop piece out₀ part₀ ready₀ reg₀ quiet₀ known₀ at₀ written₀ out part ready reg quiet known at written =

@@ -1,9 +1,7 @@
 -- `text::write::put_date` meets its contract: eight stores, or none.
-use Prim.Native.Nat.{ℕ, _+_}
-use mathlib.Core.Path.{_≡_, refl, sym, _∙_}
 use mathlib.Core.List.{[]}
 use native.Mathlib.Omega.{arith}
-use lib.ListN.{length, length-set}
+use lib.ListN.{length-set}
 use Rattle.text.specs.Days.{dateText}
 use Rattle.text.proofs.DayTexts.{date-length}
 use Rattle.text.proofs.DigitSteps.{date-put}

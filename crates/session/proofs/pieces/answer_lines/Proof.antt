@@ -23,8 +23,8 @@ use Rattle.desk.proofs.signed_after.Reads as signed-after-reads
 use Rattle.desk.proofs.supplier_of.Reads as supplier-of-reads
 use Rattle.desk.proofs.turn_of.Reads as turn-of-reads
 use Rattle.desk.proofs.respond.Reads as respond-reads
-use Rattle.message.proofs.next.next_line.Reads as next-line-reads
-use Rattle.message.proofs.write.kind_of.Reads as kind-of-reads
+use Rattle.next_line.proofs.next_line.Reads as next-line-reads
+use Rattle.message_lines.proofs.kind_of.Reads as kind-of-reads
 use Rattle.session.proofs.pieces.at_end.Reads as at-end-reads
 use Rattle.session.proofs.pieces.quiet_with.Reads as quiet-with-reads
 use Rattle.session.proofs.pieces.whole_message.Reads as whole-message-reads

@@ -8,9 +8,9 @@ use native.Mathlib.Omega.{arith}
 use lib.ListN.{length, take, drop, set, getD, drop-of-length-le}
 use lib.Seq.{drop-cons, take-suc-set}
 use borrow.Author.Tests.{le-leb, lt-leb, eq-eqb, ne-eqb}
+use Rattle.reading.specs.Numbers.{number, bad}
 use Rattle.fields.specs.declared.Sort.{Sort}
 use Rattle.fields.specs.declared.Shape.{Shape}
-use Rattle.reading.specs.Numbers.{number, bad}
 use Rattle.fields.specs.Fields.{valueOf, fieldOf, values, unread, fieldsOf, sortAt, sortsFrom, sortsOf, fieldsIn}
 
 -- one field: at the line's end, at another byte, and at its `;`

@@ -9,15 +9,15 @@ use lib.ListN.{length, length-append}
 use borrow.Author.Tests.{eqb-true, leb-true, ltb-true, le-leb, lt-ltb}
 use Rattle.dates.specs.Dates.{lastDay}
 use Rattle.dates.proofs.Every.{and-left, and-right}
-use Rattle.fields.specs.declared.Sort.{Sort}
-use Rattle.fields.specs.declared.Sort.the-variants.{Date, Number}
+use Rattle.text.proofs.DayTexts.{day-append, day-length}
+use Rattle.text.proofs.Spelling.{decimal-append, decimal-length}
 use Rattle.reading.specs.Numbers.{Read, number, bad}
 use Rattle.reading.specs.OneText.{Stops}
-use Rattle.fields.specs.Fields.{fieldText, fits, fieldsText, fitAll, valueOf, fieldOf, values, andThen, fieldsOf}
 use Rattle.reading.proofs.Numbers.{number-back, number-only}
-use Rattle.text.proofs.DayTexts.{day-append, day-length}
 use Rattle.reading.proofs.Days.{day-back, day-only}
-use Rattle.text.proofs.Spelling.{decimal-append, decimal-length}
+use Rattle.fields.specs.declared.Sort.{Sort}
+use Rattle.fields.specs.declared.Sort.the-variants.{Date, Number}
+use Rattle.fields.specs.Fields.{fieldText, fits, fieldsText, fitAll, valueOf, fieldOf, values, andThen, fieldsOf}
 
 -- a field is followed by a `;` or by nothing
 fields-stop : (ks : List Sort) (ns : List ℕ) → Stops (fieldsText ks ns)

@@ -9,14 +9,14 @@ use lib.Seq.{drop-cons, drop-drop, take-add, take-at, length-take-le}
 use Rattle.dates.specs.declared.DateAnswer.{DateAnswer}
 use Rattle.dates.specs.declared.DateAnswer.the-variants.{On, OffCalendar}
 use Rattle.dates.specs.Numbers.{dateAnswer}
-use Rattle.fields.specs.declared.KnownDate.{KnownDate}
 use Rattle.text.specs.Decimal.{fixed}
-use Rattle.reading.specs.Numbers.{Read, number, bad}
 use Rattle.text.specs.Days.{answerText, dayText}
-use Rattle.reading.specs.Days.{dayIn}
-use Rattle.fields.specs.Known.{packed, AreBytes, IsKnown}
 use Rattle.text.proofs.DayTexts.{day-append, day-length}
+use Rattle.reading.specs.Numbers.{Read, number, bad}
+use Rattle.reading.specs.Days.{dayIn}
 use Rattle.reading.proofs.Days.{day-back, day-only}
+use Rattle.fields.specs.declared.KnownDate.{KnownDate}
+use Rattle.fields.specs.Known.{packed, AreBytes, IsKnown}
 
 -- two texts of bytes, as long as each other, with the same number are the same
 pub one-packed : (a b : List ℕ) → AreBytes a → AreBytes b → length a ≡ length b → packed a ≡ packed b → a ≡ b

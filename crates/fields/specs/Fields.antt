@@ -7,6 +7,10 @@ use mathlib.Core.Path.{_≡_}
 use lib.Dec.{leb, ltb, eqb}
 use lib.ListN.{take, drop}
 use Rattle.dates.specs.Dates.{lastDay}
+use Rattle.text.specs.Decimal.{decimal}
+use Rattle.text.specs.Days.{dayText}
+use Rattle.reading.specs.Numbers.{Read, number, bad, numberOf}
+use Rattle.reading.specs.Days.{dayIn}
 use Rattle.fields.specs.declared.Sort.{Sort}
 use Rattle.fields.specs.declared.Sort.the-variants.{Date, Number}
 use Rattle.fields.specs.declared.Shape.{Shape}
@@ -14,10 +18,6 @@ use Rattle.fields.specs.declared.KnownDate.{KnownDate}
 use Rattle.fields.specs.declared.Row.{Row}
 use Rattle.fields.specs.declared.Step.{Step}
 use Rattle.fields.specs.declared.Step.the-variants.{On, Bad}
-use Rattle.text.specs.Decimal.{decimal}
-use Rattle.reading.specs.Numbers.{Read, number, bad, numberOf}
-use Rattle.text.specs.Days.{dayText}
-use Rattle.reading.specs.Days.{dayIn}
 use Rattle.fields.specs.Known.{IsKnown}
 
 -- A field's text in front of l: 59 is the byte of `;`.
@@ -96,8 +96,7 @@ KnownAfter (On v next known) = IsKnown known
 KnownAfter Bad = Unit {0}
 
 -- What it means that a field is read as x says, and that the fields of a shape are read from a position on: where
--- the last date
--- was known, this is what is read, and the last date stays known.
+-- the last date was known, this is what is read, and the last date stays known.
 abbrev pub ReadStep : KnownDate → Read → List ℕ → Step → Type 0
 ReadStep last x s r = IsKnown last → (x ≡ stepIn s r) × KnownAfter r
 

@@ -4,8 +4,8 @@ use Prim.Native.Nat.{ℕ, _+_, _*_, _<_, _≤_}
 use mathlib.Core.Path.{_≡_}
 use mathlib.Core.List.{List, [], _∷_}
 use Rattle.dates.specs.Dates.{lastDay}
-use Rattle.fields.specs.declared.KnownDate.{KnownDate}
 use Rattle.text.specs.Days.{dayText}
+use Rattle.fields.specs.declared.KnownDate.{KnownDate}
 
 -- The bytes of a text as one number, the first byte the lowest.
 abbrev pub packed : List ℕ → ℕ

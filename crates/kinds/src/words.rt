@@ -6,8 +6,8 @@ use reading::same;
 use text::write::put_word;
 ghost use mathlib.Core.Path.{_≡_};
 ghost use mathlib.Core.Bool.{cond};
-ghost use Rattle.reading.specs.Words.{isSame};
 ghost use Rattle.text.specs.Appending.{Appended};
+ghost use Rattle.reading.specs.Words.{isSame};
 ghost use Rattle.kinds.specs.Kinds.{word as Kinds·word, paddedWord, threes, kindIn, kindNamed, shapeOf};
 
 // The word of each kind.

@@ -11,10 +11,10 @@ use Rattle.fields.specs.Fields.{Values, values, fieldsIn}
 use Rattle.fields.proofs.FieldSteps.{fields-are}
 use Rattle.kinds.specs.declared.Kind.{Kind}
 use Rattle.kinds.specs.Kinds.{kindNamed, shapeOf}
+use Rattle.kinds.proofs.KindTable.{few}
 use Rattle.message.specs.declared.Message.the-variants.{Unreadable}
 use Rattle.message.specs.Lines.{messageOf}
 use Rattle.message.specs.Reading.{wordEnd, messageWith, readLine}
-use Rattle.kinds.proofs.KindTable.{few}
 use Rattle.message.proofs.Rows.{firsts, own-enough}
 
 -- what a line says, from what its parts say

@@ -12,14 +12,14 @@ use Rattle.fields.specs.Fields.{Values, values, unread, fieldsText, fitAll, fie
 use Rattle.fields.proofs.FieldTexts.{fields-back, FieldsAre, fields-only, fields-short, fit-count}
 use Rattle.kinds.specs.declared.Kind.{Kind}
 use Rattle.kinds.specs.declared.Kind.the-variants.{Unknown}
+use Rattle.kinds.specs.Kinds.{word, kinds, kindNamed, shapeOf}
+use Rattle.kinds.proofs.Naming.{Found, named, unnamed, found}
 use Rattle.message.specs.declared.Message.{Message}
 use Rattle.message.specs.declared.Message.the-variants.{Open, Ask, Unreadable}
-use Rattle.kinds.specs.Kinds.{word, kinds, kindNamed, shapeOf}
 use Rattle.message.specs.Lines.{lineOf, kindOf, partsOf, messageOf}
 use Rattle.message.specs.Reading.{wordEnd, messageWith, messageAs, readLine}
 use Rattle.message.specs.Writing.{isWritable, textOf}
 use Rattle.message.specs.OneLine.{OneLine}
-use Rattle.kinds.proofs.Naming.{Found, named, unnamed, found}
 use Rattle.message.proofs.Rows.{firsts-take, own, own-enough, row, parts-back, known}
 
 -- the line of a kind and its values

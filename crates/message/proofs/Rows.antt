@@ -15,9 +15,9 @@ use Rattle.fields.specs.Fields.{fieldsText, fitAll, sortsFrom, sortsOf}
 use Rattle.fields.proofs.FieldTexts.{widths}
 use Rattle.kinds.specs.declared.Kind.{Kind}
 use Rattle.kinds.specs.declared.Kind.the-variants.{Set, Ctr, Def, Enr, Demmespc, I, Demcf, Adc, Ri, Cdt, Demmhs, Sus, Jour, Unknown}
+use Rattle.kinds.specs.Kinds.{word, kindIn, kindNamed, shapeOf}
 use Rattle.message.specs.declared.Message.{Message}
 use Rattle.message.specs.declared.Message.the-variants.{Open, Ask, Unreadable}
-use Rattle.kinds.specs.Kinds.{word, kindIn, kindNamed, shapeOf}
 use Rattle.message.specs.Lines.{lineOf, kindOf, partsOf, messageOf, ask}
 use Rattle.message.specs.Reading.{wordEnd}
 use Rattle.message.specs.Writing.{isWritable, fitParts}

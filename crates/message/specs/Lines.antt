@@ -11,10 +11,10 @@ use Rattle.fields.specs.declared.Sort.the-variants.{Date, Number}
 use Rattle.fields.specs.Fields.{fieldText}
 use Rattle.kinds.specs.declared.Kind.{Kind}
 use Rattle.kinds.specs.declared.Kind.the-variants.{Set, Ctr, Def, Enr, Demmespc, I, Demcf, Adc, Ri, Cdt, Demmhs, Sus, Jour, Unknown}
+use Rattle.kinds.specs.Kinds.{word}
 use Rattle.message.specs.declared.Message.{Message}
 use Rattle.message.specs.declared.Message.the-variants.{Open, Ask, Unreadable}
 use Rattle.message.specs.declared.Parts.{Parts}
-use Rattle.kinds.specs.Kinds.{word}
 
 -- A `;` and a date, or a `;` and a number, and then the text l.
 abbrev pub date : ℕ → List ℕ → List ℕ

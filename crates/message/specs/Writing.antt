@@ -4,10 +4,10 @@ use mathlib.Core.Bool.{Bool, false, cond}
 use mathlib.Core.List.{List, []}
 use lib.ListN.{take}
 use Rattle.fields.specs.Fields.{sortsOf, fitAll}
+use Rattle.kinds.specs.Kinds.{shapeOf}
 use Rattle.message.specs.declared.Message.{Message}
 use Rattle.message.specs.declared.Message.the-variants.{Open, Ask, Unreadable}
 use Rattle.message.specs.declared.Parts.{Parts}
-use Rattle.kinds.specs.Kinds.{shapeOf}
 use Rattle.message.specs.Lines.{lineOf, partsOf}
 
 -- Each day is in the calendar, and each number has at most 12 digits.

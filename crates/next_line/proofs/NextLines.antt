@@ -10,9 +10,9 @@ use lib.Dec.{leb, eqb}
 use lib.ListN.{length, take, drop, getD, length-append, length-drop, take-append-drop, drop-of-length-le}
 use lib.Seq.{drop-cons, drop-drop, take-at, take-length}
 use borrow.Author.Tests.{eqb-true, eq-eqb, ne-eqb}
+use Rattle.reading.specs.Words.{isSame}
 use Rattle.fields.specs.Fields.{values, fieldsText, sortsFrom, sortsOf, fieldsOf, fieldsIn, rowIn}
 use Rattle.fields.specs.Known.{IsKnown}
-use Rattle.reading.specs.Words.{isSame}
 use Rattle.fields.specs.declared.KnownDate.{KnownDate}
 use Rattle.fields.specs.declared.Row.{Row}
 use Rattle.fields.specs.declared.Shape.{Shape}
@@ -23,14 +23,14 @@ use Rattle.kinds.specs.declared.Kind.the-variants.{Set, Ctr, Def, Enr, Demmespc
 use Rattle.kinds.specs.Kinds.{word, kinds, kindIn, kindNamed, shapeOf}
 use Rattle.kinds.proofs.KindTable.{few}
 use Rattle.kinds.proofs.Naming.{Found, named, unnamed, found}
+use Rattle.input.specs.Lines.{untilFeed}
 use Rattle.message.specs.declared.Message.{Message}
 use Rattle.message.specs.declared.Message.the-variants.{Unreadable}
 use Rattle.message.specs.Lines.{messageOf}
 use Rattle.message.specs.Reading.{wordEnd, readLine}
-use Rattle.input.specs.Lines.{untilFeed}
-use Rattle.next_line.specs.NextLine.{firstLine, feedFirst, stopAt, IsNext}
 use Rattle.message.proofs.LineTexts.{message-first}
 use Rattle.message.proofs.OneLine.{line-is, its-line-back}
+use Rattle.next_line.specs.NextLine.{firstLine, feedFirst, stopAt, IsNext}
 use Rattle.next_line.proofs.PlainTexts.{Plain, plain-end, plain-append, plain-fields, plain-word}
 
 -- one step of looking for the end of a word, and of a line

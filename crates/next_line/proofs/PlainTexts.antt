@@ -10,10 +10,10 @@ use borrow.Author.Tests.{ne-eqb}
 use Rattle.dates.specs.declared.DateAnswer.{DateAnswer}
 use Rattle.dates.specs.declared.DateAnswer.the-variants.{On, OffCalendar}
 use Rattle.dates.specs.Numbers.{dateAnswer}
-use Rattle.fields.specs.declared.Sort.{Sort}
-use Rattle.fields.specs.declared.Sort.the-variants.{Date, Number}
 use Rattle.text.specs.Decimal.{spell, fixed}
 use Rattle.text.specs.Days.{answerText, dayText}
+use Rattle.fields.specs.declared.Sort.{Sort}
+use Rattle.fields.specs.declared.Sort.the-variants.{Date, Number}
 use Rattle.fields.specs.Fields.{fieldsText}
 use Rattle.kinds.specs.declared.Kind.{Kind}
 use Rattle.kinds.specs.declared.Kind.the-variants.{Set, Ctr, Def, Enr, Demmespc, I, Demcf, Adc, Ri, Cdt, Demmhs, Sus, Jour, Unknown}

@@ -8,8 +8,8 @@ use lib.ListN.{take, drop}
 use Rattle.fields.specs.declared.KnownDate.{KnownDate}
 use Rattle.fields.specs.Known.{IsKnown}
 use Rattle.input.specs.Lines.{untilFeed}
-use Rattle.next_line.specs.declared.Taken.{Taken}
 use Rattle.message.specs.Reading.{readLine}
+use Rattle.next_line.specs.declared.Taken.{Taken}
 
 -- The first line of a text, without its line feed.
 abbrev pub firstLine : List ℕ → List ℕ
@@ -26,7 +26,7 @@ stopAt [] = 0
 stopAt (c ∷ l) = cond (eqb c 59) 0 (cond (eqb c 10) 0 (suc (stopAt l)))
 
 -- What is taken from a position of an input on: what its first line says, the position of that line's end, and a
--- known date.
+-- date that is known.
 pub record IsNext (l : List ℕ) (from : ℕ) (t : Taken) : Type 0 where
   pub message : t .message ≡ readLine (firstLine (drop from l))
   pub end : t .end ≡ from + untilFeed (drop from l)

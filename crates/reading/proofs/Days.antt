@@ -14,8 +14,8 @@ use Rattle.dates.proofs.Months.{row-is, length-bounds}
 use Rattle.dates.proofs.Real.{real-is}
 use Rattle.dates.proofs.OneToOne.{one-to-one}
 use Rattle.text.specs.Decimal.{fixed}
-use Rattle.reading.specs.Numbers.{fixedOf, Read, number, bad}
 use Rattle.text.specs.Days.{dateText, dayText}
+use Rattle.reading.specs.Numbers.{fixedOf, Read, number, bad}
 use Rattle.reading.specs.Days.{andThen, dayRead, dayIn}
 use Rattle.reading.proofs.Fixed.{fixed-back, fixed-only}
 

@@ -9,9 +9,9 @@ use lib.Arith.{digits-div, digits-mod}
 use borrow.Author.Tests.{ltb-true, ltb-false, leb-true, lt-ltb, le-ltb, le-leb, ne-eqb, eqb-true, eqb-false}
 use Rattle.dates.proofs.Every.{and-left, and-right}
 use Rattle.text.specs.Decimal.{spell, decimal}
+use Rattle.text.proofs.Spelling.{spell-room}
 use Rattle.reading.specs.Numbers.{number, bad, isDigit, moreOf, numberOf}
 use Rattle.reading.specs.OneText.{Stops}
-use Rattle.text.proofs.Spelling.{spell-room}
 
 -- 0 is read by itself: no digit follows it
 zero-back : (l : List ℕ) → numberOf (48 ∷ l) ≡ number 0 l

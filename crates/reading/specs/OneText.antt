@@ -6,8 +6,8 @@ use mathlib.Core.Bool.{false}
 use mathlib.Core.List.{List, [], _∷_}
 use Rattle.dates.specs.Dates.{lastDay}
 use Rattle.text.specs.Decimal.{decimal}
-use Rattle.reading.specs.Numbers.{number, numberOf, isDigit}
 use Rattle.text.specs.Days.{dayText}
+use Rattle.reading.specs.Numbers.{number, numberOf, isDigit}
 use Rattle.reading.specs.Days.{dayIn}
 
 -- A text that does not go on with a digit.

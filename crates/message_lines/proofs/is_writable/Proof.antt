@@ -2,9 +2,9 @@
 use mathlib.Core.Path.{_≡_, sym, _∙_}
 use mathlib.Core.Logic.{⊎-elim}
 use native.Mathlib.Omega.{arith}
+use Rattle.kinds.proofs.KindTable.{few}
 use Rattle.message.specs.declared.Message.the-variants.{Unreadable}
 use Rattle.message.specs.Writing.{isWritable}
-use Rattle.kinds.proofs.KindTable.{few}
 use Rattle.message.proofs.Rows.{writable-parts}
 use borrow.Author.Needs.{needs}
 use Rattle.message_lines.proofs.is_writable.Statement.{statement}

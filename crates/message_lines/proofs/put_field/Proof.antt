@@ -1,10 +1,10 @@
 -- `message_lines::put_field` meets its contract: the `;`, and then what the sort asks for.
 use mathlib.Core.List.{[], _∷_}
 use native.Mathlib.Omega.{arith}
+use Rattle.text.proofs.Appends.{rest-start, rest-next, rest-done}
 use Rattle.fields.specs.declared.Sort.the-variants.{Date, Number}
 use Rattle.fields.specs.Fields.{fieldText}
 use Rattle.fields.proofs.FieldTexts.{field-short}
-use Rattle.text.proofs.Appends.{rest-start, rest-next, rest-done}
 use borrow.Author.Needs.{needs}
 use Rattle.message_lines.proofs.put_field.Statement.{statement}
 use Rattle.message_lines.proofs.put_field.Tie as tie

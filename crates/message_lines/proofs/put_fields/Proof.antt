@@ -6,8 +6,8 @@ use mathlib.Core.List.{[]}
 use native.Mathlib.Omega.{arith}
 use lib.ListN.{length, take, getD}
 use Rattle.dates.proofs.Every.{and-left, and-right}
-use Rattle.fields.specs.Fields.{fieldText, fieldsText, fits, fitAll, sortAt, sortsFrom}
 use Rattle.text.proofs.Appends.{Rest, room-put, appended-length, rest-start, rest-next, rest-none}
+use Rattle.fields.specs.Fields.{fieldText, fieldsText, fits, fitAll, sortAt, sortsFrom}
 use Rattle.message_lines.proofs.FieldLoops.{left, fit-next, text-next, text-none, row-short, field-few}
 use borrow.Author.Needs.{needs}
 use Rattle.message_lines.proofs.put_fields.Statement.{statement}

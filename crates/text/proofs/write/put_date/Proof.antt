@@ -119,17 +119,16 @@ returns-3 c =
     let a = c₁₄ .args in
     let eight = date-length (a .x) in
     appended (a .at) (dateText (a .x) []) (a .out .now) _ _ (omega arith)
-    (rw (
-      c₇ .digit-of .ensures,
-      c₆ .digit-of2 .ensures,
-      c₅ .digit-of3 .ensures,
-      c₄ .digit-of4 .ensures,
-      c₃ .digit-of5 .ensures,
-      c₂ .digit-of6 .ensures,
-      c .before .digit-of7 .ensures,
-      c .digit-of8 .ensures,
-    )
-    (date-put (a .x) (a .at) (a .out .now) (omega arith)))
+    (date-put (a .x) _ _ _ _ _ _ _ _
+    (c₇ .digit-of .ensures)
+    (c₆ .digit-of2 .ensures)
+    (c₅ .digit-of3 .ensures)
+    (c₄ .digit-of4 .ensures)
+    (c₃ .digit-of5 .ensures)
+    (c₂ .digit-of6 .ensures)
+    (c .before .digit-of7 .ensures)
+    (c .digit-of8 .ensures)
+    (a .at) (a .out .now) (omega arith))
     (omega arith)
 
 pub put-date-spec : {M : Type 1} → statement M

@@ -2,9 +2,10 @@
 use mathlib.Core.Path.{refl}
 use Rattle.dates.specs.Dates.{leapRow, monthLength}
 use Rattle.dates.specs.Numbers.{monthStart, yearStart, dayNumber, isReal, dayAnswer}
-use Rattle.text.specs.Words.{isSame}
-use Rattle.text.specs.Decimal.{spell, numberOf, moreOf, fixedOf}
-use Rattle.text.specs.Days.{dayIn}
+use Rattle.reading.specs.Words.{isSame}
+use Rattle.text.specs.Decimal.{spell}
+use Rattle.reading.specs.Numbers.{numberOf, moreOf, fixedOf}
+use Rattle.reading.specs.Days.{dayIn}
 use Rattle.asking.specs.Lines.{holderReply, periodReply, advanceReply, head, usage}
 use Rattle.asking.specs.Asking.{numberValue, dateValue, byOne, byTwo, byThree, askedBy}
 use Rattle.asking.specs.All.{each, questionsIn}

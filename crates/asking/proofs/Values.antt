@@ -8,11 +8,11 @@ use lib.Dec.{ltb}
 use lib.ListN.{length, drop, length-drop}
 use lib.Seq.{drop-cons}
 use borrow.Author.Tests.{ltb-true, ltb-false, lt-ltb, le-ltb, ne-eqb}
-use Rattle.text.specs.declared.Field.{Field}
-use Rattle.text.specs.declared.Field.the-variants as field
+use Rattle.reading.specs.declared.Field.{Field}
+use Rattle.reading.specs.declared.Field.the-variants as field
 use Rattle.text.specs.Ascii.{ascii}
-use Rattle.text.specs.Words.{isSame}
-use Rattle.text.specs.Decimal.{number, readIn}
+use Rattle.reading.specs.Words.{isSame}
+use Rattle.reading.specs.Numbers.{number, readIn}
 use Rattle.asking.specs.declared.Value.the-variants.{Is, Nothing}
 use Rattle.asking.specs.declared.Asked.the-variants.{Unknown}
 use Rattle.asking.specs.Asking.{valueOf, wholeOf, numberValue, dateValue, holderAsked, periodAsked}

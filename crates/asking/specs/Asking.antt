@@ -3,12 +3,12 @@ use Prim.Native.Nat.{ℕ}
 use mathlib.Core.Bool.{cond}
 use mathlib.Core.List.{List, [], _∷_}
 use lib.Dec.{eqb, ltb}
-use Rattle.text.specs.declared.Field.{Field}
-use Rattle.text.specs.declared.Field.the-variants as field
+use Rattle.reading.specs.declared.Field.{Field}
+use Rattle.reading.specs.declared.Field.the-variants as field
 use Rattle.text.specs.Ascii.{ascii}
-use Rattle.text.specs.Words.{isSame}
-use Rattle.text.specs.Decimal.{Read, number, bad, numberOf}
-use Rattle.text.specs.Days.{dayIn}
+use Rattle.reading.specs.Words.{isSame}
+use Rattle.reading.specs.Numbers.{Read, number, bad, numberOf}
+use Rattle.reading.specs.Days.{dayIn}
 use Rattle.asking.specs.declared.Question.the-variants.{Holder, Period, Advance}
 use Rattle.asking.specs.declared.Value.{Value}
 use Rattle.asking.specs.declared.Value.the-variants.{Is, Nothing}

@@ -2,10 +2,10 @@
 use crate::Asked;
 use crate::Question;
 use crate::Value;
-use text::Field;
-use text::read::date_at;
-use text::read::number_at;
-use text::read::same;
+use reading::Field;
+use reading::date_at;
+use reading::number_at;
+use reading::same;
 ghost use mathlib.Core.Path.{_≡_};
 ghost use Rattle.asking.specs.Asking.{wholeOf, numberValue, dateValue, holderAsked, periodAsked};
 ghost use Rattle.asking.specs.Asking.{byOne, byTwo, byThree, askedBy};

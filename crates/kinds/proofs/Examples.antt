@@ -1,6 +1,6 @@
 -- The examples of kinds, each by computing.
 use mathlib.Core.Path.{refl}
-use Rattle.text.specs.Words.{isSame}
+use Rattle.reading.specs.Words.{isSame}
 use Rattle.kinds.specs.Kinds.{kindIn}
 use Rattle.kinds.specs.Examples.{KindExamples}
 

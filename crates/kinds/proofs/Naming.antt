@@ -8,8 +8,8 @@ use lib.Dec.{eqb}
 use lib.ListN.{length}
 use borrow.Author.Tests.{eqb-true, eqb-false}
 use Rattle.dates.proofs.Every.{and-left, and-right}
-use Rattle.text.specs.Words.{isSame}
-use Rattle.text.proofs.Steps.{other-length}
+use Rattle.reading.specs.Words.{isSame}
+use Rattle.reading.proofs.Steps.{other-length}
 use Rattle.kinds.specs.declared.Kind.{Kind}
 use Rattle.kinds.specs.declared.Kind.the-variants.{Set, Ctr, Def, Enr, Demmespc, I, Demcf, Adc, Ri, Cdt, Demmhs, Sus, Jour, Unknown}
 use Rattle.kinds.specs.Kinds.{word, kinds, kindIn, kindNamed}

@@ -1,13 +1,13 @@
 // The words of the kinds, compared when a line is read and copied when one is written, and the fields behind each.
 use crate::Kind;
 use crate::Word;
-use text::Shape;
-use text::read::same;
+use fields::Shape;
+use reading::same;
 use text::write::put_word;
 ghost use mathlib.Core.Path.{_≡_};
 ghost use mathlib.Core.Bool.{cond};
-ghost use Rattle.text.specs.Words.{isSame};
 ghost use Rattle.text.specs.Appending.{Appended};
+ghost use Rattle.reading.specs.Words.{isSame};
 ghost use Rattle.kinds.specs.Kinds.{word as Kinds·word, paddedWord, threes, kindIn, kindNamed, shapeOf};
 
 // The word of each kind.

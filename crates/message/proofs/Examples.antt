@@ -2,10 +2,10 @@
 use mathlib.Core.Path.{refl}
 use Rattle.dates.specs.Dates.{leapRow, monthLength}
 use Rattle.dates.specs.Numbers.{monthStart, yearStart, dayNumber, isReal, dayAnswer}
-use Rattle.text.specs.Words.{isSame}
-use Rattle.text.specs.Decimal.{moreOf, numberOf, fixedOf}
-use Rattle.text.specs.Days.{dayIn}
-use Rattle.text.specs.Fields.{fieldOf, fieldsOf, sortsFrom}
+use Rattle.reading.specs.Words.{isSame}
+use Rattle.reading.specs.Numbers.{moreOf, numberOf, fixedOf}
+use Rattle.reading.specs.Days.{dayIn}
+use Rattle.fields.specs.Fields.{fieldOf, fieldsOf, sortsFrom}
 use Rattle.kinds.specs.Kinds.{kindIn}
 use Rattle.message.specs.Reading.{wordEnd, readLine}
 use Rattle.message.specs.Examples.{LineExamples}

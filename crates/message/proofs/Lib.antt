@@ -1,9 +1,5 @@
 pub mod WordEnds
 pub mod Rows
 pub mod OneLine
-pub mod FieldLoops
 pub mod LineTexts
-pub mod WrittenLines
-pub mod PlainTexts
-pub mod NextLines
 pub mod Examples

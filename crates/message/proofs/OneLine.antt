@@ -8,18 +8,18 @@ use lib.Dec.{leb}
 use lib.ListN.{length, take, drop, length-append, take-append-drop}
 use lib.Seq.{take-at, take-all, drop-at}
 use borrow.Author.Tests.{le-leb}
-use Rattle.text.specs.Fields.{Values, values, unread, fieldsText, fitAll, fieldsOf, sortsFrom, sortsOf}
-use Rattle.text.proofs.FieldTexts.{fields-back, FieldsAre, fields-only, fields-short, fit-count}
+use Rattle.fields.specs.Fields.{Values, values, unread, fieldsText, fitAll, fieldsOf, sortsFrom, sortsOf}
+use Rattle.fields.proofs.FieldTexts.{fields-back, FieldsAre, fields-only, fields-short, fit-count}
 use Rattle.kinds.specs.declared.Kind.{Kind}
 use Rattle.kinds.specs.declared.Kind.the-variants.{Unknown}
+use Rattle.kinds.specs.Kinds.{word, kinds, kindNamed, shapeOf}
+use Rattle.kinds.proofs.Naming.{Found, named, unnamed, found}
 use Rattle.message.specs.declared.Message.{Message}
 use Rattle.message.specs.declared.Message.the-variants.{Open, Ask, Unreadable}
-use Rattle.kinds.specs.Kinds.{word, kinds, kindNamed, shapeOf}
 use Rattle.message.specs.Lines.{lineOf, kindOf, partsOf, messageOf}
 use Rattle.message.specs.Reading.{wordEnd, messageWith, messageAs, readLine}
 use Rattle.message.specs.Writing.{isWritable, textOf}
 use Rattle.message.specs.OneLine.{OneLine}
-use Rattle.kinds.proofs.Naming.{Found, named, unnamed, found}
 use Rattle.message.proofs.Rows.{firsts-take, own, own-enough, row, parts-back, known}
 
 -- the line of a kind and its values

@@ -1,7 +1,7 @@
 -- The table of kinds agrees with the lines: for each kind, the line of its message is its word and the row of its fields.
 use Prim.Native.Nat.{ℕ, zero, suc, _+_, _*_, _≤_}
 use mathlib.Core.Path.{_≡_, refl, ap}
-use mathlib.Core.Bool.{true}
+use mathlib.Core.Bool.{true, false}
 use mathlib.Core.List.{List, [], _∷_, _++_}
 use native.Mathlib.Omega.{arith}
 use lib.Dec.{lit≤}
@@ -10,14 +10,14 @@ use lib.Seq.{drop-cons}
 use Rattle.rules.specs.declared.Action.{Action}
 use Rattle.rules.specs.declared.Action.the-variants.{SignContract, Failure, At, Day}
 use Rattle.rules.specs.declared.PointAction.the-variants.{Enrol, IntoService, DefaultSupply, AskSwitch, Cancel, Read, ChangeMeter, OutOfService, Suspend}
-use Rattle.text.specs.Words.{isSame}
-use Rattle.text.specs.Fields.{fieldsText, fitAll, sortsFrom, sortsOf}
-use Rattle.text.proofs.FieldTexts.{widths}
+use Rattle.reading.specs.Words.{isSame}
+use Rattle.fields.specs.Fields.{fieldsText, fitAll, sortsFrom, sortsOf}
+use Rattle.fields.proofs.FieldTexts.{widths}
 use Rattle.kinds.specs.declared.Kind.{Kind}
 use Rattle.kinds.specs.declared.Kind.the-variants.{Set, Ctr, Def, Enr, Demmespc, I, Demcf, Adc, Ri, Cdt, Demmhs, Sus, Jour, Unknown}
+use Rattle.kinds.specs.Kinds.{word, kindIn, kindNamed, shapeOf}
 use Rattle.message.specs.declared.Message.{Message}
 use Rattle.message.specs.declared.Message.the-variants.{Open, Ask, Unreadable}
-use Rattle.kinds.specs.Kinds.{word, kindIn, kindNamed, shapeOf}
 use Rattle.message.specs.Lines.{lineOf, kindOf, partsOf, messageOf, ask}
 use Rattle.message.specs.Reading.{wordEnd}
 use Rattle.message.specs.Writing.{isWritable, fitParts}
@@ -121,7 +121,7 @@ parts-own (Open o) = refl
 parts-own (Ask c) = parts-own-call (c .today) (c .action)
 parts-own Unreadable = refl
 
--- only Unreadable is of no kind
+-- only Unreadable is of no kind, and it is not written
 known-call : (t : ℕ) (a : Action) → kindOf (ask t a) ≡ Unknown → ⊥
 known-call t (SignContract s) e = let z : _≡_ {A = ℕ} 0 1 = cc in omega arith
 known-call t (Failure s) e = let z : _≡_ {A = ℕ} 0 1 = cc in omega arith
@@ -136,11 +136,18 @@ known-call t (At p (ChangeMeter x z b a y)) e = let z : _≡_ {A = ℕ} 0 1 = cc
 known-call t (At p OutOfService) e = let z : _≡_ {A = ℕ} 0 1 = cc in omega arith
 known-call t (At p (Suspend m)) e = let z : _≡_ {A = ℕ} 0 1 = cc in omega arith
 
+unreadable-unwritten : isWritable Unreadable ≡ false
+unfolding isWritable
+unreadable-unwritten = refl
+
 pub known : (m : Message) → isWritable m ≡ true → kindOf m ≡ Unknown → ⊥
 unfolding isWritable
 known (Open o) h e = let z : _≡_ {A = ℕ} 0 1 = cc in omega arith
 known (Ask c) h e = known-call (c .today) (c .action) e
-known Unreadable h e = let z : _≡_ {A = ℕ} 0 1 = cc in omega arith
+known Unreadable h e =
+    let n = unreadable-unwritten in
+    let z : _≡_ {A = ℕ} 0 1 = cc in
+    omega arith
 
 -- a message is writable if its parts fit, unless it is Unreadable
 pub writable-parts : (m : Message) → (m ≡ Unreadable → ⊥) → isWritable m ≡ fitParts (partsOf m)
@@ -153,4 +160,6 @@ pub writable-fit : (m : Message) → isWritable m ≡ true → fitParts (partsOf
 unfolding isWritable
 writable-fit (Open o) h = h
 writable-fit (Ask c) h = h
-writable-fit Unreadable h = absurd (let z : _≡_ {A = ℕ} 0 1 = cc in omega arith)
+writable-fit Unreadable h =
+    let n = unreadable-unwritten in
+    absurd (let z : _≡_ {A = ℕ} 0 1 = cc in omega arith)

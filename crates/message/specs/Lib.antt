@@ -1,6 +1,5 @@
 pub mod Lines
 pub mod Reading
-pub mod NextLine
 pub mod Writing
 pub mod OneLine
 pub mod Examples

@@ -4,7 +4,7 @@ use mathlib.Core.Bool.{cond}
 use mathlib.Core.List.{List, [], _∷_}
 use lib.Dec.{leb, eqb}
 use lib.ListN.{length, take, drop}
-use Rattle.text.specs.Fields.{Values, values, unread, sortsOf, fieldsOf}
+use Rattle.fields.specs.Fields.{Values, values, unread, sortsOf, fieldsOf}
 use Rattle.kinds.specs.declared.Kind.{Kind}
 use Rattle.kinds.specs.Kinds.{kindNamed, shapeOf}
 use Rattle.message.specs.declared.Message.{Message}

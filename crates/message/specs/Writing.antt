@@ -1,14 +1,13 @@
 -- 01, Message lines: which messages can be written, and the line that is written. Definitions only.
-use Prim.Native.Nat.{ℕ, _-_}
-use mathlib.Core.Bool.{Bool, true, false, cond}
-use mathlib.Core.List.{List, [], _++_}
-use lib.ListN.{length, take, replicate}
-use Rattle.text.specs.Fields.{sortsOf, fitAll}
+use Prim.Native.Nat.{ℕ}
+use mathlib.Core.Bool.{Bool, false, cond}
+use mathlib.Core.List.{List, []}
+use lib.ListN.{take}
+use Rattle.fields.specs.Fields.{sortsOf, fitAll}
+use Rattle.kinds.specs.Kinds.{shapeOf}
 use Rattle.message.specs.declared.Message.{Message}
 use Rattle.message.specs.declared.Message.the-variants.{Open, Ask, Unreadable}
 use Rattle.message.specs.declared.Parts.{Parts}
-use Rattle.message.specs.declared.Line.{Line}
-use Rattle.kinds.specs.Kinds.{shapeOf}
 use Rattle.message.specs.Lines.{lineOf, partsOf}
 
 -- Each day is in the calendar, and each number has at most 12 digits.
@@ -23,7 +22,3 @@ isWritable Unreadable = false
 -- The text that is written: no byte for a message that is not writable.
 unfoldable pub textOf : Message → List ℕ
 textOf m = cond (isWritable m) (lineOf m) []
-
--- The line as the code returns it, with zeros behind it.
-unfoldable pub writtenLine : Message → Line
-writtenLine m = record { len = length (textOf m); bytes = textOf m ++ replicate (96 - length (textOf m)) 0 }

@@ -1,16 +1,15 @@
 -- Texts put into a buffer one behind the other, and what a writer's contract says where there is room.
-use Prim.Native.Nat.{ℕ, suc, _+_, _-_, _<_, _≤_}
+use Prim.Native.Nat.{ℕ, _+_, _<_, _≤_}
 use mathlib.Core.Path.{_≡_, refl, sym, ap, _∙_}
 use mathlib.Core.Bool.{Bool, true, false, cond}
-use mathlib.Core.List.{List, [], _∷_, _++_, append-assoc, append-nil}
+use mathlib.Core.List.{List, [], _++_, append-assoc}
 use native.Mathlib.Omega.{arith}
 use native.Mathlib.Nat.{add-zero, add-assoc}
-use native.Mathlib.Numerals.{add-one}
 use borrow.Author.Tests.{le-leb, lt-leb, leb-true, leb-false}
 use lib.Dec.{leb}
-use lib.ListN.{length, take, drop, set, length-append, length-take, length-drop, take-append-drop}
+use lib.ListN.{length, take, drop, length-append, take-append-drop}
 use lib.Seq.{take-at, drop-at, length-take-le, drop-drop, take-length, sets, sets-eq, length-sets, paste}
-use Rattle.text.specs.Appending.{put, hasRoom, Appended}
+use Rattle.text.specs.Appending.{put, Appended}
 
 -- putting a text is storing its bytes
 pub put-sets : (at : ℕ) (t o : List ℕ) → at + length t ≤ length o → sets o at t ≡ put at t o

@@ -1,7 +1,7 @@
 -- Writing digits: what holds on the way while the last digits of a number stand already, and a date's eight digits.
-use Prim.Native.Nat.{ℕ, zero, suc, _+_, _-_, _*_, _/_, _%_, _^_, _<_, _≤_}
-use mathlib.Core.Path.{_≡_, refl, sym, ap, _∙_}
-use mathlib.Core.List.{List, [], _∷_, _++_}
+use Prim.Native.Nat.{ℕ, suc, _+_, _-_, _/_, _%_, _^_, _<_, _≤_}
+use mathlib.Core.Path.{_≡_, sym, ap, _∙_}
+use mathlib.Core.List.{List, [], _∷_}
 use native.Mathlib.Omega.{arith}
 use lib.ListN.{length, take, drop, set, length-set}
 use lib.Seq.{drop-cons, getD-set-same, drop-set-lt, take-set-le, take-take, set-split}
@@ -77,16 +77,19 @@ date-digits x =
     rw (hundreds, thousands)
 
 -- they are stored one after the other
-pub date-put : (x : Date) (at : ℕ) (o : List ℕ) → at + 8 ≤ length o →
-    set (set (set (set (set (set (set (set o at (48 + x .year / 1000 % 10)) (at + 1) (48 + x .year / 100 % 10))
-    (at + 2) (48 + x .year / 10 % 10)) (at + 3) (48 + x .year % 10)) (at + 4) (48 + x .month / 10 % 10))
-    (at + 5) (48 + x .month % 10)) (at + 6) (48 + x .day / 10 % 10)) (at + 7) (48 + x .day % 10) ≡ put at (dateText x []) o
-date-put x at o h =
-    let e1 : at + 1 ≡ suc at = omega arith in
-    let e2 : at + 2 ≡ suc (suc at) = omega arith in
-    let e3 : at + 3 ≡ suc (suc (suc at)) = omega arith in
-    let e4 : at + 4 ≡ suc (suc (suc (suc at))) = omega arith in
-    let e5 : at + 5 ≡ suc (suc (suc (suc (suc at)))) = omega arith in
-    let e6 : at + 6 ≡ suc (suc (suc (suc (suc (suc at))))) = omega arith in
-    let e7 : at + 7 ≡ suc (suc (suc (suc (suc (suc (suc at)))))) = omega arith in
-    rw (e1, e2, e3, e4, e5, e6, e7, date-digits x) (put-sets at (dateDigits (x .year) (x .month) (x .day)) o h)
+module _ (x : Date) (y₁ y₂ y₃ y₄ m₁ m₂ d₁ d₂ : ℕ) where
+  pub date-put : y₁ ≡ 48 + x .year / 1000 % 10 → y₂ ≡ 48 + x .year / 100 % 10 → y₃ ≡ 48 + x .year / 10 % 10 →
+      y₄ ≡ 48 + x .year % 10 → m₁ ≡ 48 + x .month / 10 % 10 → m₂ ≡ 48 + x .month % 10 →
+      d₁ ≡ 48 + x .day / 10 % 10 → d₂ ≡ 48 + x .day % 10 → (at : ℕ) (o : List ℕ) → at + 8 ≤ length o →
+      set (set (set (set (set (set (set (set o at y₁) (at + 1) y₂) (at + 2) y₃) (at + 3) y₄) (at + 4) m₁) (at + 5) m₂)
+      (at + 6) d₁) (at + 7) d₂ ≡ put at (dateText x []) o
+  date-put hy₁ hy₂ hy₃ hy₄ hm₁ hm₂ hd₁ hd₂ at o h =
+      let e1 : at + 1 ≡ suc at = omega arith in
+      let e2 : at + 2 ≡ suc (suc at) = omega arith in
+      let e3 : at + 3 ≡ suc (suc (suc at)) = omega arith in
+      let e4 : at + 4 ≡ suc (suc (suc (suc at))) = omega arith in
+      let e5 : at + 5 ≡ suc (suc (suc (suc (suc at)))) = omega arith in
+      let e6 : at + 6 ≡ suc (suc (suc (suc (suc (suc at))))) = omega arith in
+      let e7 : at + 7 ≡ suc (suc (suc (suc (suc (suc (suc at)))))) = omega arith in
+      rw (e1, e2, e3, e4, e5, e6, e7, hy₁, hy₂, hy₃, hy₄, hm₁, hm₂, hd₁, hd₂, date-digits x)
+      (put-sets at (dateDigits (x .year) (x .month) (x .day)) o h)

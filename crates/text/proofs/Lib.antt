@@ -1,11 +1,5 @@
 pub mod Spelling
-pub mod Numbers
 pub mod Fixed
 pub mod DayTexts
-pub mod KnownDates
-pub mod OneText
-pub mod FieldTexts
 pub mod Appends
-pub mod Steps
-pub mod FieldSteps
 pub mod DigitSteps

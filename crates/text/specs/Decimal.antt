@@ -1,11 +1,8 @@
--- 01, Message lines: numbers as decimal text, and the number that a text begins with. Definitions only.
-use Prim.Native.Nat.{ℕ, zero, suc, _+_, _-_, _*_, _/_, _%_, _^_}
-use mathlib.Core.Bool.{Bool, cond, _&&_}
-use mathlib.Core.List.{List, [], _∷_}
-use lib.Dec.{ltb, leb, eqb}
-use lib.ListN.{drop}
-use Rattle.text.specs.declared.Field.{Field}
-use Rattle.text.specs.declared.Field.the-variants.{Value, Bad}
+-- 01, Message lines: numbers as decimal text. Definitions only.
+use Prim.Native.Nat.{ℕ, zero, suc, _+_, _/_, _%_}
+use mathlib.Core.Bool.{cond}
+use mathlib.Core.List.{List, _∷_}
+use lib.Dec.{ltb}
 
 -- The decimal digits of n, no leading zero but 0 itself, at most k of them, in front of the text l; 48 is the byte of 0.
 unfoldable pub spell : ℕ → ℕ → List ℕ → List ℕ
@@ -20,33 +17,3 @@ decimal n l = spell 20 n l
 unfoldable pub fixed : ℕ → ℕ → List ℕ → List ℕ
 fixed zero n l = l
 fixed (suc k) n l = fixed k (n / 10) ((48 + n % 10) ∷ l)
-
--- What a text begins with: a number and what follows it, or none.
-pub data Read : Type 0 where
-  number : ℕ → List ℕ → Read
-  bad : Read
-
-abbrev pub isDigit : ℕ → Bool
-isDigit c = leb 48 c && leb c 57
-
--- The rest of a number whose digits so far are those of v. A thirteenth digit is refused.
-unfoldable pub moreOf : ℕ → List ℕ → Read
-moreOf v [] = number v []
-moreOf v (c ∷ l) =
-    cond (isDigit c) (cond (ltb v (10 ^ 11)) (moreOf (v * 10 + (c - 48)) l) bad) (number v (c ∷ l))
-
--- 01: "other fields decimal, 1 to 12 digits, no leading zero except 0 itself".
-unfoldable pub numberOf : List ℕ → Read
-numberOf [] = bad
-numberOf (c ∷ l) = cond (eqb c 48) (number 0 l) (cond (isDigit c) (moreOf (c - 48) l) bad)
-
--- A number of exactly k digits more, behind those of v.
-unfoldable pub fixedOf : ℕ → ℕ → List ℕ → Read
-fixedOf zero v l = number v l
-fixedOf (suc k) v [] = bad
-fixedOf (suc k) v (c ∷ l) = cond (isDigit c) (fixedOf k (v * 10 + (c - 48)) l) bad
-
--- What the code read at a position of s, as a number and the rest of s.
-abbrev pub readIn : List ℕ → Field → Read
-readIn s (Value v next) = number v (drop next s)
-readIn s Bad = bad

@@ -3,7 +3,7 @@ use mathlib.Core.Path.{_≡_, refl, sym, ap, _∙_}
 use lib.ListN.{length, take, drop, getD, length-drop}
 use lib.Seq.{take-all}
 use native.Mathlib.Omega.{arith}
-use Rattle.text.specs.Known.{IsKnown}
+use Rattle.fields.specs.Known.{IsKnown}
 use Rattle.input.specs.Lines.{untilFeed}
 use Rattle.input.specs.Part.{kept}
 use Rattle.desk.specs.Desk.{desk}
@@ -25,8 +25,8 @@ use Rattle.desk.proofs.signed_after.Reads as signed-after-reads
 use Rattle.desk.proofs.supplier_of.Reads as supplier-of-reads
 use Rattle.desk.proofs.turn_of.Reads as turn-of-reads
 use Rattle.desk.proofs.respond.Reads as respond-reads
-use Rattle.message.proofs.next.next_line.Reads as next-line-reads
-use Rattle.message.proofs.write.kind_of.Reads as kind-of-reads
+use Rattle.next_line.proofs.next_line.Reads as next-line-reads
+use Rattle.message_lines.proofs.kind_of.Reads as kind-of-reads
 use Rattle.periods.proofs.newest_place.Reads as newest-place-reads
 use Rattle.session.proofs.pieces.at_end.Reads as at-end-reads
 use Rattle.session.proofs.pieces.quiet_with.Reads as quiet-with-reads
@@ -36,7 +36,7 @@ use Rattle.tables.proofs.counts_of.Reads as counts-of-reads
 use Rattle.tables.proofs.fields_of.Reads as fields-of-reads
 use Rattle.tables.proofs.joined.Reads as joined-reads
 use Rattle.tables.proofs.slots_of.Reads as slots-of-reads
-use Rattle.text.proofs.read.first_known.Reads as first-known-reads
+use Rattle.fields.proofs.first_known.Reads as first-known-reads
 
 abbrev Inv-loop : tie.InvT-loop
 Inv-loop piece out₀ part₀ ready₀ set₀ day₀ contracts₀ fields₀ counts₀ slots₀ quiet₀ known₀ at₀ written₀ out part ready set day contracts fields counts slots quiet known at written =

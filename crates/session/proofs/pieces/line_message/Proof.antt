@@ -4,7 +4,7 @@ use Rattle.session.proofs.pieces.line_message.Tie as tie
 use Rattle.session.proofs.pieces.line_message.Reads as reads
 use Rattle.session.proofs.pieces.line_message.Lts as lts
 use Rattle.input.proofs.append.Reads as append-reads
-use Rattle.message.proofs.read.read_line.Reads as read-line-reads
+use Rattle.message.proofs.read_line.Reads as read-line-reads
 use Rattle.session.proofs.pieces.read_first.Reads as read-first-reads
 use Rattle.session.proofs.Capped.{read-whole, read-joined}
 

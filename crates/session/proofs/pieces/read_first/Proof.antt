@@ -3,7 +3,7 @@ use Rattle.session.proofs.pieces.read_first.Statement.{statement}
 use Rattle.session.proofs.pieces.read_first.Tie as tie
 use Rattle.session.proofs.pieces.read_first.Reads as reads
 use Rattle.session.proofs.pieces.read_first.Lts as lts
-use Rattle.message.proofs.read.read_line.Reads as read-line-reads
+use Rattle.message.proofs.read_line.Reads as read-line-reads
 use Prim.Native.Nat.{ℕ, _≤_, _<_, min}
 use mathlib.Core.Path.{_≡_, refl, sym, ap, _∙_}
 use mathlib.Core.List.{List}

@@ -1,6 +1,6 @@
 -- `text::write::digit_count` meets its contract: the digits counted and those left are the digits in all.
-use Prim.Native.Nat.{ℕ, _<_, _≤_, _+_, _^_}
-use mathlib.Core.Path.{_≡_, refl, sym, _∙_}
+use Prim.Native.Nat.{_<_, _+_, _^_}
+use mathlib.Core.Path.{_≡_}
 use mathlib.Core.List.{[]}
 use native.Mathlib.Omega.{arith}
 use lib.ListN.{length}

@@ -1,5 +1,5 @@
 -- `text::write::put_byte` meets its contract: one store, or none.
-use mathlib.Core.Path.{_≡_, refl}
+use mathlib.Core.Path.{refl}
 use mathlib.Core.List.{[], _∷_}
 use native.Mathlib.Omega.{arith}
 use Rattle.text.proofs.Appends.{put-sets, appended, not-appended}

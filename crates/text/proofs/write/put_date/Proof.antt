@@ -1,9 +1,7 @@
 -- `text::write::put_date` meets its contract: eight stores, or none.
-use Prim.Native.Nat.{ℕ, _+_}
-use mathlib.Core.Path.{_≡_, refl, sym, _∙_}
 use mathlib.Core.List.{[]}
 use native.Mathlib.Omega.{arith}
-use lib.ListN.{length, length-set}
+use lib.ListN.{length-set}
 use Rattle.text.specs.Days.{dateText}
 use Rattle.text.proofs.DayTexts.{date-length}
 use Rattle.text.proofs.DigitSteps.{date-put}
@@ -121,17 +119,16 @@ returns-3 c =
     let a = c₁₄ .args in
     let eight = date-length (a .x) in
     appended (a .at) (dateText (a .x) []) (a .out .now) _ _ (omega arith)
-    (rw (
-      c₇ .digit-of .ensures,
-      c₆ .digit-of2 .ensures,
-      c₅ .digit-of3 .ensures,
-      c₄ .digit-of4 .ensures,
-      c₃ .digit-of5 .ensures,
-      c₂ .digit-of6 .ensures,
-      c .before .digit-of7 .ensures,
-      c .digit-of8 .ensures,
-    )
-    (date-put (a .x) (a .at) (a .out .now) (omega arith)))
+    (date-put (a .x) _ _ _ _ _ _ _ _
+    (c₇ .digit-of .ensures)
+    (c₆ .digit-of2 .ensures)
+    (c₅ .digit-of3 .ensures)
+    (c₄ .digit-of4 .ensures)
+    (c₃ .digit-of5 .ensures)
+    (c₂ .digit-of6 .ensures)
+    (c .before .digit-of7 .ensures)
+    (c .digit-of8 .ensures)
+    (a .at) (a .out .now) (omega arith))
     (omega arith)
 
 pub put-date-spec : {M : Type 1} → statement M

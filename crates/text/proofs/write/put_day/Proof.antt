@@ -1,5 +1,5 @@
 -- `text::write::put_day` meets its contract: the calendar's answer, written.
-use mathlib.Core.Path.{_≡_, sym, _∙_}
+use mathlib.Core.Path.{sym, _∙_}
 use Rattle.text.specs.Decimal.{fixed}
 use borrow.Author.Needs.{needs}
 use Rattle.text.proofs.write.put_day.Statement.{statement}

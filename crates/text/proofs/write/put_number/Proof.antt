@@ -1,6 +1,6 @@
 -- `text::write::put_number` meets its contract: the digits that stand already, and those left, are the number's.
-use Prim.Native.Nat.{ℕ, _≤_, _<_, _+_, _-_, _^_}
-use mathlib.Core.Path.{_≡_, refl, sym, ap, _∙_}
+use Prim.Native.Nat.{ℕ, _≤_, _+_}
+use mathlib.Core.Path.{refl, ap, _∙_}
 use mathlib.Core.List.{[]}
 use native.Mathlib.Omega.{arith}
 use lib.ListN.{length, length-set}

@@ -1,12 +1,10 @@
 -- `text::write::put_word` meets its contract: the bytes copied so far stand behind the position.
-use Prim.Native.Nat.{ℕ, _≤_, _<_, _+_, _-_}
-use mathlib.Core.Path.{_≡_, refl, sym, ap, _∙_}
-use mathlib.Core.List.{append-assoc}
+use Prim.Native.Nat.{_≤_, _+_, _-_}
+use mathlib.Core.Path.{_≡_, refl, ap, _∙_}
 use native.Mathlib.Omega.{arith}
 use native.Mathlib.Numerals.{add-one}
-use lib.ListN.{length, take, drop}
-use lib.Seq.{paste, paste-zero, paste-suc, length-paste, take-length}
-use Rattle.text.specs.Appending.{put}
+use lib.ListN.{length}
+use lib.Seq.{paste, paste-zero, paste-suc, length-paste}
 use Rattle.text.proofs.Appends.{appended, not-appended, word-pasted}
 use borrow.Author.Needs.{needs}
 use Rattle.text.proofs.write.put_word.Statement.{statement}

@@ -1,0 +1,3 @@
+pub mod FieldTexts
+pub mod FieldSteps
+pub mod KnownDates

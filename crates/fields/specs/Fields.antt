@@ -1,0 +1,105 @@
+-- 01, Message lines: "Fields are separated by `;`". The fields behind a line's kind, each with its `;`.
+-- Definitions only.
+use Prim.Native.Nat.{ℕ, zero, suc, _^_}
+use mathlib.Core.Bool.{Bool, true, false, cond, _&&_}
+use mathlib.Core.List.{List, [], _∷_, _++_}
+use mathlib.Core.Path.{_≡_}
+use lib.Dec.{leb, ltb, eqb}
+use lib.ListN.{take, drop}
+use Rattle.dates.specs.Dates.{lastDay}
+use Rattle.text.specs.Decimal.{decimal}
+use Rattle.text.specs.Days.{dayText}
+use Rattle.reading.specs.Numbers.{Read, number, bad, numberOf}
+use Rattle.reading.specs.Days.{dayIn}
+use Rattle.fields.specs.declared.Sort.{Sort}
+use Rattle.fields.specs.declared.Sort.the-variants.{Date, Number}
+use Rattle.fields.specs.declared.Shape.{Shape}
+use Rattle.fields.specs.declared.KnownDate.{KnownDate}
+use Rattle.fields.specs.declared.Row.{Row}
+use Rattle.fields.specs.declared.Step.{Step}
+use Rattle.fields.specs.declared.Step.the-variants.{On, Bad}
+use Rattle.fields.specs.Known.{IsKnown}
+
+-- A field's text in front of l: 59 is the byte of `;`.
+abbrev pub fieldText : Sort → ℕ → List ℕ → List ℕ
+fieldText Date n l = 59 ∷ dayText n l
+fieldText Number n l = 59 ∷ decimal n l
+
+-- What a field can hold: a day of the calendar, a number of at most 12 digits.
+abbrev pub fits : Sort → ℕ → Bool
+fits Date n = leb n lastDay
+fits Number n = ltb n (10 ^ 12)
+
+-- The text of the values of a row of fields.
+abbrev pub fieldsText : List Sort → List ℕ → List ℕ
+fieldsText [] ns = []
+fieldsText (k ∷ ks) [] = []
+fieldsText (k ∷ ks) (n ∷ ns) = fieldText k n (fieldsText ks ns)
+
+-- There is a value for each field, and it fits.
+unfoldable pub fitAll : List Sort → List ℕ → Bool
+fitAll [] [] = true
+fitAll [] (n ∷ ns) = false
+fitAll (k ∷ ks) [] = false
+fitAll (k ∷ ks) (n ∷ ns) = fits k n && fitAll ks ns
+
+-- The value that a text holds, as a field of its sort.
+abbrev pub valueOf : Sort → List ℕ → Read
+valueOf Date l = dayIn l
+valueOf Number l = numberOf l
+
+-- The field that a text begins with.
+unfoldable pub fieldOf : Sort → List ℕ → Read
+fieldOf k [] = bad
+fieldOf k (c ∷ l) = cond (eqb c 59) (valueOf k l) bad
+
+-- The values of a row of fields and the text behind them, or none.
+pub data Values : Type 0 where
+  values : List ℕ → List ℕ → Values
+  unread : Values
+
+abbrev pub andThen : Read → (ℕ → List ℕ → Values) → Values
+andThen (number n r) f = f n r
+andThen bad f = unread
+
+-- The values of all the fields of a row that a text begins with; acc has those already read.
+unfoldable pub fieldsOf : List Sort → List ℕ → List ℕ → Values
+fieldsOf [] acc l = values acc l
+fieldsOf (k ∷ ks) acc l = andThen (fieldOf k l) (λ n r. fieldsOf ks (acc ++ (n ∷ [])) r)
+
+-- The sorts of a shape's n fields from the one at i on: the first is a date, and so is the one at second.
+abbrev pub sortAt : ℕ → ℕ → Sort
+sortAt second i = cond (eqb i 0) Date (cond (eqb i second) Date Number)
+
+unfoldable pub sortsFrom : ℕ → ℕ → ℕ → List Sort
+sortsFrom second i zero = []
+sortsFrom second i (suc n) = sortAt second i ∷ sortsFrom second (suc i) n
+
+abbrev pub sortsOf : Shape → List Sort
+sortsOf s = sortsFrom (s .second) 0 (s .count)
+
+-- The fields of a shape that a text begins with; a shape of more than seven is not read.
+unfoldable pub fieldsIn : Shape → List ℕ → Values
+fieldsIn s l = cond (leb (s .count) 7) (fieldsOf (sortsOf s) [] l) unread
+
+-- What the code read of the text s: one field, and a row of fields with their values.
+abbrev pub stepIn : List ℕ → Step → Read
+stepIn s (On v next known) = number v (drop next s)
+stepIn s Bad = bad
+
+abbrev pub rowIn : List ℕ → List ℕ → Row → Values
+rowIn s vs r = cond (r .ok) (values vs (drop (r .end) s)) unread
+
+-- The date that is known after a field.
+abbrev pub KnownAfter : Step → Type 0
+KnownAfter (On v next known) = IsKnown known
+KnownAfter Bad = Unit {0}
+
+-- What it means that a field is read as x says, and that the fields of a shape are read from a position on: where
+-- the last date was known, this is what is read, and the last date stays known.
+abbrev pub ReadStep : KnownDate → Read → List ℕ → Step → Type 0
+ReadStep last x s r = IsKnown last → (x ≡ stepIn s r) × KnownAfter r
+
+abbrev pub ReadRow : KnownDate → Shape → ℕ → List ℕ → List ℕ → Row → Type 0
+ReadRow last shape from s vs r =
+    IsKnown last → (fieldsIn shape (drop from s) ≡ rowIn s (take (shape .count) vs) r) × IsKnown (r .known)

@@ -1,0 +1,100 @@
+-- `message::read_line` meets its contract, step by step.
+use mathlib.Core.Path.{sym, _∙_}
+use borrow.Author.Tests.{lt-leb, not-true, not-false}
+use lib.Seq.{length-take-le}
+use Rattle.message.specs.Reading.{readLine}
+use Rattle.message.proofs.LineTexts.{line-with, with-more, with-all}
+use borrow.Author.Needs.{needs}
+use Rattle.message.proofs.read_line.Statement.{statement}
+use Rattle.message.proofs.read_line.Tie as tie
+
+returns : tie.Need-returns
+unfolding readLine
+returns c = rw (lt-leb _ 96 (c .if1 .taken))
+
+word-end-requires : tie.Need-word-end-requires
+word-end-requires c κs = search needs
+
+slice-aggregate-kind-named : tie.Need-slice-aggregate-kind-named
+slice-aggregate-kind-named c = sym (length-take-le _ _ (c .before .word-end .ensures .1))
+
+kind-named-requires : tie.Need-kind-named-requires
+kind-named-requires c κs = search needs
+
+shape-of-requires : tie.Need-shape-of-requires
+shape-of-requires c κs = search needs
+
+first-known-requires : tie.Need-first-known-requires
+first-known-requires c κs = search needs
+
+read-row-requires : tie.Need-read-row-requires
+read-row-requires c κs = search needs
+
+returns-2 : tie.Need-returns-2
+returns-2 c =
+    let c₂ = c .before .before in
+    let c₄ = c₂ .before .before in
+    let c₅ = c₄ .before in
+    let c₆ = c₅ .before in
+    let c₈ = c₆ .before .before in
+    let c₉ = c₈ .before in
+    let c₁₁ = c₉ .before .before in
+    let s = c₁₁ in
+    let read = c₂ .read-row .ensures (c₄ .first-known .ensures) in
+    let with = line-with (s .args .line .now) _ _ _ _ (c₉ .if1 .left) (c₈ .word-end .ensures .0)
+    (c₆ .kind-named .ensures) (c₅ .shape-of .ensures) (read .0) in
+    sym (with ∙ rw (not-true (c₂ .read-row .result .ok) (c .if2 .taken)))
+
+returns-3 : tie.Need-returns-3
+returns-3 c =
+    let c₂ = c .before .before in
+    let c₄ = c₂ .before .before in
+    let c₆ = c₄ .before .before in
+    let c₇ = c₆ .before in
+    let c₈ = c₇ .before in
+    let c₁₀ = c₈ .before .before in
+    let c₁₁ = c₁₀ .before in
+    let c₁₃ = c₁₁ .before .before in
+    let s = c₁₃ in
+    let read = c₄ .read-row .ensures (c₆ .first-known .ensures) in
+    let with = line-with (s .args .line .now) _ _ _ _ (c₁₁ .if1 .left) (c₁₀ .word-end .ensures .0)
+    (c₈ .kind-named .ensures) (c₇ .shape-of .ensures) (read .0) in
+    sym (with ∙ rw (not-false (c₄ .read-row .result .ok) (c₂ .if2 .left))
+    (with-more (c₈ .kind-named .result) _ (s .args .line .now) _ (c .if3 .taken)))
+
+message-of-requires : tie.Need-message-of-requires
+message-of-requires c κs = search needs
+
+returns-4 : tie.Need-returns-4
+returns-4 c =
+    let c₃ = c .before .before .before in
+    let c₅ = c₃ .before .before in
+    let c₇ = c₅ .before .before in
+    let c₈ = c₇ .before in
+    let c₉ = c₈ .before in
+    let c₁₁ = c₉ .before .before in
+    let c₁₂ = c₁₁ .before in
+    let c₁₄ = c₁₂ .before .before in
+    let s = c₁₄ in
+    let read = c₅ .read-row .ensures (c₇ .first-known .ensures) in
+    let with = line-with (s .args .line .now) _ _ _ _ (c₁₂ .if1 .left) (c₁₁ .word-end .ensures .0)
+    (c₉ .kind-named .ensures) (c₈ .shape-of .ensures) (read .0) in
+    c .message-of .ensures ∙ sym (with ∙ rw (not-false (c₅ .read-row .result .ok) (c₃ .if2 .left))
+    (with-all (c₉ .kind-named .result) (c₈ .shape-of .result) _ (s .args .line .now) _ (c₈ .shape-of .ensures)
+    (c .before .if3 .left)))
+
+pub read-line-spec : {M : Type 1} → statement M
+read-line-spec =
+    tie.close
+    (tie.spec
+    returns
+    word-end-requires
+    slice-aggregate-kind-named
+    kind-named-requires
+    shape-of-requires
+    first-known-requires
+    read-row-requires
+    returns-2
+    returns-3
+    message-of-requires
+    returns-4)

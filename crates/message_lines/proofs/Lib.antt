@@ -1,0 +1,2 @@
+pub mod FieldLoops
+pub mod WrittenLines

@@ -1,0 +1,2 @@
+pub mod PlainTexts
+pub mod NextLines

@@ -1,0 +1,102 @@
+-- `next_line::next_line` meets its contract: by its fields where they end at a line feed, else by its end.
+use mathlib.Core.Path.{sym, _∙_}
+use Rattle.next_line.proofs.NextLines.{next-off, next-by-end, next-by-fields}
+use borrow.Author.Needs.{needs}
+use Rattle.next_line.proofs.next_line.Statement.{statement}
+use Rattle.next_line.proofs.next_line.Tie as tie
+use Rattle.input.proofs.Feeds.{until-le}
+use lib.ListN.{drop, length-drop}
+use native.Mathlib.Omega.{arith}
+
+returns : tie.Need-returns
+returns c = λ k. next-off _ _ _ (c .if1 .taken) k
+
+word-end-from-requires : tie.Need-word-end-from-requires
+word-end-from-requires c κs = search needs
+
+sub-kind-named : tie.Need-sub-kind-named
+sub-kind-named c = search needs
+
+part-kind-named-start : tie.Need-part-kind-named-start
+part-kind-named-start c = search needs
+
+part-kind-named-end : tie.Need-part-kind-named-end
+part-kind-named-end c = search needs
+
+kind-named-requires : tie.Need-kind-named-requires
+kind-named-requires c κs = search needs
+
+shape-of-requires : tie.Need-shape-of-requires
+shape-of-requires c κs = search needs
+
+read-row-requires : tie.Need-read-row-requires
+read-row-requires c κs = search needs
+
+is-feed-requires : tie.Need-is-feed-requires
+is-feed-requires c κs = search needs
+
+message-of-requires : tie.Need-message-of-requires
+message-of-requires c κs = search needs
+
+returns-2 : tie.Need-returns-2
+returns-2 c =
+    let c₂ = c .before .before in
+    let c₃ = c₂ .before in
+    let c₅ = c₃ .before .before in
+    let c₇ = c₅ .before .before in
+    let c₈ = c₇ .before in
+    let c₁₀ = c₈ .before .before in
+    let c₁₁ = c₁₀ .before in
+    let c₁₃ = c₁₁ .before .before in
+    let a = c₁₃ .args in
+    λ k.
+    let read = c₅ .read-row .ensures k in
+    let feed = sym (c₂ .is-feed .ensures) ∙ c .before .if3 .taken in
+    next-by-fields (a .buf .now) (a .from) (c₁₀ .word-end-from .result) (c₈ .kind-named .result)
+    (c₇ .shape-of .result) _ (c₅ .read-row .result)
+    (c .message-of .result) (c₁₁ .if1 .left) (c₁₀ .word-end-from .ensures .0) (c₈ .kind-named .ensures)
+    (c₇ .shape-of .ensures) (read .0) (c₃ .if2 .taken)
+    feed (c .message-of .ensures) (read .1)
+
+line-end-requires : tie.Need-line-end-requires
+line-end-requires c κs = search needs
+
+sub-read-line : tie.Need-sub-read-line
+sub-read-line c = search needs
+
+part-read-line-start : tie.Need-part-read-line-start
+part-read-line-start c = search needs
+
+part-read-line-end : tie.Need-part-read-line-end
+part-read-line-end c = omega (arith, (c .line-end) .ensures, (c .before .before .before .before .before .before .before .before .before .if1) .left, until-le (drop ((c .before .before .before .before .before .before .before .before .before .before .before) .args .from) ((c .before .before .before .before .before .before .before .before .before .before .before) .args .buf .now)), length-drop ((c .before .before .before .before .before .before .before .before .before .before .before) .args .from) ((c .before .before .before .before .before .before .before .before .before .before .before) .args .buf .now))
+
+read-line-requires : tie.Need-read-line-requires
+read-line-requires c κs = search needs
+
+returns-3 : tie.Need-returns-3
+returns-3 c =
+    let c₂ = c .before .before in
+    let c₅ = c₂ .before .before .before in
+    λ k. next-by-end _ _ _ _ _ (c₂ .line-end .ensures) (c .read-line .ensures) (c₅ .read-row .ensures k .1)
+
+pub next-line-spec : {M : Type 1} → statement M
+next-line-spec =
+    tie.close
+    (tie.spec
+    returns
+    word-end-from-requires
+    sub-kind-named
+    part-kind-named-start
+    part-kind-named-end
+    kind-named-requires
+    shape-of-requires
+    read-row-requires
+    is-feed-requires
+    message-of-requires
+    returns-2
+    line-end-requires
+    sub-read-line
+    part-read-line-start
+    part-read-line-end
+    read-line-requires
+    returns-3)

@@ -1,0 +1,5 @@
+pub mod Numbers
+pub mod Fixed
+pub mod Days
+pub mod OneText
+pub mod Steps

@@ -1,0 +1,119 @@
+-- `reading::date_at` meets its contract: the year, the month, the day, and then the calendar.
+use mathlib.Core.Path.{_∙_, ap, sym}
+use Rattle.reading.specs.Numbers.{readIn}
+use Rattle.reading.proofs.Steps.{day-no-year, day-no-month, day-no-day, day-is}
+use borrow.Author.Needs.{needs}
+use Rattle.reading.proofs.date_at.Statement.{statement}
+use Rattle.reading.proofs.date_at.Tie as tie
+
+fixed-at-requires : tie.Need-fixed-at-requires
+fixed-at-requires c κs = search needs
+
+enum-known-year : tie.Need-enum-known-year
+enum-known-year c = search needs
+
+enum-told : tie.Need-enum-told
+enum-told c = search needs
+
+returns : tie.Need-returns
+returns c = day-no-year _ (c .before .before .fixed-at .ensures ∙ ap (readIn _) (c .enum-told .given .1))
+
+fixed-at-requires-2 : tie.Need-fixed-at-requires-2
+fixed-at-requires-2 c κs = search needs
+
+enum-known-month : tie.Need-enum-known-month
+enum-known-month c = search needs
+
+enum-told-2 : tie.Need-enum-told-2
+enum-told-2 c = search needs
+
+returns-2 : tie.Need-returns-2
+returns-2 c =
+    let c₂ = c .before .before in
+    let c₄ = c₂ .before .before in
+    let c₆ = c₄ .before .before in
+    day-no-month _ _ _ (c₆ .fixed-at .ensures ∙ ap (readIn _) (c₄ .year .given .1))
+    (c₂ .fixed-at2 .ensures ∙ ap (readIn _) (c .enum-told2 .given .1))
+
+fixed-at-requires-3 : tie.Need-fixed-at-requires-3
+fixed-at-requires-3 c κs = search needs
+
+enum-known-day : tie.Need-enum-known-day
+enum-known-day c = search needs
+
+enum-told-3 : tie.Need-enum-told-3
+enum-told-3 c = search needs
+
+returns-3 : tie.Need-returns-3
+returns-3 c =
+    let c₂ = c .before .before in
+    let c₄ = c₂ .before .before in
+    let c₆ = c₄ .before .before in
+    let c₈ = c₆ .before .before in
+    let c₁₀ = c₈ .before .before in
+    day-no-day _ _ _ (c₁₀ .fixed-at .ensures ∙ ap (readIn _) (c₈ .year .given .1)) _ _
+    (c₆ .fixed-at2 .ensures ∙ ap (readIn _) (c₄ .month .given .1))
+    (c₂ .fixed-at3 .ensures ∙ ap (readIn _) (c .enum-told3 .given .1))
+
+day-of-requires : tie.Need-day-of-requires
+day-of-requires c κs = search needs
+
+enum-known-n : tie.Need-enum-known-n
+enum-known-n c = search needs
+
+enum-told-4 : tie.Need-enum-told-4
+enum-told-4 c = search needs
+
+returns-4 : tie.Need-returns-4
+returns-4 c =
+    let c₂ = c .before .before in
+    let c₄ = c₂ .before .before in
+    let c₆ = c₄ .before .before in
+    let c₈ = c₆ .before .before in
+    let c₁₀ = c₈ .before .before in
+    let c₁₂ = c₁₀ .before .before in
+    let c₁₄ = c₁₂ .before .before in
+    day-is _ _ _ (c₁₄ .fixed-at .ensures ∙ ap (readIn _) (c₁₂ .year .given .1)) _ _
+    (c₁₀ .fixed-at2 .ensures ∙ ap (readIn _) (c₈ .month .given .1)) _ _
+    (c₆ .fixed-at3 .ensures ∙ ap (readIn _) (c₄ .day .given .1))
+    _ (sym (c₂ .day-of .ensures) ∙ c .enum-told4 .given .1)
+
+cast-t14 : tie.Need-cast-t14
+cast-t14 c = search needs
+
+returns-5 : tie.Need-returns-5
+returns-5 c =
+    let c₃ = c .before .before .before in
+    let c₅ = c₃ .before .before in
+    let c₇ = c₅ .before .before in
+    let c₉ = c₇ .before .before in
+    let c₁₁ = c₉ .before .before in
+    let c₁₃ = c₁₁ .before .before in
+    let c₁₅ = c₁₃ .before .before in
+    day-is _ _ _ (c₁₅ .fixed-at .ensures ∙ ap (readIn _) (c₁₃ .year .given .1)) _ _
+    (c₁₁ .fixed-at2 .ensures ∙ ap (readIn _) (c₉ .month .given .1)) _ _
+    (c₇ .fixed-at3 .ensures ∙ ap (readIn _) (c₅ .day .given .1))
+    _ (sym (c₃ .day-of .ensures) ∙ c .before .n .given .1)
+
+pub date-at-spec : {M : Type 1} → statement M
+date-at-spec =
+    tie.close
+    (tie.spec
+    fixed-at-requires
+    enum-known-year
+    enum-told
+    returns
+    fixed-at-requires-2
+    enum-known-month
+    enum-told-2
+    returns-2
+    fixed-at-requires-3
+    enum-known-day
+    enum-told-3
+    returns-3
+    day-of-requires
+    enum-known-n
+    enum-told-4
+    returns-4
+    cast-t14
+    returns-5)

@@ -1,0 +1,83 @@
+-- `reading::more_digits` meets its contract: what is read from the first digit is what is read from here on.
+use Prim.Native.Nat.{_<_, _-_, _^_}
+use mathlib.Core.Path.{_≡_, refl, _∙_}
+use native.Mathlib.Omega.{arith}
+use lib.ListN.{length, drop}
+use Rattle.reading.specs.Numbers.{moreOf}
+use Rattle.reading.proofs.Steps.{below-digit, above-digit, in-digit, more-end, more-stop, more-full, more-on}
+use borrow.Author.Needs.{needs}
+use Rattle.reading.proofs.more_digits.Statement.{statement}
+use Rattle.reading.proofs.more_digits.Tie as tie
+
+abbrev Inv-loop : tie.InvT-loop
+Inv-loop s at first v₀ i₀ v i = (v < 10 ^ 12) × (moreOf first (drop at s) ≡ moreOf v (drop i s))
+
+abbrev μ-loop : tie.MeasureT-loop
+μ-loop s at first v₀ i₀ v i = length s - i
+
+loop-holds : tie.Need-loop-holds Inv-loop μ-loop
+loop-holds c = (omega arith, refl)
+
+shared-slice-read-c : tie.Need-shared-slice-read-c Inv-loop μ-loop
+shared-slice-read-c c = search needs
+
+returns : tie.Need-returns Inv-loop μ-loop
+returns c =
+    let l = c .before .before .before .loop in
+    l .inv .1 ∙ more-stop _ (l .i) (omega arith) (l .v) (below-digit _ (c .if1 .taken))
+
+returns-2 : tie.Need-returns-2 Inv-loop μ-loop
+returns-2 c =
+    let l = c .before .before .before .before .loop in
+    l .inv .1 ∙ more-stop _ (l .i) (omega arith) (l .v) (above-digit _ (c .if2 .taken))
+
+returns-3 : tie.Need-returns-3 Inv-loop μ-loop
+returns-3 c =
+    let l = c .before .before .before .before .before .loop in
+    let d = in-digit _ (c .before .before .if1 .left) (c .before .if2 .left) in
+    l .inv .1 ∙ more-full _ (l .i) (omega arith) (l .v) d (c .if3 .taken)
+
+mul-v : tie.Need-mul-v Inv-loop μ-loop
+mul-v c = search needs
+
+digit-requires : tie.Need-digit-requires Inv-loop μ-loop
+digit-requires c κs = search needs
+
+add-v : tie.Need-add-v Inv-loop μ-loop
+add-v c = search needs
+
+add-i : tie.Need-add-i Inv-loop μ-loop
+add-i c = search needs
+
+loop-less : tie.Need-loop-less Inv-loop μ-loop
+loop-less c = search needs
+
+loop-again : tie.Need-loop-again Inv-loop μ-loop
+loop-again c =
+    let l = c .before .before .before .before .before .before .loop in
+    let d = in-digit _ (c .before .before .before .if1 .left) (c .before .before .if2 .left) in
+    (omega arith, rw (c .digit .ensures) (l .inv .1 ∙ more-on _ (l .i) (omega arith) (l .v) d (c .before .if3 .left)))
+
+returns-4 : tie.Need-returns-4 Inv-loop μ-loop
+returns-4 c =
+    let l = c .before .loop in
+    l .inv .1 ∙ more-end (l .i) _ (omega arith) (l .v)
+
+pub more-digits-spec : {M : Type 1} → statement M
+more-digits-spec =
+    tie.close
+    (tie.spec
+    Inv-loop
+    μ-loop
+    loop-holds
+    shared-slice-read-c
+    returns
+    returns-2
+    returns-3
+    mul-v
+    digit-requires
+    add-v
+    add-i
+    loop-less
+    loop-again
+    returns-4)

@@ -1,0 +1,62 @@
+-- `reading::number_at` meets its contract: the first byte decides.
+use mathlib.Core.Path.{_∙_}
+use Rattle.reading.proofs.Steps.{below-digit, above-digit, in-digit, number-end, number-zero, number-none, number-more}
+use borrow.Author.Needs.{needs}
+use Rattle.reading.proofs.number_at.Statement.{statement}
+use Rattle.reading.proofs.number_at.Tie as tie
+
+returns : tie.Need-returns
+returns c = number-end _ _ (c .if1 .taken)
+
+shared-slice-read-c : tie.Need-shared-slice-read-c
+shared-slice-read-c c = search needs
+
+add-t8 : tie.Need-add-t8
+add-t8 c = search needs
+
+returns-2 : tie.Need-returns-2
+returns-2 c = number-zero _ _ (c .before .before .if1 .left) (c .if2 .taken)
+
+returns-3 : tie.Need-returns-3
+returns-3 c =
+    let c₃ = c .before .before .before in
+    number-none _ _ (c₃ .if1 .left) (below-digit _ (c .if3 .taken)) (c .before .if2 .left)
+
+returns-4 : tie.Need-returns-4
+returns-4 c =
+    let c₂ = c .before .before in
+    let c₄ = c₂ .before .before in
+    number-none _ _ (c₄ .if1 .left) (above-digit _ (c .if4 .taken)) (c₂ .if2 .left)
+
+add-more-digits : tie.Need-add-more-digits
+add-more-digits c = search needs
+
+digit-requires : tie.Need-digit-requires
+digit-requires c κs = search needs
+
+more-digits-requires : tie.Need-more-digits-requires
+more-digits-requires c κs = search needs
+
+returns-5 : tie.Need-returns-5
+returns-5 c =
+    let c₂ = c .before .before in
+    let c₃ = c₂ .before in
+    let c₄ = c₃ .before in
+    let c₆ = c₄ .before .before in
+    number-more _ _ (c₆ .if1 .left) (in-digit _ (c₃ .if3 .left) (c₂ .if4 .left)) (c₄ .if2 .left) ∙
+    rw (c .before .digit .ensures) at (c .more-digits .ensures)
+
+pub number-at-spec : {M : Type 1} → statement M
+number-at-spec =
+    tie.close
+    (tie.spec
+    returns
+    shared-slice-read-c
+    add-t8
+    returns-2
+    returns-3
+    returns-4
+    add-more-digits
+    digit-requires
+    more-digits-requires
+    returns-5)

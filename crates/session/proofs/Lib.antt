@@ -1,6 +1,3 @@
 pub mod Capped
 pub mod Turns
 pub mod Within
-pub mod Sized
-pub mod Served
-pub mod Told

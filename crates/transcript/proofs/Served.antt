@@ -46,9 +46,9 @@ use Rattle.session.specs.Session.{
   closedNext,
   ClosedFrom,
 }
-use Rattle.session.specs.Transcript.{Closing, done, more, Served, fed, ended, TranscriptServed}
+use Rattle.transcript.specs.Transcript.{Closing, done, more, Served, fed, ended, TranscriptServed}
 use Rattle.session.proofs.Capped.{read-capped}
-use Rattle.session.proofs.Sized.{Sized, run-sized}
+use Rattle.transcript.proofs.Sized.{Sized, run-sized}
 
 -- what was put at the start of a buffer can be taken from it
 put-start : (t o : List ℕ) → take (length t) (put 0 t o) ≡ t

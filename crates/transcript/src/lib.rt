@@ -1,0 +1,1 @@
+// A whole input beside the day book: theorems only (specs/Transcript), no functions.

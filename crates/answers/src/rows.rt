@@ -10,7 +10,8 @@ use checks::is_full_kept;
 use checks::is_full_named;
 use checks::out_of_time;
 use checks::outside;
-use holidays::working_between;
+use holidays::working_days;
+use periods::less;
 use rules::Answer;
 use rules::Fields;
 use rules::Meter;
@@ -210,7 +211,8 @@ fn cancel(set: Settings, contracts: [bool; 100], t: u32, p: u64, s: u64, g: Poin
     if by as u64 != s {
         return Answer::Refused(25);
     }
-    if working_between(t as u64, e as u64) < set.w as u32 {
+    let last = less(e as u64, 1);
+    if working_days(t as u64 + 1, last) < set.w as u32 {
         return Answer::Refused(26);
     }
     Answer::Accepted

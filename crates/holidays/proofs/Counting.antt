@@ -1,19 +1,26 @@
--- Counting working days: one more day of a walk, and a count that ends past the calendar.
-use mathlib.Core.Path.{_≡_, refl}
+-- Counting working days: a walk day by day, a count that ends past the calendar, and the days between two days.
+use mathlib.Core.Path.{_≡_, refl, _∙_}
 use mathlib.Core.Bool.{false, cond}
 use Prim.Native.Nat.{ℕ, zero, suc, _+_, _-_, _≤_, _<_}
 use native.Mathlib.Nat.{zero-add, add-zero, add-suc, suc-add, add-assoc}
 use native.Mathlib.Numerals.{add-one}
 use native.Mathlib.Omega.{arith}
 use borrow.Author.Tests.{lt-leb}
-use Rattle.holidays.specs.Working.{isWorking, workingFrom}
+use Rattle.holidays.specs.Working.{isWorking, workingFrom, workingBetween, workingDays}
 
--- one more day of a walk to day b
-pub walk-step : (d b : ℕ) → d < b → workingFrom d (b - d) ≡ cond (isWorking d) 1 0 + workingFrom (d + 1) (b - (d + 1))
-unfolding workingFrom
-walk-step d b h =
-    let e : b - d ≡ suc (b - (d + 1)) = omega arith in
+-- one more day of a walk
+pub walk-step : (d last : ℕ) → d ≤ last → workingDays d last ≡ cond (isWorking d) 1 0 + workingDays (d + 1) last
+unfolding workingFrom workingDays
+walk-step d last h =
+    let e : last + 1 - d ≡ suc (last + 1 - (d + 1)) = omega arith in
     rw (e, add-one d)
+
+-- none is left after the last day
+pub walk-end : (d last : ℕ) → last < d → workingDays d last ≡ 0
+unfolding workingFrom workingDays
+walk-end d last h =
+    let e : last + 1 - d ≡ 0 = omega arith in
+    rw e
 
 -- two stretches of days, one after the other
 stretches-sum : (s m n : ℕ) → workingFrom s (m + n) ≡ workingFrom s m + workingFrom (s + m) n
@@ -31,9 +38,25 @@ unfolding workingFrom
 past-none s zero h = refl
 past-none s (suc n) h = rw (past-idle s h) (omega (arith, past-none (suc s) n (omega arith)))
 
+pub past-days : (first last : ℕ) → 73049 ≤ first → workingDays first last ≡ 0
+unfolding workingDays
+past-days first last h = past-none first (last + 1 - first) h
+
 -- a count that ends past the calendar ends with the calendar
-pub past-cut : (s b : ℕ) → s ≤ 73049 → 73049 ≤ b → workingFrom s (b - s) ≡ workingFrom s (73049 - s)
-past-cut s b h g =
-    let e : b - s ≡ (73049 - s) + (b - 73049) = omega arith in
-    let none = past-none (s + (73049 - s)) (b - 73049) (omega arith) in
-    rw (e, stretches-sum s (73049 - s) (b - 73049)) (omega arith)
+pub past-cut : (first last : ℕ) → first ≤ 73048 → 73049 ≤ last → workingDays first last ≡ workingDays first 73048
+unfolding workingDays
+past-cut s last h g =
+    let e : last + 1 - s ≡ (73049 - s) + (last - 73048) = omega arith in
+    let none = past-none (s + (73049 - s)) (last - 73048) (omega arith) in
+    rw (e, stretches-sum s (73049 - s) (last - 73048)) (omega arith)
+
+-- the days after t and before e are those from the day after t to the day before e
+between-days : (t e : ℕ) → workingDays (t + 1) (e - 1) ≡ workingBetween t e
+unfolding workingBetween workingDays
+between-days t e =
+    let days : e - 1 + 1 - (t + 1) ≡ e - (t + 1) = omega arith in
+    rw days
+
+-- the same of a count n that was taken to day l
+pub between-counted : (n l t e : ℕ) → l ≡ e - 1 → n ≡ workingDays (t + 1) l → n ≡ workingBetween t e
+between-counted n l t e h k = rw h at k ∙ between-days t e

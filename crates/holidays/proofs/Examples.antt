@@ -11,7 +11,7 @@ use Rattle.dates.specs.Numbers.{monthStart, yearStart, dayNumber, isReal, dayAn
 use Rattle.dates.proofs.OneToOne.{one-to-one}
 use Rattle.holidays.specs.Easter.{easterSunday, easterDay}
 use Rattle.holidays.specs.Holidays.{fallsOn, isFixedHoliday, isAfterEaster, isHolidayOn, isHoliday}
-use Rattle.holidays.specs.Working.{isWorking, workingFrom, workingBetween}
+use Rattle.holidays.specs.Working.{isWorking, workingFrom, workingBetween, workingDays}
 use Rattle.holidays.specs.Examples.{Examples}
 use Rattle.holidays.proofs.Counting.{past-none}
 
@@ -36,10 +36,13 @@ between-may :
     (workingBetween (dayNumber 2021 5 19) (dayNumber 2021 5 25) ≡ 2) ×
     (workingBetween (dayNumber 2021 5 20) (dayNumber 2021 5 25) ≡ 1) ×
     (workingBetween (dayNumber 2021 5 18) (dayNumber 2021 5 25) ≡ 3) ×
-    (workingBetween (dayNumber 2021 5 19) (dayNumber 2021 5 26) ≡ 3)
+    (workingBetween (dayNumber 2021 5 19) (dayNumber 2021 5 26) ≡ 3) ×
+    (workingDays (dayNumber 2021 5 20) (dayNumber 2021 5 24) ≡ 2) ×
+    (workingDays (dayNumber 2021 5 21) (dayNumber 2021 5 24) ≡ 1) ×
+    (workingDays (dayNumber 2021 5 21) (dayNumber 2021 5 25) ≡ 2)
 unfolding weekday leapRow monthLength next dateOf monthStart yearStart dayNumber isReal dayAnswer easterSunday easterDay
-    fallsOn isFixedHoliday isAfterEaster isHolidayOn isHoliday isWorking workingFrom workingBetween
-between-may = (refl, refl, refl, refl)
+    fallsOn isFixedHoliday isAfterEaster isHolidayOn isHoliday isWorking workingFrom workingBetween workingDays
+between-may = (refl, refl, refl, refl, refl, refl, refl)
 
 none-past-the-end : (a b : ℕ) → lastDay ≤ a → workingBetween a b ≡ 0
 unfolding workingBetween
@@ -69,6 +72,9 @@ examples =
       between-20-and-25-may = between-may .1;
       between-18-and-25-may = between-may .2;
       between-19-and-26-may = between-may .3;
+      from-20-to-24-may = between-may .4;
+      from-21-to-24-may = between-may .5;
+      from-21-to-25-may = between-may .6;
       between-a-day-and-itself = refl;
       between-a-day-and-the-next = refl;
       between-backwards = refl;

@@ -8,7 +8,7 @@ use Rattle.dates.specs.Dates.{lastDay}
 use Rattle.dates.specs.Numbers.{dayNumber, dayAnswer}
 use Rattle.holidays.specs.Easter.{monthDay, easterSunday, easterDay}
 use Rattle.holidays.specs.Holidays.{isHoliday}
-use Rattle.holidays.specs.Working.{isWorking, workingBetween}
+use Rattle.holidays.specs.Working.{isWorking, workingBetween, workingDays}
 
 -- A date is a holiday, a date is worked.
 abbrev pub holidayOn : ℕ → ℕ → ℕ → Bool
@@ -40,6 +40,10 @@ pub record Examples : Type 0 where
   pub between-20-and-25-may : workingBetween (dayNumber 2021 5 20) (dayNumber 2021 5 25) ≡ 1
   pub between-18-and-25-may : workingBetween (dayNumber 2021 5 18) (dayNumber 2021 5 25) ≡ 3
   pub between-19-and-26-may : workingBetween (dayNumber 2021 5 19) (dayNumber 2021 5 26) ≡ 3
+  -- the same days counted from the first to the last of them
+  pub from-20-to-24-may : workingDays (dayNumber 2021 5 20) (dayNumber 2021 5 24) ≡ 2
+  pub from-21-to-24-may : workingDays (dayNumber 2021 5 21) (dayNumber 2021 5 24) ≡ 1
+  pub from-21-to-25-may : workingDays (dayNumber 2021 5 21) (dayNumber 2021 5 25) ≡ 2
   -- both ends are left out, and a walk backwards counts none
   pub between-a-day-and-itself : workingBetween 7815 7815 ≡ 0
   pub between-a-day-and-the-next : workingBetween 7815 7816 ≡ 0

@@ -1,4 +1,4 @@
--- 01, The calendar: working days, and how many lie between two days.
+-- 01, The calendar: working days, and how many lie between two days or from one to another.
 -- Definitions only.
 use Prim.Native.Nat.{ℕ, zero, suc, _+_, _-_}
 use mathlib.Core.Bool.{Bool, not, cond, _&&_}
@@ -18,3 +18,7 @@ workingFrom s (suc n) = cond (isWorking s) 1 0 + workingFrom (suc s) n
 -- 01, call 7: the working days that "lie after today and before e": strictly after a and strictly before b.
 unfoldable pub workingBetween : ℕ → ℕ → ℕ
 workingBetween a b = workingFrom (a + 1) (b - (a + 1))
+
+-- The working days from a first to a last day, both counted.
+unfoldable pub workingDays : ℕ → ℕ → ℕ
+workingDays first last = workingFrom first (last + 1 - first)

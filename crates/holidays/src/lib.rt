@@ -9,7 +9,7 @@ ghost use mathlib.Core.Path.{_≡_};
 ghost use Prim.Native.Nat.{_≤_};
 ghost use Rattle.holidays.specs.Easter.{easterDay};
 ghost use Rattle.holidays.specs.Holidays.{fallsOn, isFixedHoliday, isAfterEaster, isHoliday};
-ghost use Rattle.holidays.specs.Working.{isWorking, workingBetween};
+ghost use Rattle.holidays.specs.Working.{isWorking, workingDays};
 
 // A day of a month, in any year.
 pub struct MonthDay {
@@ -56,27 +56,27 @@ pub fn is_working(n: u64) -> bool
     !is_holiday(n)
 }
 
-// The working days strictly after a and strictly before b.
-pub fn working_between(a: u64, b: u64) -> u32
-    ensures { λ r. ⌜ r ≡ workingBetween a b ⌝ }
+// The working days from a first to a last day, both counted.
+pub fn working_days(first: u64, last: u64) -> u32
+    ensures { λ r. ⌜ r ≡ workingDays first last ⌝ }
 {
-    if a > dates::LAST_DAY as u64 {
+    if first > dates::LAST_DAY as u64 {
         return 0;
     }
-    if b > dates::LAST_DAY as u64 {
-        return count_working(a, dates::LAST_DAY as u64 + 1);
+    if last > dates::LAST_DAY as u64 {
+        return count_working(first, dates::LAST_DAY as u64);
     }
-    count_working(a, b)
+    count_working(first, last)
 }
 
-// The same by a walk day by day, for days of the calendar and the day after its last.
-fn count_working(a: u64, b: u64) -> u32
-    requires { ⌜ (a ≤ 73048) × (b ≤ 73049) ⌝ }
-    ensures { λ r. ⌜ r ≡ workingBetween a b ⌝ }
+// The same by a walk day by day, for days of the calendar.
+fn count_working(first: u64, last: u64) -> u32
+    requires { ⌜ (first ≤ 73048) × (last ≤ 73048) ⌝ }
+    ensures { λ r. ⌜ r ≡ workingDays first last ⌝ }
 {
     let mut count: u32 = 0;
-    let mut d = a + 1;
-    while d < b {
+    let mut d = first;
+    while d <= last {
         if is_working(d) {
             count += 1;
         }

@@ -93,7 +93,8 @@ fn shares_before(s: Span, day: u32) -> u64
     (s.advance * ((day - from) as u64)) / ((to - from) as u64)
 }
 
-fn less(a: u64, b: u64) -> u64
+// a - b, and 0 where b is the larger.
+pub fn less(a: u64, b: u64) -> u64
     ensures { λ r. ⌜ r ≡ a - b ⌝ }
 {
     if a < b { 0 } else { a - b }

@@ -1,8 +1,14 @@
 -- The proved table of document 01's dated examples: each field holds by computation. The calendar's facts at days that
 -- lie far from the first are computed once, and the lists of calls are rewritten with them.
-use mathlib.Core.Path.{refl}
+use mathlib.Core.Path.{_≡_, refl, ap}
+use mathlib.Core.Bool.{true, false}
+use Prim.Native.Nat.{ℕ}
+use lib.Dec.{ltb}
 use Rattle.dates.specs.Dates.{dateOf}
+use Rattle.rules.specs.declared.Pending.the-variants.{Request}
 use Rattle.rules.specs.declared.Answer.the-variants.{Accepted, Refused}
+use Rattle.rules.specs.Opening.{settingsOf}
+use Rattle.rules.specs.Rejections.{tooLate}
 use Rattle.rules.specs.Examples.{opens, cancelledOn, PExamples}
 use Rattle.rules.proofs.Computes.{machines, calendar, computes}
 use Rattle.rules.proofs.Scenes.{BothAlike, plays}
@@ -15,6 +21,13 @@ use Rattle.rules.proofs.DatesOn.{
   working-days-after-19-may,
   working-days-after-20-may,
 }
+
+-- The working days decide whether a cancel comes too late.
+in-time-on-19-may : tooLate (settingsOf (opens 7792)) 7809 (Request 6 7815) ≡ false
+in-time-on-19-may = ap (λ (n : ℕ). ltb n 2) working-days-after-19-may
+
+too-late-on-20-may : tooLate (settingsOf (opens 7792)) 7810 (Request 6 7815) ≡ true
+too-late-on-20-may = ap (λ (n : ℕ). ltb n 2) working-days-after-20-may
 
 -- The day book's answers to a request and the cancel are the register's.
 alike-on-19-may : BothAlike (opens 7792) (cancelledOn 7809 Accepted)
@@ -57,6 +70,8 @@ p-examples =
       whit-monday-2021 = unfold computes in refl;
       working-days-after-19-may = working-days-after-19-may;
       working-days-after-20-may = working-days-after-20-may;
+      in-time-on-19-may = in-time-on-19-may;
+      too-late-on-20-may = too-late-on-20-may;
       cancel-on-19-may-accepted = plays (rw (three-months-after-may-3, working-days-after-19-may)) alike-on-19-may;
       cancel-on-20-may-too-late = plays (rw (three-months-after-may-3, working-days-after-20-may)) alike-on-20-may;
       seven-in-ten = record { by-register = refl; by-book = refl };

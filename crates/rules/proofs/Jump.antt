@@ -212,6 +212,19 @@ module _ (S : Settings) (B : 0 < S .b) where
       next = λ t le. rw (le-leb e t le, z, eq-eqb e e refl);
     }
 
+    -- a request and a deadline d: the earlier one, and on one day the request
+    request-or-deadline : (k : SupplyKind) (s e d : ℕ) → endsBefore k e ≡ ltb d e → 0 < eventsLeft k (Request s e)
+        → (d < e → Fires (point k (Request s e)) d) → Fires (point k (Request s e)) (min e d)
+    request-or-deadline k s e d ends l deadline = go (leb e d) refl
+      where
+        go : (b : Bool) → leb e d ≡ b → Fires (point k (Request s e)) (min e d)
+        go true z =
+            let x : min e d ≡ e = omega (arith, leb-true e d z) in
+            rw x (switches k s e (ends ∙ le-ltb d e (leb-true e d z)) l)
+        go false z =
+            let x : min e d ≡ d = omega (arith, leb-false e d z) in
+            rw x (deadline (leb-false e d z))
+
     fires : (k : SupplyKind) (q : Pending) → AtDay (nextDay k q) (Fires (point k q))
     unfolding event pendingEvent deadlineEvent nextEvent dueBy expiryBy endsBefore happened
     fires None Nothing = tt
@@ -230,40 +243,22 @@ module _ (S : Settings) (B : 0 < S .b) where
     }
     fires None (Request s e) = switches None s e refl (omega arith)
     fires Contract (Request s e) = switches Contract s e refl (omega arith)
-    fires (Default d) (Request s e) = go (leb e d) refl
-      where
-        go : (b : Bool) → leb e d ≡ b → Fires (point (Default d) (Request s e)) (min e d)
-        go true z =
-            let le : e ≤ d = leb-true e d z in
-            let x : min e d ≡ e = omega arith in
-            rw x (switches (Default d) s e (le-ltb d e le) (omega arith))
-        go false z =
-            let lt : d < e = leb-false e d z in
-            let x : min e d ≡ d = omega arith in
-            let f : eqb e d ≡ false = ne-eqb e d (omega arith) in
-            rw x (record {
-              fewer = rw (f, eq-eqb d d refl) (omega arith);
-              kind = rw (f, eq-eqb d d refl) (omega arith);
-              pending = rw (f, eq-eqb d d refl) lt;
-              next = λ t le. rw (lt-ltb d e lt, and-false (leb e t), le-leb d t le, f, eq-eqb d d refl);
-            })
-    fires (LastResort d) (Request s e) = go (leb e d) refl
-      where
-        go : (b : Bool) → leb e d ≡ b → Fires (point (LastResort d) (Request s e)) (min e d)
-        go true z =
-            let le : e ≤ d = leb-true e d z in
-            let x : min e d ≡ e = omega arith in
-            rw x (switches (LastResort d) s e (le-ltb d e le) (omega arith))
-        go false z =
-            let lt : d < e = leb-false e d z in
-            let x : min e d ≡ d = omega arith in
-            let f : eqb e d ≡ false = ne-eqb e d (omega arith) in
-            rw x (record {
-              fewer = rw (f, eq-eqb d d refl) (omega arith);
-              kind = rw (f, eq-eqb d d refl) tt;
-              pending = rw (f, eq-eqb d d refl) tt;
-              next = λ t le. rw (lt-ltb d e lt, and-false (leb e t), le-leb d t le, f, eq-eqb d d refl);
-            })
+    fires (Default d) (Request s e) = request-or-deadline (Default d) s e d refl (omega arith) (λ lt.
+        let f : eqb e d ≡ false = ne-eqb e d (omega arith) in
+        record {
+          fewer = rw (f, eq-eqb d d refl) (omega arith);
+          kind = rw (f, eq-eqb d d refl) (omega arith);
+          pending = rw (f, eq-eqb d d refl) lt;
+          next = λ t le. rw (lt-ltb d e lt, and-false (leb e t), le-leb d t le, f, eq-eqb d d refl);
+        })
+    fires (LastResort d) (Request s e) = request-or-deadline (LastResort d) s e d refl (omega arith) (λ lt.
+        let f : eqb e d ≡ false = ne-eqb e d (omega arith) in
+        record {
+          fewer = rw (f, eq-eqb d d refl) (omega arith);
+          kind = rw (f, eq-eqb d d refl) tt;
+          pending = rw (f, eq-eqb d d refl) tt;
+          next = λ t le. rw (lt-ltb d e lt, and-false (leb e t), le-leb d t le, f, eq-eqb d d refl);
+        })
 
   abbrev nextOf : Point → NextDay
   nextOf g = nextDay (g .fields .supply .kind) (g .fields .supply .pending)

@@ -15,6 +15,7 @@ use Rattle.holidays.specs.Holidays.{isFixedHoliday, isAfterEaster}
 use Rattle.holidays.specs.Working.{isWorking, workingBetween}
 use Rattle.rules.specs.declared.Span.{Span}
 use Rattle.rules.specs.declared.Opening.{Opening}
+use Rattle.rules.specs.declared.Pending.the-variants.{Request}
 use Rattle.rules.specs.declared.Action.the-variants.{SignContract, At}
 use Rattle.rules.specs.declared.Action.the-variants as action
 use Rattle.rules.specs.declared.PointAction.the-variants.{
@@ -29,7 +30,8 @@ use Rattle.rules.specs.declared.PointAction.the-variants.{
 use Rattle.rules.specs.declared.Answer.{Answer}
 use Rattle.rules.specs.declared.Answer.the-variants.{Accepted, AcceptedOn, Refused, RefusedUntil}
 use Rattle.rules.specs.Volumes.{dayVolume}
-use Rattle.rules.specs.Rejections.{openingAnswer}
+use Rattle.rules.specs.Opening.{settingsOf}
+use Rattle.rules.specs.Rejections.{openingAnswer, tooLate}
 use Rattle.rules.specs.Register.{period}
 use Rattle.rules.specs.Demand3.{sumDays}
 use Rattle.rules.specs.Scenes.{Line, _gives_, opening, on, Plays, Shows}
@@ -121,6 +123,8 @@ pub record PExamples : Type 0 where
   pub whit-monday-2021 : isAfterEaster 7814 (easterDay 2021) ≡ true
   pub working-days-after-19-may : workingBetween 7809 7815 ≡ 2
   pub working-days-after-20-may : workingBetween 7810 7815 ≡ 1
+  pub in-time-on-19-may : tooLate (settingsOf (opens 7792)) 7809 (Request 6 7815) ≡ false
+  pub too-late-on-20-may : tooLate (settingsOf (opens 7792)) 7810 (Request 6 7815) ≡ true
   pub cancel-on-19-may-accepted : Plays (opens 7792) (cancelledOn 7809 Accepted)
   pub cancel-on-20-may-too-late : Plays (opens 7792) (cancelledOn 7810 (Refused 26))
   -- "V = 7, D = 10, U = 1, new holder at k = 3: 2 and 5."

@@ -3,7 +3,7 @@ use crate::tally;
 use crate::tally::Tally;
 use dates::DayAnswer;
 use holidays::easter_day;
-use holidays::working_between;
+use holidays::working_days;
 
 pub(crate) fn all() -> Tally {
     let mut t = tally::none();
@@ -72,9 +72,9 @@ fn three_months(t: Tally) -> Tally {
 
 // Before 25 May 2021 two working days lie after 19 May, and fewer after 20 May, as 24 May is Whit Monday.
 fn days_to_cancel(t: Tally) -> Tally {
-    let end = day(2021, 5, 25);
-    let early = working_between(day(2021, 5, 19), end) as u64;
-    let late = working_between(day(2021, 5, 20), end) as u64;
+    let last = day(2021, 5, 24);
+    let early = working_days(day(2021, 5, 20), last) as u64;
+    let late = working_days(day(2021, 5, 21), last) as u64;
     let after = tally::told(
         t,
         b"working days after 19 May and before 25 May 2021: ",

@@ -1,10 +1,28 @@
 -- `is_after_easter` meets its contract: three days after Easter Sunday, and none where there is no Easter.
-use mathlib.Core.Path.{_∙_, sym}
+use mathlib.Core.Path.{_≡_, _∙_, sym}
+use mathlib.Core.Bool.{true}
+use Prim.Native.Nat.{ℕ, _+_}
+use lib.Dec.{eqb}
 use borrow.Author.Tests.{eq-eqb, ne-eqb}
+use Rattle.dates.specs.declared.DayAnswer.the-variants.{Day}
 use Rattle.holidays.specs.Holidays.{isAfterEaster}
 use borrow.Author.Needs.{needs}
 use Rattle.holidays.proofs.is_after_easter.Statement.{statement}
 use Rattle.holidays.proofs.is_after_easter.Tie as tie
+
+-- the three days after Easter Sunday e
+module _ (n e : ℕ) where
+  first-day : n ≡ e + 1 → isAfterEaster n (Day e) ≡ true
+  unfolding isAfterEaster
+  first-day h = rw (eq-eqb n (e + 1) h)
+
+  second-day : (n ≡ e + 1 → ⊥) → n ≡ e + 39 → isAfterEaster n (Day e) ≡ true
+  unfolding isAfterEaster
+  second-day f h = rw (ne-eqb n (e + 1) f, eq-eqb n (e + 39) h)
+
+  third-day : (n ≡ e + 1 → ⊥) → (n ≡ e + 39 → ⊥) → isAfterEaster n (Day e) ≡ eqb n (e + 50)
+  unfolding isAfterEaster
+  third-day f g = rw (ne-eqb n (e + 1) f, ne-eqb n (e + 39) g)
 
 easter-day-requires : tie.Need-easter-day-requires
 easter-day-requires c κs = search needs
@@ -26,30 +44,27 @@ add-if1 : tie.Need-add-if1
 add-if1 c = search needs
 
 returns-2 : tie.Need-returns-2
-unfolding isAfterEaster
 returns-2 c =
     let easter = sym (c .before .before .before .before .easter-day .ensures) ∙ c .before .before .answer .given .1 in
-    rw (easter, eq-eqb _ _ (c .if1 .taken))
+    rw easter (sym (first-day _ _ (c .if1 .taken)))
 
 add-if2 : tie.Need-add-if2
 add-if2 c = search needs
 
 returns-3 : tie.Need-returns-3
-unfolding isAfterEaster
 returns-3 c =
     let easter = sym (c .before .before .before .before .before .easter-day .ensures) ∙
     c .before .before .before .answer .given .1 in
-    rw (easter, ne-eqb _ _ (c .before .if1 .left), eq-eqb _ _ (c .if2 .taken))
+    rw easter (sym (second-day _ _ (c .before .if1 .left) (c .if2 .taken)))
 
 add-result : tie.Need-add-result
 add-result c = search needs
 
 returns-4 : tie.Need-returns-4
-unfolding isAfterEaster
 returns-4 c =
     let easter = sym (c .before .before .before .before .before .easter-day .ensures) ∙
     c .before .before .before .answer .given .1 in
-    rw (easter, ne-eqb _ _ (c .before .if1 .left), ne-eqb _ _ (c .if2 .left))
+    rw easter (sym (third-day _ _ (c .before .if1 .left) (c .if2 .left)))
 
 pub is-after-easter-spec : {M : Type 1} → statement M
 is-after-easter-spec =

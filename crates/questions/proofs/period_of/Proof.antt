@@ -24,6 +24,9 @@ marks-requires c κs = search needs
 outside-requires : tie.Need-outside-requires
 outside-requires c κs = search needs
 
+sub-i : tie.Need-sub-i
+sub-i c = omega (arith, range-in 1 (c .before .before .marks .result) (c .before .before .before .before .before .before .args .n) (sym (c .before .outside .ensures) ∙ c .if2 .left) .0)
+
 returns-2 : tie.Need-returns-2
 unfolding periodAnswer
 returns-2 c =
@@ -35,9 +38,6 @@ returns-2 c =
       ← (c .before .outside .ensures),
       c .if2 .taken,
     )
-
-sub-i : tie.Need-sub-i
-sub-i c = omega (arith, range-in 1 (c .before .before .marks .result) (c .before .before .before .before .before .before .args .n) (sym (c .before .outside .ensures) ∙ c .if2 .left) .0)
 
 mul-q : tie.Need-mul-q
 mul-q c = let k = range-in 1 (c .before .before .marks .result) (c .before .before .before .before .before .before .args .n) (sym (c .before .outside .ensures) ∙ c .if2 .left) in omega (arith, k .0, k .1, c .before .before .marks .ensures)

@@ -1,5 +1,5 @@
-use lib.ListN.{getD}
 -- A failure: 22, 20, 21 and 1 first.
+use lib.ListN.{getD}
 use mathlib.Core.Path.{_≡_, refl, sym, _∙_, ap}
 use mathlib.Core.Bool.{true, false}
 use Prim.Native.Nat.{_+_, _≤_, _<_}
@@ -17,6 +17,10 @@ use Rattle.register.proofs.fail.Lts as lts
 use Rattle.checks.proofs.outside.Reads as outside-reads
 use Rattle.register.proofs.fail_under_contract.Reads as fail-under-contract-reads
 use Rattle.register.proofs.refused.Reads as refused-reads
+
+fail-under-contract-requires : tie.Need-fail-under-contract-requires
+fail-under-contract-requires c κs = let k = supplier-in (c .before .before .before .before .before .before .before .before .before .args .s) (sym (c .before .before .before .before .before .before .before .outside .ensures) ∙ c .before .before .before .before .before .before .if1 .left) in
+    record { least = k .0; most = k .1; calendar = omega arith; on = omega arith; signed = not-false _ (c .if5 .left) }
 
 outside-requires : tie.Need-outside-requires
 outside-requires c κs = search needs
@@ -95,10 +99,6 @@ returns-5 c = let k : getD (c .before .before .before .before .before .before .b
 
 cast-fail-under-contract : tie.Need-cast-fail-under-contract
 cast-fail-under-contract c = omega (arith, supplier-in (c .before .before .before .before .before .before .before .before .before .args .s) (sym (c .before .before .before .before .before .before .before .outside .ensures) ∙ c .before .before .before .before .before .before .if1 .left) .1)
-
-fail-under-contract-requires : tie.Need-fail-under-contract-requires
-fail-under-contract-requires c κs = let k = supplier-in (c .before .before .before .before .before .before .before .before .before .args .s) (sym (c .before .before .before .before .before .before .before .outside .ensures) ∙ c .before .before .before .before .before .before .if1 .left) in
-    record { least = k .0; most = k .1; calendar = omega arith; on = omega arith; signed = not-false _ (c .if5 .left) }
 
 returns-6 : tie.Need-returns-6
 returns-6 c = c .fail-under-contract .ensures

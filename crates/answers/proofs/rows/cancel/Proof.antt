@@ -9,7 +9,9 @@ use Rattle.answers.proofs.rows.cancel.Statement.{statement}
 use Rattle.answers.proofs.rows.cancel.Tie as tie
 use Rattle.answers.proofs.rows.cancel.Reads as reads
 use Rattle.answers.proofs.rows.cancel.Lts as lts
-use Rattle.holidays.proofs.working_between.Reads as working-between-reads
+use Rattle.holidays.proofs.Counting.{between-counted}
+use Rattle.holidays.proofs.working_days.Reads as working-days-reads
+use Rattle.periods.proofs.less.Reads as less-reads
 use Rattle.answers.proofs.ranges.not_enrolled.Reads as not-enrolled-reads
 
 not-enrolled-requires : tie.Need-not-enrolled-requires
@@ -47,11 +49,17 @@ returns-3 c =
       ne-eqb _ _ (c .if2 .taken),
     )
 
-cast-working-between : tie.Need-cast-working-between
-cast-working-between c = search needs
+cast-less : tie.Need-cast-less
+cast-less c = search needs
 
-working-between-requires : tie.Need-working-between-requires
-working-between-requires c κs = search needs
+less-requires : tie.Need-less-requires
+less-requires c κs = search needs
+
+add-working-days : tie.Need-add-working-days
+add-working-days c = search needs
+
+working-days-requires : tie.Need-working-days-requires
+working-days-requires c κs = search needs
 
 cast-if3 : tie.Need-cast-if3
 cast-if3 c = search needs
@@ -59,24 +67,26 @@ cast-if3 c = search needs
 returns-4 : tie.Need-returns-4
 unfolding rulingAt rowsAt acceptedAt firstOf
 returns-4 c =
+    let between = between-counted _ _ _ _ (c .before .before .before .less .ensures) (c .before .before .working-days .ensures) in
     rw (
-      ← (c .before .before .before .before .before .before .before .before .not-enrolled .ensures),
-      c .before .before .before .before .before .before .before .if1 .left,
-      c .before .before .before .before .before .q .given .1,
-      eq-eqb _ _ (c .before .before .before .if2 .left),
-      ← (c .before .before .working-between .ensures),
+      ← (c .before .before .before .before .before .before .before .before .before .not-enrolled .ensures),
+      c .before .before .before .before .before .before .before .before .if1 .left,
+      c .before .before .before .before .before .before .q .given .1,
+      eq-eqb _ _ (c .before .before .before .before .if2 .left),
+      ← between,
       lt-ltb _ _ (c .if3 .taken),
     )
 
 returns-5 : tie.Need-returns-5
 unfolding rulingAt rowsAt acceptedAt firstOf
 returns-5 c =
+    let between = between-counted _ _ _ _ (c .before .before .before .less .ensures) (c .before .before .working-days .ensures) in
     rw (
-      ← (c .before .before .before .before .before .before .before .before .not-enrolled .ensures),
-      c .before .before .before .before .before .before .before .if1 .left,
-      c .before .before .before .before .before .q .given .1,
-      eq-eqb _ _ (c .before .before .before .if2 .left),
-      ← (c .before .before .working-between .ensures),
+      ← (c .before .before .before .before .before .before .before .before .before .not-enrolled .ensures),
+      c .before .before .before .before .before .before .before .before .if1 .left,
+      c .before .before .before .before .before .before .q .given .1,
+      eq-eqb _ _ (c .before .before .before .before .if2 .left),
+      ← between,
       le-ltb _ _ (c .if3 .left),
     )
 
@@ -91,8 +101,10 @@ cancel-spec =
     returns-2
     cast-if2
     returns-3
-    cast-working-between
-    working-between-requires
+    cast-less
+    less-requires
+    add-working-days
+    working-days-requires
     cast-if3
     returns-4
     returns-5)

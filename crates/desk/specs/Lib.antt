@@ -1,4 +1,2 @@
 pub mod Desk
 pub mod Table
-pub mod Quick
-pub mod Daily

@@ -1,17 +1,5 @@
 // What a message is answered, and what it changes, before and after the register is opened.
-mod daily;
-mod quick;
-
-pub use daily::daily_of;
 use message::Message;
-pub use quick::day_after;
-pub use quick::due_day;
-pub use quick::first_due;
-pub use quick::is_quick;
-pub use quick::place_of;
-pub use quick::signed_after;
-pub use quick::supplier_of;
-pub use quick::turn_of;
 use register::Opened;
 use register::apply;
 use register::begin;

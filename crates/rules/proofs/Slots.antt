@@ -4,7 +4,7 @@
 use mathlib.Core.Path.{_≡_, refl, sym, _∙_, ap, ap₂}
 use mathlib.Core.Bool.{Bool, true, false, cond, _&&_, false≢true}
 use mathlib.Core.List.{List, [], _∷_, _++_, reverse, reverseAux, append-nil}
-use Prim.Native.Nat.{ℕ, zero, suc, _+_, _-_, _*_, _%_, _^_, _≤_, _<_}
+use Prim.Native.Nat.{ℕ, zero, suc, _+_, _-_, _*_, _^_, _≤_, _<_}
 use native.Mathlib.Omega.{arith}
 use native.Mathlib.Decide.{decLe}
 use native.Mathlib.Numerals.{add-one}
@@ -114,25 +114,17 @@ begin-new : (t s : ℕ) (ps : List Period) → beganOn t ps ≡ false → begin 
 begin-new t s [] b = refl
 begin-new t s (p ∷ ps) b = rw b
 
-named-again : (t s : ℕ) (h : History) → startsOn t h ≡ true → named t s h ≡ replaced t s h
-unfolding named
-named-again t s h q = ap (λ (b : Bool). cond b (replaced t s h) (appended t s h)) q
-
-named-first : (t s : ℕ) (h : History) → startsOn t h ≡ false → named t s h ≡ appended t s h
-unfolding named
-named-first t s h q = ap (λ (b : Bool). cond b (replaced t s h) (appended t s h)) q
-
 module _ (t s : ℕ) (h : History) (z : Sized h) where
   named-both : (b : Bool) → startsOn t h ≡ b → h .count + cond b 0 1 ≤ 24
       → (listed (named t s h) ≡ begin t s (listed h)) × Sized (named t s h)
-  unfolding replaced appended
+  unfolding named replaced appended
   named-both true q le =
-      rw (named-again t s h q, used-count h z) (
+      rw (q, used-count h z) (
         begin-again t s (h .count) (h .periods) (sym (starts-listed t h z) ∙ q) (omega arith),
         record { slots = rw length-set (z .slots); some = z .some },
       )
   named-both false q le =
-      rw (named-first t s h q, used-count h z, lt-ltb (h .count) 24 (omega arith)) (
+      rw (q, used-count h z, lt-ltb (h .count) 24 (omega arith)) (
         rw add-one
             (recent-push (h .count) (h .periods) (period t s 0) (omega arith)
             ∙ sym (begin-new t s (listed h) (sym (starts-listed t h z) ∙ q))),
@@ -190,9 +182,9 @@ module _ (s : Span) (lt : s .from < s .to) where
       → bookedPeriod s e q ≡ period (q .start) (q .holder) (q .volume + (given s e - given s (q .start)))
   unfolding bookedPeriod
   bookedPeriod-exact e q fits =
-      ap (λ (gas : ℕ). period (q .start) (q .holder) ((q .volume + gas) % 2 ^ 64))
-      (sub-mul (sharesBefore s e) (sharesBefore s (q .start)) (s .unit))
-      ∙ ap (period (q .start) (q .holder)) (mod-eq-of-lt (omega (arith, given-le s lt e)))
+      ap (period (q .start) (q .holder))
+      (rw (sub-mul (sharesBefore s e) (sharesBefore s (q .start)) (s .unit))
+      (mod-eq-of-lt (omega (arith, given-le s lt e))))
 
   -- periods that end by the reading's first day get nothing
   bookTotal-before : (ps : List Period) (e : ℕ) → e ≤ s .from → Desc e ps → bookTotal (given s) e ps ≡ ps

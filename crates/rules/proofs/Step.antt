@@ -66,8 +66,8 @@ use Rattle.rules.specs.Register.{
 }
 use Rattle.rules.specs.DayBook
 use Rattle.rules.specs.DayBook.{Book, Page, goOn, upToDay, look, signed, written, next, enrols}
-use Rattle.rules.proofs.Good.{Fine, Good}
-use Rattle.rules.proofs.Answered.{
+use Rattle.rules.proofs.Theorem.Good.{Fine, Good}
+use Rattle.rules.proofs.Theorem.Answered.{
   shown-in,
   answer-ext,
   answer-off,
@@ -76,9 +76,10 @@ use Rattle.rules.proofs.Answered.{
   passed,
   names-point,
 }
-use Rattle.rules.proofs.Accept.{pass, neither, call-good}
+use Rattle.rules.proofs.Accept.{pass, neither}
+use Rattle.rules.proofs.Theorem.Kept.{call-good}
 use Rattle.rules.proofs.Tied.{Told, Tied, views-agree, effect-tied}
-use Rattle.rules.proofs.Days.{gone-on, point-map, caught}
+use Rattle.rules.proofs.Theorem.Days.{gone-on, point-map, caught}
 
 -- The whole book beside the whole register, with the readings and enrolments of each point so far.
 pub record Agree (l : ℕ → List Span) (n : ℕ → List ℕ) (b : Book) (r : Register) : Type 0 where

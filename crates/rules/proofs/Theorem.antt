@@ -15,11 +15,17 @@ use Rattle.rules.specs.DayBook.{Page}
 use Rattle.rules.specs.Demand3.{DayBookAgrees, Demand3, PointAgrees, startsOf}
 use Rattle.rules.proofs.Tally.{tally-length, oldest}
 use Rattle.rules.proofs.Slots.{listed, length-listed}
-use Rattle.rules.proofs.Cover.{starts-read, volumes-read, total-read, first-read, first-read-none, covered-read}
-use Rattle.rules.proofs.Good.{Wheels}
+use Rattle.rules.proofs.Theorem.Cover.{starts-read, volumes-read, total-read, first-read, first-read-none, covered-read}
+use Rattle.rules.proofs.Theorem.Good.{Wheels}
 use Rattle.rules.proofs.Tied.{Tied, Since}
 use Rattle.rules.proofs.Step.{Agree}
 use Rattle.rules.proofs.Run.{run-agrees, run-answers}
+pub mod Jump
+pub mod Good
+pub mod Kept
+pub mod Answered
+pub mod Days
+pub mod Cover
 
 turn-exact : (m : Meter) → Wheels m → fullTurn m ≡ 10 ^ (m .before + m .after)
 unfolding fullTurn

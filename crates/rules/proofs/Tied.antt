@@ -57,7 +57,7 @@ use Rattle.rules.proofs.Slots.{
   bookedAll-listed,
   bookedAll-sized,
 }
-use Rattle.rules.proofs.Good.{perDay, Wheels, Fine, Keeps, Names, Enrols, Good}
+use Rattle.rules.proofs.Theorem.Good.{perDay, Wheels, Fine, Keeps, Names, Enrols, Good}
 
 -- The oldest period starts on the one enrolment day, at or before the last reading.
 pub record Since (n : List ℕ) (ps : List Period) (d : ℕ) : Type 0 where

@@ -1,7 +1,5 @@
 -- The rows of a cancellation, in order: none pending, or another supplier's, is 25.
-use native.Mathlib.Omega.{arith}
-use borrow.Author.Tests.{lt-ltb, le-ltb, le-leb, lt-leb, eq-eqb, ne-eqb, not-true, not-false}
-use Rattle.rules.specs.Effects.{effectOf}
+use borrow.Author.Tests.{lt-ltb, le-ltb, eq-eqb, ne-eqb}
 use Rattle.rules.specs.Rejections.{firstOf, rowsAt, acceptedAt}
 use Rattle.answers.specs.Ruling.{rulingAt}
 use borrow.Author.Needs.{needs}

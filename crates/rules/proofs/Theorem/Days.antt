@@ -19,8 +19,8 @@ use Rattle.rules.specs.Volumes.{volume}
 use Rattle.rules.specs.Register.{catchUp, register, pointAt, noPoint, advanced}
 use Rattle.rules.specs.DayBook.{Cell, cell, Page, Book, newDay, goOn, upToDay, look}
 use Rattle.rules.proofs.Tally.{live-runs, dawn}
-use Rattle.rules.proofs.Jump.{Ahead, onDay, daily, daily-catchUp}
-use Rattle.rules.proofs.Good.{Fine, Good, event-good}
+use Rattle.rules.proofs.Theorem.Jump.{Ahead, onDay, daily, daily-catchUp}
+use Rattle.rules.proofs.Theorem.Good.{Fine, Good, event-good}
 use Rattle.rules.proofs.Tied.{Told, Tied, effect-tied}
 
 module _ (S : Settings) (B : 0 < S .b) where

@@ -1,6 +1,6 @@
 -- What an answer looks at, and what an accepted call has passed.
 use mathlib.Core.Path.{_≡_, refl, fun-ext}
-use mathlib.Core.Bool.{Bool, true, false, cond, _||_, false≢true}
+use mathlib.Core.Bool.{Bool, true, false, cond, _||_}
 use mathlib.Core.List.{List, [], _∷_}
 use Prim.Native.Nat.{ℕ, _≤_}
 use lib.Dec.{ltb}
@@ -22,17 +22,13 @@ use Rattle.rules.specs.declared.PointAction.the-variants.{
   OutOfService,
   Suspend,
 }
-use Rattle.rules.specs.declared.Answer.{Answer}
 use Rattle.rules.specs.Answers.{isAccepted}
 use Rattle.rules.specs.Rejections.{
-  Row,
-  _⇒_,
   View,
   blankView,
   firstOf,
   notPoint,
   outOfRange,
-  offCalendar,
   rowsAt,
   rows,
   acceptedAt,
@@ -62,30 +58,16 @@ pub answer-ext : (S : Settings) (day : ℕ) (u : List Bool) (c : Call) (v w : �
 unfolding answer
 answer-ext S day u c v w h = rw (fun-ext (shown-ext v w h))
 
--- Rows behind one that applies do not matter.
-behind : (b : Bool) (n : ℕ) (rs qs : List Row) (a : Answer) → b ≡ true → firstOf ((b ⇒ n) ∷ rs) a ≡ firstOf ((b ⇒ n) ∷ qs) a
-unfolding firstOf
-behind true n rs qs a h = refl
-behind false n rs qs a h = absurd (false≢true h)
-
-below : (r : Row) (rs qs : List Row) (a : Answer) → firstOf rs a ≡ firstOf qs a → firstOf (r ∷ rs) a ≡ firstOf (r ∷ qs) a
-unfolding firstOf
-below r rs qs a h = rw h
-
-or-left : (a b : Bool) → a ≡ true → (a || b) ≡ true
-or-left a b h = rw h
-
 -- A call off the calendar, or dated before the register's day, is refused whatever the points are.
 pub answer-off : (S : Settings) (day : ℕ) (u : List Bool) (t : ℕ) (a : Action) (v w : ℕ → View) → ltb lastDay t ≡ true
     → answerTo S day u t a v ≡ answerTo S day u t a w
-unfolding answerTo
-answer-off S day u t a v w q =
-    below _ _ _ _ (behind (ltb lastDay t || offCalendar S t a) 20 _ _ (accepted t a) (or-left _ _ q))
+unfolding answerTo firstOf
+answer-off S day u t a v w q = rw q
 
 pub answer-back : (S : Settings) (day : ℕ) (u : List Bool) (t : ℕ) (a : Action) (v w : ℕ → View) → ltb t day ≡ true
     → answerTo S day u t a v ≡ answerTo S day u t a w
-unfolding answerTo
-answer-back S day u t a v w q = below _ _ _ _ (below _ _ _ _ (behind (ltb t day) 21 _ _ (accepted t a) q))
+unfolding answerTo firstOf
+answer-back S day u t a v w q = rw q
 
 -- A call that names a point looks at that point only.
 pub answer-at : (S : Settings) (day : ℕ) (u : List Bool) (t p : ℕ) (a : PointAction) (v w : ℕ → View) → v p ≡ w p

@@ -24,7 +24,7 @@ use Rattle.rules.specs.Effects.{Effect, keep, name, fieldsOf, event, pen
 use Rattle.rules.specs.Volumes.{registered}
 use Rattle.rules.specs.Rejections.{View, due, kindDue, pendingDue, marksAfter}
 use Rattle.rules.proofs.Shares.{All}
-use Rattle.rules.proofs.Jump.{Ahead, KindAhead, PendingAhead}
+use Rattle.rules.proofs.Theorem.Jump.{Ahead, KindAhead, PendingAhead}
 
 -- No reading books more than this, and each takes a day.
 abbrev pub perDay : ℕ

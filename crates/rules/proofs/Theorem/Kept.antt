@@ -1,0 +1,284 @@
+-- Every accepted call leaves a fine point behind (`Good`), whichever point one looks at.
+use mathlib.Core.Path.{_≡_, refl, sym, _∙_, ap, subst}
+use mathlib.Core.Bool.{Bool, true, false, cond, not, _&&_, _||_, false≢true}
+use mathlib.Core.List.{List, [], _∷_}
+use Prim.Native.Nat.{ℕ, zero, suc, _+_, _-_, _*_, _^_, _≤_, _<_, min, max}
+use native.Mathlib.Omega.{arith}
+use native.Mathlib.Nat.{pow-le-pow-right, mul-le-mul-right, le-trans}
+use lib.Dec.{eqb, leb, ltb}
+use lib.Pow.{pow-add}
+use borrow.Author.Tests.{eqb-true, eqb-false, leb-false, ltb-true, ltb-false, not-false}
+use Rattle.rules.specs.declared.Fields.{Fields}
+use Rattle.rules.specs.declared.Settings.{Settings}
+use Rattle.rules.specs.declared.Supply.{Supply}
+use Rattle.rules.specs.declared.SupplyKind.{SupplyKind}
+use Rattle.rules.specs.declared.SupplyKind.the-variants.{None, Contract, Default, LastResort}
+use Rattle.rules.specs.declared.Pending.{Pending}
+use Rattle.rules.specs.declared.Pending.the-variants.{Nothing, Request}
+use Rattle.rules.specs.declared.Meter.{Meter}
+use Rattle.rules.specs.declared.Action.{Action}
+use Rattle.rules.specs.declared.Action.the-variants.{SignContract, Failure, At, Day}
+use Rattle.rules.specs.declared.PointAction.{PointAction}
+use Rattle.rules.specs.declared.PointAction.the-variants.{
+  Enrol,
+  IntoService,
+  DefaultSupply,
+  AskSwitch,
+  Cancel,
+  Read,
+  ChangeMeter,
+  OutOfService,
+  Suspend,
+}
+use Rattle.rules.specs.declared.Answer.{Answer}
+use Rattle.rules.specs.declared.Answer.the-variants.{RefusedUntil}
+use Rattle.rules.specs.Fields.{supply, meter, reading, fields, withSupply, withPending, unsupplied}
+use Rattle.rules.specs.Effects.{Effect, keep, name, fieldsOf, notice, effectiveDay, effectOf, failed, effect, dropped}
+use Rattle.rules.specs.Volumes.{fullTurn, unitOf, advanceOf, spanTo, registered, spansOf, spans}
+use Rattle.rules.specs.Answers.{isAccepted}
+use Rattle.rules.specs.Rejections.{
+  View,
+  Row,
+  firstOf,
+  due,
+  pendingDue,
+  marksAfter,
+  isFull,
+  isBy,
+  touches,
+  anyPoint,
+  outside,
+  notPoint,
+  notMark,
+  notWheels,
+  notEnrolled,
+  outOfTime,
+  indexDisagrees,
+  lastResortNear,
+  outOfRangeAt,
+  outOfRange,
+  rowsAt,
+  rows,
+  acceptedAt,
+  accepted,
+}
+use Rattle.rules.specs.DayBook.{enrolsAt, enrols}
+use Rattle.rules.proofs.Accept.{pass, neither}
+use Rattle.rules.proofs.Theorem.Jump.{Ahead, PendingAhead}
+use Rattle.rules.proofs.Theorem.Good.{
+  perDay,
+  Wheels,
+  Fine,
+  Names,
+  Good,
+  marks-most,
+  not-blank,
+  unread,
+  unchanged,
+  naming,
+}
+
+pass-near : (t : ℕ) (k : SupplyKind) (rs : List Row) (a : Answer) → isAccepted (firstOf (lastResortNear t k ∷ rs) a) ≡ true
+    → isAccepted (firstOf rs a) ≡ true
+unfolding firstOf
+pass-near t None rs a h = h
+pass-near t Contract rs a h = h
+pass-near t (Default d) rs a h = go (leb d (t + notice)) h
+  where
+    go : (b : Bool) → isAccepted (cond b (RefusedUntil d) (firstOf rs a)) ≡ true → isAccepted (firstOf rs a) ≡ true
+    go true z = absurd (false≢true z)
+    go false z = z
+pass-near t (LastResort d) rs a h = h
+
+is-enrolled : (p : ℕ) (v : View) → notEnrolled p v ≡ false → v .fields .enrolled ≡ true
+is-enrolled p v h = not-false _ (neither (notPoint p) _ h .1)
+
+-- What a reading books: at most a full turn, which is at most 10^11 thousandths.
+turn-unit : (m : Meter) → Wheels m → fullTurn m * unitOf m ≤ perDay
+unfolding fullTurn unitOf
+turn-unit m w =
+    let k : min (m .before + m .after) 11 + (3 - m .after) ≤ 11 = omega arith in
+    rw (← (pow-add 10 (min (m .before + m .after) 11) (3 - m .after))) (pow-le-pow-right (omega arith) k)
+
+advance-most : (x₁ x z turn : ℕ) → z ≤ 1 → leb turn x ≡ false → (eqb z 0 && ltb x x₁) ≡ false → (eqb z 1 && not (ltb x x₁)) ≡ false
+    → advanceOf x₁ x z turn ≤ turn
+unfolding advanceOf
+advance-most x₁ x zero turn h a b c = omega (arith, leb-false turn x a)
+advance-most x₁ x (suc zero) turn h a b c = omega (arith, ltb-true x x₁ (not-false (ltb x x₁) c))
+advance-most x₁ x (suc (suc z)) turn h a b c = absurd (omega arith)
+
+span-most : (f : Fields) (d x z : ℕ) → Wheels (f .meter) → notMark z ≡ false → indexDisagrees f x z ≡ false
+    → spanTo f d x z .advance * spanTo f d x z .unit ≤ perDay
+unfolding spanTo
+span-most f d x z w m i =
+    let c = neither (leb (fullTurn (f .meter)) x || (eqb z 0 && ltb x (f .reading .index))) _ i in
+    let b = neither (leb (fullTurn (f .meter)) x) _ (c .0) in
+    le-trans
+    (mul-le-mul-right (unitOf (f .meter))
+    (advance-most (f .reading .index) x z (fullTurn (f .meter)) (ltb-false 1 z (neither (ltb z 0) (ltb 1 z) m .1)) (b .0) (b .1) (c .1)))
+    (turn-unit (f .meter) w)
+
+pending-dropped : (t s : ℕ) (q : Pending) → PendingAhead t q → PendingAhead t (dropped s q)
+pending-dropped t s Nothing h = tt
+pending-dropped t s (Request q e) h = go (eqb q s)
+  where
+    go : (b : Bool) → PendingAhead t (cond b Nothing (Request q e))
+    go true = tt
+    go false = h
+
+due-dropped : (s : ℕ) (q : Pending) → pendingDue (dropped s q) ≤ pendingDue q
+due-dropped s Nothing = omega arith
+due-dropped s (Request q e) = go (eqb q s)
+  where
+    go : (b : Bool) → pendingDue (cond b Nothing (Request q e)) ≤ 1
+    go true = omega arith
+    go false = omega arith
+
+module _ (S : Settings) (A : 0 < S .a) (B : 0 < S .b) (u : List Bool) (t : ℕ) where
+  -- the calls that name a point, there
+  module _ (v : View) (h : Fine t v) where
+    not-full : (e : Effect) → isFull v e ≡ false → marksAfter v e + due (fieldsOf e .supply) ≤ 24
+    not-full e f = ltb-false 24 (marksAfter v e + due (fieldsOf e .supply)) f
+
+    -- a pending request comes or goes
+    asks : v .fields .enrolled ≡ true → (q : Pending) → PendingAhead t q → marksAfter v (keep (withPending (v .fields) q)) + due (withPending (v .fields) q .supply) ≤ 24
+        → Good t v (keep (withPending (v .fields) q)) [] []
+    asks y q a f =
+        unread t v h (keep (withPending (v .fields) q)) [] refl refl (record { kind = h .ahead .kind; pending = a }) refl (refl, refl) f
+        (not-blank y)
+
+    -- a reading on day d
+    reads : v .fields .enrolled ≡ true → (d x z : ℕ) (g : Fields) → g .reading .day ≡ d → g .enrolled ≡ v .fields .enrolled
+        → g .supply ≡ v .fields .supply → Wheels (g .meter) → outOfTime t d (v .fields) ≡ false
+        → notMark z ≡ false → indexDisagrees (v .fields) x z ≡ false → Good t v (keep g) (spanTo (v .fields) d x z ∷ []) []
+    unfolding registered spanTo
+    reads y d x z g r n s w o m i =
+        let c = neither (leb d (v .fields .reading .day)) (ltb t d) o in
+        let lt : v .fields .reading .day < d = leb-false d (v .fields .reading .day) (c .0) in
+        let le : d ≤ t = ltb-false t d (c .1) in
+        record {
+          lo = omega arith;
+          hi = omega arith;
+          made = ((refl, lt, omega arith), tt);
+          once = not-blank y;
+          most = omega (arith, span-most (v .fields) d x z (h .wheels) m i);
+          wheels = w;
+          ahead = rw s (h .ahead);
+          keeps = ap (λ (x : Supply). x .holder) s;
+          enrols = (n, refl);
+          fit = rw s (h .fit);
+          blank = not-blank (n ∙ y);
+        }
+
+    at-good : (p : ℕ) (a : PointAction) → outOfRangeAt a ≡ false → isAccepted (firstOf (rowsAt S u t p a v) (acceptedAt t a)) ≡ true
+        → Good t v (effectOf S t a (v .fields)) (spansOf t a (v .fields)) (cond (enrolsAt a) (t ∷ []) [])
+    unfolding effectOf spansOf rowsAt outOfRangeAt enrolsAt registered effectiveDay
+    at-good p (Enrol b a x) bad ok =
+        let k = pass _ _ _ _ (pass _ _ _ _ ok .1) in
+        let w = neither (outside 1 8 b) (outside 0 3 a) bad in
+        let z = h .blank (k .0) in
+        record {
+          lo = h .past;
+          hi = omega arith;
+          made = tt;
+          once = λ n. refl;
+          most = omega (arith, h .past);
+          wheels = (ltb-false 8 b (neither (ltb b 1) (ltb 8 b) (w .0) .1), ltb-false 3 a (neither (ltb a 0) (ltb 3 a) (w .1) .1));
+          ahead = record { kind = tt; pending = tt };
+          keeps = tt;
+          enrols = subst (λ (n : Bool). Names t n (fields true unsupplied 0 0 (meter b a) (reading t x)) (t ∷ [])) (sym (k .0)) (refl, refl, refl);
+          fit = omega (arith, z .0, marks-most v (name (v .fields)));
+          blank = not-blank refl;
+        }
+    at-good p (IntoService s k) bad ok =
+        let b = pass _ _ _ _ (pass _ _ _ _ ok .1) in
+        naming t v h (is-enrolled p v (b .0)) _ refl refl refl (record { kind = tt; pending = h .ahead .pending })
+        (not-full (effectOf S t (IntoService s k) (v .fields)) (pass _ _ _ _ (pass _ _ _ _ (b .1) .1) .0))
+    at-good p (DefaultSupply k) bad ok =
+        let b = pass _ _ _ _ ok in
+        naming t v h (is-enrolled p v (b .0)) _ refl refl refl (record { kind = omega arith; pending = h .ahead .pending })
+        (not-full (effectOf S t (DefaultSupply k) (v .fields)) (pass _ _ _ _ (pass _ _ _ _ (b .1) .1) .0))
+    at-good p (AskSwitch s k r) bad ok =
+        let b = pass _ _ _ _ (pass _ _ _ _ ok .1) in
+        let f = pass _ _ _ _ (pass _ _ _ _ (pass _ _ _ _ (pass _ _ _ _ (pass _ _ _ _ (b .1) .1) .1) .1) .1) in
+        asks (is-enrolled p v (b .0)) (Request s (max r (t + notice))) (omega arith)
+        (not-full (effectOf S t (AskSwitch s k r) (v .fields)) (pass _ _ _ _ (pass-near t (v .fields .supply .kind) _ _ (f .1)) .0))
+    at-good p (Cancel s) bad ok =
+        asks (is-enrolled p v (pass _ _ _ _ ok .0)) Nothing tt (omega (arith, h .fit))
+    at-good p (Read d x z) bad ok =
+        let k = pass _ _ _ _ ok in
+        let l = pass _ _ _ _ (k .1) in
+        reads (is-enrolled p v (k .0)) d x z _ refl refl refl (h .wheels) (l .0) bad (pass _ _ _ _ (l .1) .0)
+    at-good p (ChangeMeter x z b a y) bad ok =
+        let k = pass _ _ _ _ ok in
+        let l = pass _ _ _ _ (k .1) in
+        let n = neither (notMark z) (notWheels b a) bad in
+        let w = neither (outside 1 8 b) (outside 0 3 a) (n .1) in
+        let i = neither (indexDisagrees (v .fields) x z) _ (pass _ _ _ _ (l .1) .0) in
+        reads (is-enrolled p v (k .0)) t x z _ refl refl refl
+        (ltb-false 8 b (neither (ltb b 1) (ltb 8 b) (w .0) .1), ltb-false 3 a (neither (ltb a 0) (ltb 3 a) (w .1) .1))
+        (l .0) (n .0) (i .0)
+    at-good p OutOfService bad ok =
+        let b = pass _ _ _ _ ok in
+        naming t v h (is-enrolled p v (b .0)) _ refl refl refl (record { kind = tt; pending = tt })
+        (not-full (effectOf S t OutOfService (v .fields)) (pass _ _ _ _ (pass _ _ _ _ (b .1) .1) .0))
+    at-good p (Suspend m) bad ok = unchanged t v h _ refl refl refl refl
+
+    -- a failure, at any point
+    holder-enrolled : (s : ℕ) → 0 < s → v .fields .supply .holder ≡ s → v .fields .enrolled ≡ true
+    holder-enrolled s lo e = go (v .fields .enrolled) refl
+      where
+        go : (b : Bool) → v .fields .enrolled ≡ b → v .fields .enrolled ≡ true
+        go true z = z
+        go false z = let k : v .fields .supply .holder ≡ 0 = ap (λ (x : Supply). x .holder) (h .blank z .1) in absurd (omega arith)
+
+    failed-good : (s : ℕ) → 0 < s → (touches s (v .fields) && isFull v (failed S t s (v .fields))) ≡ false
+        → Good t v (failed S t s (v .fields)) [] []
+    unfolding failed
+    failed-good s lo f = go (eqb (v .fields .supply .holder) s) refl f
+      where
+        go : (b : Bool) → eqb (v .fields .supply .holder) s ≡ b
+            → ((b || isBy s (v .fields .supply .pending)) && isFull v (cond b
+            (name (withSupply (v .fields) (supply (S .resort) (LastResort (t + S .b)) (dropped s (v .fields .supply .pending)))))
+            (keep (withPending (v .fields) (dropped s (v .fields .supply .pending)))))) ≡ false
+            → Good t v (cond b
+            (name (withSupply (v .fields) (supply (S .resort) (LastResort (t + S .b)) (dropped s (v .fields .supply .pending)))))
+            (keep (withPending (v .fields) (dropped s (v .fields .supply .pending))))) [] []
+        go true e k =
+            naming t v h (holder-enrolled s lo (eqb-true _ _ e))
+            (withSupply (v .fields) (supply (S .resort) (LastResort (t + S .b)) (dropped s (v .fields .supply .pending)))) refl refl refl
+            (record { kind = omega arith; pending = pending-dropped t s (v .fields .supply .pending) (h .ahead .pending) })
+            (not-full (name (withSupply (v .fields) (supply (S .resort) (LastResort (t + S .b)) (dropped s (v .fields .supply .pending))))) k)
+        go false e k =
+            unread t v h (keep (withPending (v .fields) (dropped s (v .fields .supply .pending)))) [] refl refl
+            (record { kind = h .ahead .kind; pending = pending-dropped t s (v .fields .supply .pending) (h .ahead .pending) }) refl (refl, refl)
+            (omega (arith, h .fit, due-dropped s (v .fields .supply .pending)))
+            (λ z. (h .blank z .0, ap (λ (x : Supply). supply (x .holder) (x .kind) (dropped s (x .pending))) (h .blank z .1)))
+
+  any-none : (n p : ℕ) (f : ℕ → Bool) → anyPoint p n f ≡ false → (q : ℕ) → p ≤ q → q < p + n → f q ≡ false
+  unfolding anyPoint
+  any-none zero p f h q lo hi = absurd (omega arith)
+  any-none (suc n) p f h q lo hi = go (eqb p q) refl (neither (f p) (anyPoint (suc p) n f) h) (any-none n (suc p) f)
+    where
+      go : (b : Bool) → eqb p q ≡ b → (f p ≡ false) × (anyPoint (suc p) n f ≡ false)
+          → (anyPoint (suc p) n f ≡ false → (q : ℕ) → suc p ≤ q → q < suc p + n → f q ≡ false) → f q ≡ false
+      go true e w ih = rw (← (eqb-true p q e)) (w .0)
+      go false e w ih = let z : p ≡ q → ⊥ = eqb-false p q e in ih (w .1) q (omega arith) (omega arith)
+
+  pub call-good : (v : ℕ → View) (p : ℕ) → 1 ≤ p → p ≤ 32 → Fine t (v p) → (c : Action) → outOfRange c ≡ false
+      → isAccepted (firstOf (rows S u t c v) (accepted t c)) ≡ true
+      → Good t (v p) (effect S t c p (v p .fields)) (spans t c p (v p .fields)) (cond (enrols c p) (t ∷ []) [])
+  unfolding effect spans rows accepted outOfRange enrols
+  call-good v p lo hi h (SignContract s) bad ok = unchanged t (v p) h (v p .fields) refl refl refl refl
+  call-good v p lo hi h (Failure s) bad ok =
+      failed-good (v p) h s (ltb-false s 1 (neither (ltb s 1) (ltb 99 s) bad .0))
+      (any-none 32 1 (λ q. touches s (v q .fields) && isFull (v q) (failed S t s (v q .fields)))
+      (pass _ _ _ _ (pass _ _ _ _ (pass _ _ _ _ ok .1) .1) .0) p lo (omega arith))
+  call-good v p lo hi h (At q a) bad ok = go (eqb p q) refl
+    where
+      go : (b : Bool) → eqb p q ≡ b
+          → Good t (v p) (cond b (effectOf S t a (v p .fields)) (keep (v p .fields))) (cond b (spansOf t a (v p .fields)) [])
+          (cond (cond b (enrolsAt a) false) (t ∷ []) [])
+      go true e = at-good (v p) h q a bad (rw (eqb-true p q e) ok)
+      go false e = unchanged t (v p) h (v p .fields) refl refl refl refl
+  call-good v p lo hi h Day bad ok = unchanged t (v p) h (v p .fields) refl refl refl refl

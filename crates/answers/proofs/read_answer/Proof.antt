@@ -1,7 +1,9 @@
 -- A reading: 22, 20 and 21 first, then its rows.
+use mathlib.Core.Path.{_≡_, sym, _∙_}
+use mathlib.Core.Bool.{true}
 use native.Mathlib.Omega.{arith}
 use borrow.Author.Tests.{lt-ltb, le-ltb}
-use Rattle.rules.specs.Rejections.{answerTo, firstOf, outOfRange, outOfRangeAt, offCalendar, offCalendarAt, rows, accepted}
+use Rattle.rules.specs.Rejections.{answerTo, firstOf, outside, outOfRange, outOfRangeAt, offCalendar, offCalendarAt, rows, accepted}
 use Rattle.answers.specs.Ruling.{rulingAt, readAnswer}
 use borrow.Author.Needs.{needs}
 use Rattle.answers.proofs.read_answer.Statement.{statement}
@@ -11,12 +13,17 @@ use Rattle.answers.proofs.read_answer.Lts as lts
 use Rattle.answers.proofs.rows.read_rows.Reads as read-rows-reads
 use Rattle.checks.proofs.outside.Reads as outside-reads
 
+read-rows-requires : tie.Need-read-rows-requires
+read-rows-requires c κs = search needs
+
 outside-requires : tie.Need-outside-requires
 outside-requires c κs = search needs
 
 returns : tie.Need-returns
 unfolding readAnswer answerTo outOfRange outOfRangeAt offCalendar offCalendarAt rows accepted firstOf
-returns c = rw (← ((c .before .outside) .ensures), (c .if1) .taken)
+returns c =
+    let marked : outside 0 1 (c .before .before .args .z) ≡ true = sym (c .before .outside .ensures) ∙ c .if1 .taken in
+    rw marked
 
 cast-if2 : tie.Need-cast-if2
 cast-if2 c = search needs
@@ -38,9 +45,6 @@ returns-3 c = rw (← ((c .before .before .before .outside) .ensures), (c .befor
 returns-4 : tie.Need-returns-4
 unfolding readAnswer answerTo outOfRange outOfRangeAt offCalendar offCalendarAt rows accepted firstOf
 returns-4 c = rw (← ((c .before .before .before .before .outside) .ensures), (c .before .before .before .if1) .left, le-ltb _ _ ((c .before .before .if2) .left), le-ltb _ _ ((c .before .if3) .left), lt-ltb _ _ ((c .if4) .taken))
-
-read-rows-requires : tie.Need-read-rows-requires
-read-rows-requires c κs = search needs
 
 returns-5 : tie.Need-returns-5
 unfolding readAnswer answerTo outOfRange outOfRangeAt offCalendar offCalendarAt rows accepted firstOf rulingAt

@@ -31,7 +31,10 @@ returns c = rw (← ((c .before .before .read-answer) .ensures), ← ((c .before
 
 returns-2 : tie.Need-returns-2
 unfolding readNewest
-returns-2 c = rw (← ((c .before .before .before .before .before .read-answer) .ensures), ← ((c .before .before .before .before .is-accepted) .ensures), not-false ((c .before .before .before .before .is-accepted) .result) ((c .before .before .before .if1) .left), lt-leb _ _ ((c .if2) .taken))
+returns-2 c =
+    let s = (c .before .before .before .before .before .before .before) .args in
+    let before : s .f .reading .day < s .q .start = omega (arith, c .if2 .taken) in
+    rw (← ((c .before .before .before .before .before .read-answer) .ensures), ← ((c .before .before .before .before .is-accepted) .ensures), not-false ((c .before .before .before .before .is-accepted) .result) ((c .before .before .before .if1) .left), lt-leb _ _ before)
 
 cast-span-to : tie.Need-cast-span-to
 cast-span-to c =

@@ -56,7 +56,7 @@ fn answer_buffer() -> [u8; 98304]
 fn read_all() -> Came {
     let mut input = io::buffer();
     let mut out = answer_buffer();
-    let mut s = session::start();
+    let mut s = transcript::start();
     // A proved loop has to end: turns are counted down from a number that no run uses up.
     let mut turns = u64::MAX;
     while turns > 0 {
@@ -76,7 +76,7 @@ fn read_all() -> Came {
         let f = session::feed(s, &input[..n], &mut out);
         s = f.session;
     }
-    let f = session::finish(s, &mut out);
+    let f = transcript::finish(s, &mut out);
     let last = f.session;
     Came {
         whole: true,

@@ -24,7 +24,7 @@ fn write_out(text: &[u8]) -> bool {
 fn main() {
     let mut input = io::large_buffer();
     let mut out = answer_buffer();
-    let mut s = session::start();
+    let mut s = transcript::start();
     // A proved loop has to end, and nothing says that the input does: turns are counted down from a number that no run uses up.
     let mut turns = u64::MAX;
     while turns > 0 {
@@ -46,12 +46,12 @@ fn main() {
         }
     }
     // The last line, if it lacks its line feed, and the closing lines.
-    let f = session::finish(s, &mut out);
+    let f = transcript::finish(s, &mut out);
     let w = f.written;
     if !write_out(&out[..w]) {
         return;
     }
-    let listed = session::close(f.session, 0, &mut out);
+    let listed = transcript::close(f.session, 0, &mut out);
     let n = listed.written;
     write_out(&out[..n]);
 }

@@ -19,8 +19,6 @@ use Rattle.message.specs.Lines.{kindOf}
 use Rattle.message.specs.Reading.{readLine}
 use Rattle.answer_lines.specs.Answers.{answerLine}
 use Rattle.answer_lines.proofs.LineTexts.{answer-short}
-use Rattle.listing.specs.declared.Listed.{Listed}
-use Rattle.listing.specs.Listing.{ListedFrom}
 use Rattle.input.specs.declared.Part.{Part}
 use Rattle.input.specs.Lines.{untilFeed, feeds, fitting}
 use Rattle.input.specs.Part.{capped, kept, partOf}
@@ -38,7 +36,7 @@ use Rattle.quick.proofs.OnePoint.{placed, pointIn, signedIn, quick-reply}
 use Rattle.session.specs.declared.Session.{Session}
 use Rattle.session.specs.declared.Fed.{Fed}
 use Rattle.session.specs.declared.pieces.Answered.{Answered}
-use Rattle.session.specs.Session.{nextDesk, sayLine, runOf, runFrom, answeredWith, AnsweredBy, fedAs, FedBy, missingFeed, ClosedFrom}
+use Rattle.session.specs.Session.{nextDesk, sayLine, runOf, runFrom, answeredWith, AnsweredBy, fedAs, FedBy}
 
 -- What holds at the loop's head.
 pub record Going (piece out₀ : List ℕ) (d₀ : Desk) (part₀ out : List ℕ) (part : Part) (ready : Bool) (reg : Register)
@@ -213,22 +211,6 @@ piece-fed s piece before after n x e w =
       result = rw (w .result, e);
       bytes = rw (← e) (w .bytes);
     }
-
--- ---- the end of the input
-
-pub missing-taken : (s : Session) (n : ℕ) → n ≡ min (s .part .len) 1 → missingFeed s ≡ take n (10 ∷ [])
-missing-taken s n e = elim (decLe 1 (s .part .len)) [
-  | yes h ↦ (let k : n ≡ 1 = omega arith in rw (k, ne-eqb (s .part .len) 0 (λ z. not-suc-le-zero {n = 0} (omega arith))))
-  | no h ↦ (let k : n ≡ 0 = omega arith in rw (k, eq-eqb (s .part .len) 0 (omega arith)))
-]
-
-pub closed-ready : (d : Desk) (from : ℕ) (before after : List ℕ) (x : Listed) → d .ready ≡ true →
-    ListedFrom (d .register) from before after x → ClosedFrom d from before after x
-closed-ready d from before after x e h = record { bytes = rw e (h .bytes); answer = rw e (h .answer) }
-
-pub closed-unready : (d : Desk) (from : ℕ) (out : List ℕ) → d .ready ≡ false →
-    ClosedFrom d from out out (record { next = 32; written = 0 })
-closed-unready d from out e = record { bytes = rw e (sym (put-none 0 out)); answer = rw e }
 
 -- ---- the line that was read is the one up to the line feed
 

@@ -5,13 +5,11 @@ use mathlib.Core.List.{List, _++_}
 use native.Mathlib.Omega.{arith}
 use lib.ListN.{length, drop, length-append}
 use Rattle.text.specs.Appending.{put}
-use Rattle.listing.specs.declared.Listed.{Listed}
-use Rattle.desk.specs.declared.Desk.{Desk}
 use Rattle.session.specs.declared.Session.{Session}
 use Rattle.session.specs.declared.Fed.{Fed}
-use Rattle.session.specs.Session.{fedRun, fedAs, FedBy, closingPiece, ClosedFrom}
+use Rattle.session.specs.Session.{fedRun, fedAs, FedBy}
 
-put-within : (t o after : List ℕ) → after ≡ put 0 t o → length t ≤ length after
+pub put-within : (t o after : List ℕ) → after ≡ put 0 t o → length t ≤ length after
 unfolding put
 put-within t o after e = omega (arith, ap length e, length-append t (drop (0 + length t) o))
 
@@ -20,8 +18,3 @@ unfolding fedAs
 fed-within s piece before after f h =
     let e : f .written ≡ length (fedRun s piece before .out) = ap (λ (x : Fed). x .written) (h .result) in
     omega (arith, e, put-within (fedRun s piece before .out) before after (h .bytes))
-
-pub closed-within : (d : Desk) (from : ℕ) (before after : List ℕ) (x : Listed) → ClosedFrom d from before after x → x .written ≤ length after
-closed-within d from before after x h =
-    let e : x .written ≡ length (closingPiece d from (length before)) = ap (λ (y : Listed). y .written) (h .answer) in
-    omega (arith, e, put-within (closingPiece d from (length before)) before after (h .bytes))

@@ -1,9 +1,7 @@
 -- 01, Message lines: what is written for the lines of an input, and what a piece of it does to a session. Definitions only.
 use Prim.Native.Nat.{ℕ, _+_, _/_}
 use mathlib.Core.Path.{_≡_}
-use mathlib.Core.Bool.{false, cond}
 use mathlib.Core.List.{List, [], _∷_, _++_}
-use lib.Dec.{eqb}
 use lib.ListN.{length, take}
 use Rattle.text.specs.Appending.{put}
 use Rattle.message.specs.declared.Message.{Message}
@@ -16,10 +14,6 @@ use Rattle.input.specs.Part.{capped, kept, partOf}
 use Rattle.input.specs.Machine.{Run, run}
 use Rattle.desk.specs.declared.Desk.{Desk}
 use Rattle.desk.specs.Desk.{desk, answerOf, deskAfter}
-use Rattle.register.specs.Calls.{newRegister}
-use Rattle.listing.specs.declared.Listed.{Listed}
-use Rattle.listing.specs.Listing
-use Rattle.listing.specs.Listing.{listing, piece}
 use Rattle.session.specs.declared.Session.{Session}
 use Rattle.session.specs.declared.Fed.{Fed}
 use Rattle.session.specs.declared.pieces.Answered.{Answered}
@@ -41,14 +35,6 @@ runFrom s piece = runOf (s .desk) (kept (s .part)) piece
 -- A session that stands where a run has come to.
 abbrev pub sessionAt : Run Desk → Session
 sessionAt r = record { desk = r .state; part = partOf (r .part) }
-
--- Before any input: the register of a desk that is not ready is not looked at.
-unfoldable pub startSession : Session
-startSession =
-    record {
-      desk = desk false (newRegister (record { settings = record { w = 0; a = 0; b = 0; default = 0; resort = 0 }; day = 0 }));
-      part = partOf [];
-    }
 
 -- What a line says with its part, where read is what it says by itself.
 abbrev pub WholeMessage : Part → List ℕ → Message → Message → Type 0
@@ -80,22 +66,3 @@ fedAs s piece out =
 pub record FedBy (s : Session) (piece before after : List ℕ) (r : Fed) : Type 0 where
   pub result : r ≡ fedAs s piece before
   pub bytes : after ≡ put 0 (fedRun s piece before .out) before
-
--- The line feed that a last line lacks.
-abbrev pub missingFeed : Session → List ℕ
-missingFeed s = cond (eqb (s .part .len) 0) [] (10 ∷ [])
-
--- 01: "At the end come .. its periods .. and `total`": nothing where no register is open.
-abbrev pub closing : Desk → List ℕ
-closing d = cond (d .ready) (listing (d .register)) []
-
--- What a call writes of the closing lines, where those of the first points are written already, and how far it comes.
-abbrev pub closingPiece : Desk → ℕ → ℕ → List ℕ
-closingPiece d from room = cond (d .ready) (piece (d .register) from room) []
-
-abbrev pub closedNext : Desk → ℕ → ℕ → ℕ
-closedNext d from room = cond (d .ready) (from + Listing.taken from room) 32
-
-pub record ClosedFrom (d : Desk) (from : ℕ) (before after : List ℕ) (x : Listed) : Type 0 where
-  pub bytes : after ≡ put 0 (closingPiece d from (length before)) before
-  pub answer : x ≡ record { next = closedNext d from (length before); written = length (closingPiece d from (length before)) }

@@ -1,3 +1,4 @@
+pub mod Ends
 pub mod Sized
 pub mod Served
 pub mod Told

@@ -30,22 +30,8 @@ use Rattle.desk.specs.declared.Desk.{Desk}
 use Rattle.desk.specs.Desk.{answerOf, deskAfter}
 use Rattle.session.specs.declared.Session.{Session}
 use Rattle.session.specs.declared.Fed.{Fed}
-use Rattle.session.specs.Session.{
-  nextDesk,
-  sayLine,
-  runOf,
-  runFrom,
-  startSession,
-  takenOf,
-  fedRun,
-  fedAs,
-  FedBy,
-  missingFeed,
-  closing,
-  closingPiece,
-  closedNext,
-  ClosedFrom,
-}
+use Rattle.session.specs.Session.{nextDesk, sayLine, runOf, runFrom, takenOf, fedRun, fedAs, FedBy}
+use Rattle.transcript.specs.Ends.{startSession, missingFeed, closing, closingPiece, closedNext, ClosedFrom}
 use Rattle.transcript.specs.Transcript.{Closing, done, more, Served, fed, ended, TranscriptServed}
 use Rattle.session.proofs.Capped.{read-capped}
 use Rattle.transcript.proofs.Sized.{Sized, run-sized}

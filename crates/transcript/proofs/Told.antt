@@ -28,7 +28,8 @@ use Rattle.input.specs.Lines.{linesOf}
 use Rattle.input.specs.Machine.{said, afterLines}
 use Rattle.desk.specs.declared.Desk.{Desk}
 use Rattle.desk.specs.Desk.{desk, answerOf, deskAfter}
-use Rattle.session.specs.Session.{nextDesk, sayLine, startSession, closing}
+use Rattle.session.specs.Session.{nextDesk, sayLine}
+use Rattle.transcript.specs.Ends.{startSession, closing}
 use Rattle.transcript.specs.Transcript.{
   BookDesk,
   closed,

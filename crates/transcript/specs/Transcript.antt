@@ -27,7 +27,8 @@ use Rattle.desk.specs.declared.Desk.{Desk}
 use Rattle.desk.specs.Desk.{unreadable}
 use Rattle.session.specs.declared.Session.{Session}
 use Rattle.session.specs.declared.Fed.{Fed}
-use Rattle.session.specs.Session.{nextDesk, sayLine, startSession, FedBy, missingFeed, closing, ClosedFrom}
+use Rattle.session.specs.Session.{nextDesk, sayLine, FedBy}
+use Rattle.transcript.specs.Ends.{startSession, missingFeed, closing, ClosedFrom}
 
 -- ---- what is handed on for writing
 

@@ -57,7 +57,7 @@ fn room_for_one_point() -> [u8; 918]
 
 // The answers to all lines. A piece of which nothing is taken is a difference: the input would never end.
 fn answered(input: &[u8], piece: usize, expected: &[u8], out: &mut [u8]) -> Run {
-    let mut s = session::start();
+    let mut s = transcript::start();
     let mut a = agreed::nothing_yet();
     let mut at: usize = 0;
     while at < input.len() {
@@ -92,7 +92,7 @@ fn piece_end(at: usize, piece: usize, len: usize) -> usize
 
 // The answer to a last line without its line feed.
 fn last_line(s: Session, a: Agreed, expected: &[u8], out: &mut [u8]) -> Run {
-    let f = session::finish(s, out);
+    let f = transcript::finish(s, out);
     let w = f.written;
     let after = f.session;
     Run {
@@ -107,7 +107,7 @@ fn closed(r: Run, expected: &[u8], out: &mut [u8]) -> Agreed {
     let mut a = r.agreed;
     let mut from: usize = 0;
     while from < 32 {
-        let listed = session::close(s, from, out);
+        let listed = transcript::close(s, from, out);
         let w = listed.written;
         a = agreed::then(a, &out[..w], expected);
         if listed.next <= from {

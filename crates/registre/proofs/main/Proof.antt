@@ -14,11 +14,12 @@ use Rattle.libc.proofs.read.Reads as read-reads
 use Rattle.os.proofs.fail.Reads as fail-reads
 use Rattle.registre.proofs.answer_buffer.Reads as answer-buffer-reads
 use Rattle.registre.proofs.write_out.Reads as write-out-reads
-use Rattle.session.proofs.close.Reads as close-reads
+use Rattle.transcript.proofs.close.Reads as close-reads
 use Rattle.session.proofs.feed.Reads as feed-reads
-use Rattle.session.proofs.finish.Reads as finish-reads
-use Rattle.session.proofs.start.Reads as start-reads
-use Rattle.session.proofs.Within.{fed-within, closed-within}
+use Rattle.transcript.proofs.finish.Reads as finish-reads
+use Rattle.transcript.proofs.start.Reads as start-reads
+use Rattle.session.proofs.Within.{fed-within}
+use Rattle.transcript.proofs.Ends.{closed-within}
 
 abbrev Inv-loop : tie.InvT-loop
 Inv-loop input₀ out₀ s₀ turns₀ t13 input out s turns = (length input ≡ 65536) × (length out ≡ 1572864)

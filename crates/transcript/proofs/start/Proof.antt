@@ -1,11 +1,11 @@
 use borrow.Author.Needs.{needs}
-use Rattle.session.proofs.start.Statement.{statement}
-use Rattle.session.proofs.start.Tie as tie
-use Rattle.session.proofs.start.Reads as reads
-use Rattle.session.proofs.start.Lts as lts
+use Rattle.transcript.proofs.start.Statement.{statement}
+use Rattle.transcript.proofs.start.Tie as tie
+use Rattle.transcript.proofs.start.Reads as reads
+use Rattle.transcript.proofs.start.Lts as lts
 use Rattle.input.proofs.no_part.Reads as no-part-reads
 use Rattle.register.proofs.begin.Reads as begin-reads
-use Rattle.session.specs.Session.{startSession}
+use Rattle.transcript.specs.Ends.{startSession}
 
 begin-requires : tie.Need-begin-requires
 begin-requires c κs = search needs

@@ -1,18 +1,19 @@
 use borrow.Author.Needs.{needs}
-use Rattle.session.proofs.finish.Statement.{statement}
-use Rattle.session.proofs.finish.Tie as tie
-use Rattle.session.proofs.finish.Reads as reads
-use Rattle.session.proofs.finish.Lts as lts
-use Rattle.session.proofs.at_most_one.Reads as at-most-one-reads
+use Rattle.transcript.proofs.finish.Statement.{statement}
+use Rattle.transcript.proofs.finish.Tie as tie
+use Rattle.transcript.proofs.finish.Reads as reads
+use Rattle.transcript.proofs.finish.Lts as lts
+use Rattle.transcript.proofs.at_most_one.Reads as at-most-one-reads
 use Rattle.session.proofs.feed.Reads as feed-reads
 use Prim.Native.Nat.{ℕ, _≤_, min}
 use mathlib.Core.Path.{_≡_, refl, sym, ap, _∙_}
 use mathlib.Core.List.{List, [], _∷_}
 use lib.ListN.{length, take}
 use lib.Seq.{length-take-le}
 use native.Mathlib.Omega.{arith}
-use Rattle.session.specs.Session.{missingFeed, FedBy}
-use Rattle.session.proofs.Turns.{missing-taken}
+use Rattle.session.specs.Session.{FedBy}
+use Rattle.transcript.specs.Ends.{missingFeed}
+use Rattle.transcript.proofs.Ends.{missing-taken}
 
 at-most-one-requires : tie.Need-at-most-one-requires
 at-most-one-requires c κs = search needs

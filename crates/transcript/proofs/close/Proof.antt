@@ -1,10 +1,10 @@
 use borrow.Author.Needs.{needs}
-use Rattle.session.proofs.close.Statement.{statement}
-use Rattle.session.proofs.close.Tie as tie
-use Rattle.session.proofs.close.Reads as reads
-use Rattle.session.proofs.close.Lts as lts
+use Rattle.transcript.proofs.close.Statement.{statement}
+use Rattle.transcript.proofs.close.Tie as tie
+use Rattle.transcript.proofs.close.Reads as reads
+use Rattle.transcript.proofs.close.Lts as lts
 use Rattle.listing.proofs.put_listing.Reads as put-listing-reads
-use Rattle.session.proofs.Turns.{closed-ready, closed-unready}
+use Rattle.transcript.proofs.Ends.{closed-ready, closed-unready}
 
 put-listing-requires : tie.Need-put-listing-requires
 put-listing-requires c κs = search needs

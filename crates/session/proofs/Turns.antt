@@ -4,16 +4,14 @@ use mathlib.Core.Path.{_≡_, refl, sym, ap, ap₂, _∙_}
 use mathlib.Core.Bool.{Bool, true, false}
 use mathlib.Core.List.{List, [], _∷_, _++_, append-assoc, append-nil}
 use native.Mathlib.Omega.{arith}
-use native.Mathlib.Nat.{zero-add, not-suc-le-zero}
-use native.Mathlib.Decide.{decLe}
-use borrow.Author.Tests.{eq-eqb, ne-eqb}
+use native.Mathlib.Nat.{zero-add}
 use lib.ListN.{length, take, drop, getD, set, length-drop, length-take, take-append-drop}
 use lib.Seq.{drop-drop, take-all, length-take-le}
 use Rattle.rules.specs.declared.Register.{Register}
 use Rattle.rules.specs.declared.Answer.{Answer}
 use Rattle.point.specs.declared.Ruling.{Ruling}
 use Rattle.text.specs.Appending.{put, Appended}
-use Rattle.text.proofs.Appends.{room-put, put-drop, put-none, appended-take, appended-length}
+use Rattle.text.proofs.Appends.{room-put, put-drop, appended-take, appended-length}
 use Rattle.message.specs.declared.Message.{Message}
 use Rattle.message.specs.Lines.{kindOf}
 use Rattle.message.specs.Reading.{readLine}

@@ -1,7 +1,7 @@
 -- 01, Message lines: what is written for the lines of an input, and what a piece of it does to a session. Definitions only.
-use Prim.Native.Nat.{ℕ, _+_, _/_}
+use Prim.Native.Nat.{ℕ, _/_}
 use mathlib.Core.Path.{_≡_}
-use mathlib.Core.List.{List, [], _∷_, _++_}
+use mathlib.Core.List.{List, _++_}
 use lib.ListN.{length, take}
 use Rattle.text.specs.Appending.{put}
 use Rattle.message.specs.declared.Message.{Message}
@@ -13,7 +13,7 @@ use Rattle.input.specs.declared.Part.{Part}
 use Rattle.input.specs.Part.{capped, kept, partOf}
 use Rattle.input.specs.Machine.{Run, run}
 use Rattle.desk.specs.declared.Desk.{Desk}
-use Rattle.desk.specs.Desk.{desk, answerOf, deskAfter}
+use Rattle.desk.specs.Desk.{answerOf, deskAfter}
 use Rattle.session.specs.declared.Session.{Session}
 use Rattle.session.specs.declared.Fed.{Fed}
 use Rattle.session.specs.declared.pieces.Answered.{Answered}

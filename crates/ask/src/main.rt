@@ -1,16 +1,16 @@
 // Reads the lines of standard input as `registre` does, and then answers the question that its words ask.
 // Other words get the usage line before anything is read. A read that fails ends the run with a word on standard error
 // and without an answer.
-use asking::Asked;
-use asking::Question;
-use asking::every::put_every;
-use asking::put_reply;
-use asking::put_unopened;
-use asking::put_usage;
-use asking::words::asked_by;
+use all_questions::put_every;
 use desk::Desk;
 use libc::STDIN_FILENO;
 use libc::STDOUT_FILENO;
+use question_lines::put_reply;
+use question_words::Asked;
+use question_words::Question;
+use question_words::asked_by;
+use question_words::put_unopened;
+use question_words::put_usage;
 use rules::Register;
 use session::Session;
 ghost use mathlib.Core.Path.{_≡_};
@@ -92,7 +92,7 @@ fn answer_one(r: Register, q: Question) {
 
 fn answer_all(r: Register) {
     let mut out = io::large_buffer();
-    let mut from = asking::every::start();
+    let mut from = all_questions::start();
     let mut turns = u64::MAX;
     while turns > 0 {
         turns -= 1;

@@ -1,0 +1,4 @@
+pub mod Indexing
+pub mod Handing
+pub mod Pieces
+pub mod Examples

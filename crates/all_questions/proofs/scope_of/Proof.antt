@@ -1,0 +1,66 @@
+-- What decides which questions are asked of a point.
+use mathlib.Core.Path.{sym, _∙_}
+use native.Mathlib.Omega.{arith}
+use Rattle.questions.proofs.Asked.{asked-in}
+use Rattle.all_questions.specs.All.{scopeOf, taken}
+use borrow.Author.Needs.{needs}
+use Rattle.all_questions.proofs.scope_of.Statement.{statement}
+use Rattle.all_questions.proofs.scope_of.Tie as tie
+
+is-unasked-requires : tie.Need-is-unasked-requires
+is-unasked-requires c κs = search needs
+
+returns : tie.Need-returns
+unfolding scopeOf
+returns c = rw (← (c .before .is-unasked .ensures), c .if1 .taken)
+
+sub-i : tie.Need-sub-i
+sub-i c =
+    omega (
+      arith,
+      asked-in (c .before .before .args .t1) (c .before .before .args .p)
+          (sym (c .before .is-unasked .ensures) ∙ c .if1 .left) .0,
+    )
+
+mul-g : tie.Need-mul-g
+mul-g c =
+    omega (
+      arith,
+      asked-in (c .before .before .args .t1) (c .before .before .args .p)
+          (sym (c .before .is-unasked .ensures) ∙ c .if1 .left) .1,
+    )
+
+element-copy-out-g : tie.Need-element-copy-out-g
+element-copy-out-g c =
+    let k = asked-in (c .before .before .args .t1) (c .before .before .args .p)
+    (sym (c .before .is-unasked .ensures) ∙ c .if1 .left) in omega (arith, k .0, k .1)
+
+element-copy-out-q : tie.Need-element-copy-out-q
+element-copy-out-q c = search needs
+
+marks-requires : tie.Need-marks-requires
+marks-requires c κs = search needs
+
+cast-t20 : tie.Need-cast-t20
+cast-t20 c = search needs
+
+returns-2 : tie.Need-returns-2
+unfolding scopeOf
+returns-2 c =
+    let c₄ = c .before .before .before .before in
+    let c₅ = c₄ .before in
+    rw (← (c₅ .is-unasked .ensures), c₄ .if1 .left, ← (c .marks .ensures))
+
+pub scope-of-spec : {M : Type 1} → statement M
+scope-of-spec =
+    tie.close
+    (tie.spec
+    is-unasked-requires
+    returns
+    sub-i
+    mul-g
+    element-copy-out-g
+    element-copy-out-q
+    marks-requires
+    cast-t20
+    returns-2)

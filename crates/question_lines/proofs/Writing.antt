@@ -1,0 +1,95 @@
+-- Texts of a bounded length, put one behind the other.
+use Prim.Native.Nat.{ℕ, _+_, _≤_, _<_, _^_}
+use mathlib.Core.Path.{refl, _≡_}
+use mathlib.Core.Bool.{Bool, true, false}
+use mathlib.Core.List.{List, [], _∷_, _++_, append-assoc}
+use native.Mathlib.Omega.{arith}
+use borrow.Author.Tests.{leb-true, leb-false}
+use lib.Dec.{leb}
+use lib.ListN.{length}
+use Rattle.text.proofs.Appends.{room-put, no-room, appended-length}
+use Rattle.text.specs.Appending.{Appended}
+use Rattle.text.specs.Ascii.{ascii}
+use Rattle.text.specs.Decimal.{decimal}
+use Rattle.text.proofs.Spelling.{decimal-append}
+use Rattle.answer_lines.proofs.LineTexts.{digits-few}
+use Rattle.listing.specs.Listing.{AppendedWithin}
+use Rattle.listing.proofs.Growing.{within-more, within-length, within-end}
+use Rattle.rules.specs.declared.Register.{Register}
+use Rattle.question_words.specs.declared.Question.{Question}
+use Rattle.question_lines.specs.Lines.{field, one, two, okThree, reply, head, line, OnePut, TwoPut}
+
+pub within : (m at : ℕ) (t o o₁ : List ℕ) (e : ℕ) → Appended at t o o₁ e → length t ≤ m → AppendedWithin m at t o o₁ e
+within m at t o o₁ e w h = record { text = w; short = h }
+
+pub within-wider : (m n at : ℕ) (t o o₁ : List ℕ) (e : ℕ) → m ≤ n → AppendedWithin m at t o o₁ e → AppendedWithin n
+    at t o o₁ e
+within-wider m n at t o o₁ e h w = let s = w .short in record { text = w .text; short = omega arith }
+
+-- what is left of the room
+pub room-left : (m k at : ℕ) (t o o₁ : List ℕ) (e : ℕ) → AppendedWithin m at t o o₁ e → at + (m + k) ≤ length o → e +
+    k ≤ length o₁
+room-left m k at t o o₁ e w h =
+    let len = within-length m at t o o₁ e w (omega arith) in
+    let end = within-end m at t o o₁ e w (omega arith) in
+    omega arith
+
+module _ (at : ℕ) (o o₁ o₂ : List ℕ) (e₁ e₂ : ℕ) where
+  -- a number, and the byte behind it
+  pub field-put : (v end : ℕ) → v < 2 ^ 64 → at + 21 ≤ length o → Appended at (decimal v []) o o₁ e₁ →
+      Appended e₁ (end ∷ []) o₁ o₂ e₂ → AppendedWithin 21 at (field v end) o o₂ e₂
+  field-put v end hv h a b =
+      rw (decimal-append v (end ∷ []))
+      (within-more 20 1 at (decimal v []) (end ∷ []) o o₁ o₂ e₁ e₂
+      (within 20 at (decimal v []) o o₁ e₁ a (digits-few v hv)) b (omega arith) h)
+
+  -- a word in front of it
+  pub one-put : (w : List ℕ) (v end : ℕ) → at + (length w + 21) ≤ length o → Appended at w o o₁ e₁ →
+      AppendedWithin 21 e₁ (field v end) o₁ o₂ e₂ → OnePut at w v end o o₂ e₂
+  one-put w v end h a b =
+      within-more (length w) 21 at w (field v end) o o₁ o₂ e₁ e₂ (within (length w) at w o o₁ e₁ a (omega arith))
+      (b .text) (b .short) h
+
+  -- and another number behind it
+  pub two-put : (w : List ℕ) (a b : ℕ) → at + (length w + 42) ≤ length o → OnePut at w a 59 o o₁ e₁ →
+      AppendedWithin 21 e₁ (field b 59) o₁ o₂ e₂ → TwoPut at w a b o o₂ e₂
+  two-put w a b h p q =
+      let k : length w + 21 + 21 ≡ length w + 42 = omega arith in
+      let all = within-more (length w + 21) 21 at (one w a 59) (field b 59) o o₁ o₂ e₁ e₂ p (q .text) (q .short)
+      (omega arith) in
+      rw (append-assoc w (field a 59) (field b 59), k) at all
+
+-- `ok;` and three values
+pub three-put : (at a b c : ℕ) (o o₁ o₂ o₃ : List ℕ) (e₁ e₂ e₃ : ℕ) → at + 66 ≤ length o → OnePut at (ascii "ok;") a
+    59 o o₁ e₁ →
+    AppendedWithin 21 e₁ (field b 59) o₁ o₂ e₂ → AppendedWithin 21 e₂ (field c 10) o₂ o₃ e₃ → AppendedWithin 66 at
+    (okThree a b c) o o₃ e₃
+three-put at a b c o o₁ o₂ o₃ e₁ e₂ e₃ h p q s =
+    let both = two-put at o o₁ o₂ e₁ e₂ (ascii "ok;") a b (omega arith) p q in
+    let all = within-more 45 21 at (two (ascii "ok;") a b) (field c 10) o o₂ o₃ e₂ e₃ both (s .text) (s .short) h in
+    rw (
+      append-assoc (ascii "ok;") (field a 59 ++ field b 59) (field c 10),
+      append-assoc (field a 59) (field b 59)
+          (field c 10),
+    ) at all
+
+-- a question and its answer, at the start of a buffer
+pub line-put : (r : Register) (q : Question) (o o₁ o₂ : List ℕ) (e₁ e₂ : ℕ) → 128 ≤ length o →
+    AppendedWithin 62 0 (head q) o o₁ e₁ → AppendedWithin 66 e₁ (reply r q) o₁ o₂ e₂ → AppendedWithin 128 0
+    (line r q) o o₂ e₂
+unfolding line
+line-put r q o o₁ o₂ e₁ e₂ h p s =
+    within-more 62 66 0 (head q) (reply r q) o o₁ o₂ e₁ e₂ p (s .text) (s .short) (omega arith)
+
+-- where a text ends, put or not, stands within the buffer
+pub appended-within : (at : ℕ) (t o o₁ : List ℕ) (e : ℕ) → Appended at t o o₁ e → at ≤ length o → e ≤ length o₁
+appended-within at t o o₁ e w h = go (leb (at + length t) (length o)) refl
+  where
+    go : (b : Bool) → leb (at + length t) (length o) ≡ b → e ≤ length o₁
+    go true k =
+        let room = leb-true (at + length t) (length o) k in
+        let p = room-put at t o o₁ e w room in
+        omega (arith, p .1, appended-length at t o o₁ e w)
+    go false k =
+        let p = no-room at t o o₁ e w (leb-false (at + length t) (length o) k) in
+        omega (arith, p .1, appended-length at t o o₁ e w)

@@ -1,0 +1,26 @@
+-- A number, and the byte behind it.
+use native.Mathlib.Omega.{arith}
+use Rattle.question_lines.proofs.Writing.{field-put}
+use borrow.Author.Needs.{needs}
+use Rattle.question_lines.proofs.put_field.Statement.{statement}
+use Rattle.question_lines.proofs.put_field.Tie as tie
+
+put-number-requires : tie.Need-put-number-requires
+put-number-requires c κs = search needs
+
+put-byte-requires : tie.Need-put-byte-requires
+put-byte-requires c κs = search needs
+
+same-length : tie.Need-same-length
+same-length c = search needs
+
+returns : tie.Need-returns
+returns c =
+    let c₂ = c .before .before in
+    let c₆ = c₂ .before .before .before .before in
+    let c₉ = c₆ .before .before .before in
+    field-put (c₉ .args .at) _ _ _ _ _ (c₉ .args .v) (c₉ .args .end) (omega arith) (omega arith)
+    (c₆ .put-number .ensures) (c₂ .put-byte .ensures)
+
+pub put-field-spec : {M : Type 1} → statement M
+put-field-spec = tie.close (tie.spec put-number-requires put-byte-requires same-length returns)

@@ -1,0 +1,71 @@
+-- The question, and behind it its answer: the line is made aside, where it surely fits, and copied.
+use mathlib.Core.Path.{sym}
+use native.Mathlib.Omega.{arith}
+use lib.Seq.{length-take-le}
+use Rattle.text.proofs.Appends.{appended-take}
+use Rattle.question_lines.specs.Lines.{line}
+use Rattle.question_lines.proofs.Writing.{within, room-left, line-put, appended-within}
+use borrow.Author.Needs.{needs}
+use Rattle.question_lines.proofs.put_line.Statement.{statement}
+use Rattle.question_lines.proofs.put_line.Tie as tie
+
+slice-aggregate-put-head : tie.Need-slice-aggregate-put-head
+slice-aggregate-put-head c = search needs
+
+put-head-requires : tie.Need-put-head-requires
+put-head-requires c κs = search needs
+
+slice-aggregate-put-answer : tie.Need-slice-aggregate-put-answer
+slice-aggregate-put-answer c = search needs
+
+put-answer-requires : tie.Need-put-answer-requires
+put-answer-requires c κs =
+    let c₂ = c .before .before in
+    let room = room-left 62 66 0 _ _ _ _ (c₂ .put-head .ensures) (omega arith) in
+    omega arith
+
+array-share-prefix-text : tie.Need-array-share-prefix-text
+array-share-prefix-text c =
+    let c₂ = c .before .before in
+    let c₅ = c₂ .before .before .before in
+    let k = appended-within 0 _ _ _ _ (c₅ .put-head .ensures .text) (omega arith) in
+    appended-within _ _ _ _ _ (c₂ .put-answer .ensures .text) (omega arith)
+
+slice-aggregate-put-word : tie.Need-slice-aggregate-put-word
+slice-aggregate-put-word c =
+    let c₃ = c .before .before .before in
+    let c₆ = c₃ .before .before .before in
+    let k = appended-within 0 _ _ _ _ (c₆ .put-head .ensures .text) (omega arith) in
+    sym (length-take-le _ _ (appended-within _ _ _ _ _ (c₃ .put-answer .ensures .text) (omega arith)))
+
+put-word-requires : tie.Need-put-word-requires
+put-word-requires c κs = search needs
+
+same-length : tie.Need-same-length
+same-length c = search needs
+
+returns : tie.Need-returns
+returns c =
+    let c₂ = c .before .before in
+    let c₆ = c₂ .before .before .before .before in
+    let c₉ = c₆ .before .before .before in
+    let c₁₂ = c₉ .before .before .before in
+    let a = c₁₂ .args in
+    let w = line-put (a .r) (a .q) _ _ _ _ _ (omega arith) (c₉ .put-head .ensures) (c₆ .put-answer .ensures) in
+    let s = w .short in
+    let whole = appended-take 0 (line (a .r) (a .q)) _ _ _ (w .text) (omega arith) in
+    within 128 (a .at) (line (a .r) (a .q)) _ _ _ (rw whole at (c₂ .put-word .ensures)) s
+
+pub put-line-spec : {M : Type 1} → statement M
+put-line-spec =
+    tie.close
+    (tie.spec
+    slice-aggregate-put-head
+    put-head-requires
+    slice-aggregate-put-answer
+    put-answer-requires
+    array-share-prefix-text
+    slice-aggregate-put-word
+    put-word-requires
+    same-length
+    returns)

@@ -1,0 +1,23 @@
+-- Answers as lines. Definitions only: `lines-examples` of proofs/ proves them.
+use Prim.Native.Nat.{ℕ}
+use mathlib.Core.Path.{_≡_}
+use mathlib.Core.List.{List, [], _∷_, _++_}
+use Rattle.rules.specs.declared.HolderAnswer.the-variants as holder
+use Rattle.rules.specs.declared.PeriodAnswer.the-variants as period
+use Rattle.rules.specs.declared.AdvanceAnswer.the-variants as advance
+use Rattle.text.specs.Ascii.{ascii}
+use Rattle.question_words.specs.declared.Question.the-variants.{Holder, Period, Advance}
+use Rattle.question_lines.specs.Lines.{holderReply, periodReply, advanceReply, head}
+
+abbrev pub ended : List ℕ → List ℕ
+ended l = l ++ (10 ∷ [])
+
+pub record LinesExamples : Type 0 where
+  pub holder-5 : holderReply (holder.Holder 5) ≡ ended (ascii "ok;5")
+  pub holder-refused : holderReply holder.OffRange ≡ ended (ascii "refused;22")
+  pub period-of-16000 : periodReply (period.Of (record { start = 7674; holder = 5; volume = 16000 })) ≡
+      ended (ascii "ok;7674;5;16000")
+  pub advance-20000 : advanceReply (advance.Volume 20000) ≡ ended (ascii "ok;20000")
+  pub holder-head : head (Holder 1 7674) ≡ ascii "holder;1;7674;"
+  pub period-head : head (Period 33 0) ≡ ascii "period;33;0;"
+  pub advance-head : head (Advance 0) ≡ ascii "advance;0;"

@@ -1,0 +1,74 @@
+-- The lines that answer questions, each with its line feed: `ok;` and the values, or `refused;22`; alone, or behind
+-- the question. Definitions only.
+use Prim.Native.Nat.{ℕ, _+_}
+use mathlib.Core.List.{List, [], _∷_, _++_}
+use lib.ListN.{length}
+use Rattle.rules.specs.declared.Register.{Register}
+use Rattle.rules.specs.declared.HolderAnswer.{HolderAnswer}
+use Rattle.rules.specs.declared.HolderAnswer.the-variants as holder
+use Rattle.rules.specs.declared.PeriodAnswer.{PeriodAnswer}
+use Rattle.rules.specs.declared.PeriodAnswer.the-variants as period
+use Rattle.rules.specs.declared.AdvanceAnswer.{AdvanceAnswer}
+use Rattle.rules.specs.declared.AdvanceAnswer.the-variants as advance
+use Rattle.rules.specs.Questions.{holderAnswer, periodAnswer, advanceAnswer}
+use Rattle.text.specs.Ascii.{ascii}
+use Rattle.text.specs.Decimal.{decimal}
+use Rattle.listing.specs.Listing.{AppendedWithin}
+use Rattle.question_words.specs.declared.Question.{Question}
+use Rattle.question_words.specs.declared.Question.the-variants.{Holder, Period, Advance}
+
+-- A number and the byte behind it; 59 is `;`, 10 a line feed.
+abbrev pub field : ℕ → ℕ → List ℕ
+field v end = decimal v (end ∷ [])
+
+abbrev pub one : List ℕ → ℕ → ℕ → List ℕ
+one w v end = w ++ field v end
+
+abbrev pub two : List ℕ → ℕ → ℕ → List ℕ
+two w a b = w ++ (field a 59 ++ field b 59)
+
+-- `ok;` and the value, or the three values.
+abbrev pub okOne : ℕ → List ℕ
+okOne v = one (ascii "ok;") v 10
+
+abbrev pub okThree : ℕ → ℕ → ℕ → List ℕ
+okThree a b c = ascii "ok;" ++ (field a 59 ++ (field b 59 ++ field c 10))
+
+-- 01: "A question off its range, or on a point not enrolled, gives 22."
+abbrev pub refusal : List ℕ
+refusal = ascii "refused;22" ++ (10 ∷ [])
+
+-- The holder; start as a day, holder and volume; the advance.
+unfoldable pub holderReply : HolderAnswer → List ℕ
+holderReply (holder.Holder s) = okOne s
+holderReply holder.OffRange = refusal
+
+unfoldable pub periodReply : PeriodAnswer → List ℕ
+periodReply (period.Of q) = okThree (q .start) (q .holder) (q .volume)
+periodReply period.OffRange = refusal
+
+unfoldable pub advanceReply : AdvanceAnswer → List ℕ
+advanceReply (advance.Volume v) = okOne v
+advanceReply advance.OffRange = refusal
+
+-- The line that answers a question.
+unfoldable pub reply : Register → Question → List ℕ
+reply r (Holder p d) = holderReply (holderAnswer r p d)
+reply r (Period p n) = periodReply (periodAnswer r p n)
+reply r (Advance p) = advanceReply (advanceAnswer r p)
+
+-- The question in front of its answer: `holder;P;DAY;`, `period;P;N;`, `advance;P;`.
+unfoldable pub head : Question → List ℕ
+head (Holder p d) = two (ascii "holder;") p d
+head (Period p n) = two (ascii "period;") p n
+head (Advance p) = one (ascii "advance;") p 59
+
+unfoldable pub line : Register → Question → List ℕ
+line r q = head q ++ reply r q
+
+-- A number has at most 20 digits.
+abbrev pub OnePut : ℕ → List ℕ → ℕ → ℕ → List ℕ → List ℕ → ℕ → Type 0
+OnePut at w v end before after next = AppendedWithin (length w + 21) at (one w v end) before after next
+
+abbrev pub TwoPut : ℕ → List ℕ → ℕ → ℕ → List ℕ → List ℕ → ℕ → Type 0
+TwoPut at w a b before after next = AppendedWithin (length w + 42) at (two w a b) before after next

@@ -1,19 +1,14 @@
 // What a reading advances.
 use checks::full_turn;
 use checks::unit_of;
+use periods::less;
 use rules::Meter;
 use rules::Reading;
 use rules::Span;
 ghost use mathlib.Core.Path.{_≡_};
-ghost use Prim.Native.Nat.{_+_, _-_, _≤_, _<_};
+ghost use Prim.Native.Nat.{_+_, _≤_, _<_};
 ghost use Rattle.rules.specs.Volumes.{advanceOf};
 ghost use Rattle.point.specs.Ranges.{spanBy};
-
-fn less(a: u64, b: u64) -> u64
-    ensures { λ r. ⌜ r ≡ a - b ⌝ }
-{
-    if a < b { 0 } else { a - b }
-}
 
 // V: what the wheels have advanced from the last index to x; z marks that they passed zero.
 fn advance(last: u64, x: u64, z: u64, turn: u64) -> u64

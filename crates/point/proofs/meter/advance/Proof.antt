@@ -8,7 +8,7 @@ use Rattle.point.proofs.meter.advance.Statement.{statement}
 use Rattle.point.proofs.meter.advance.Tie as tie
 use Rattle.point.proofs.meter.advance.Reads as reads
 use Rattle.point.proofs.meter.advance.Lts as lts
-use Rattle.point.proofs.meter.less.Reads as less-reads
+use Rattle.periods.proofs.less.Reads as less-reads
 
 add-less : tie.Need-add-less
 add-less c = search needs

@@ -1,3 +1,1 @@
 pub mod Dues
-pub mod OnePoint
-pub mod DailyReply

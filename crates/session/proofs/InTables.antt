@@ -28,10 +28,11 @@ use Rattle.input.specs.Part.{capped, kept}
 use Rattle.desk.specs.declared.Desk.{Desk}
 use Rattle.desk.specs.declared.Reply.{Reply}
 use Rattle.desk.specs.Desk.{desk, replied}
-use Rattle.quick.specs.Quick.{dueDay, firstDue, isQuick, placeOf, supplierOf, signedAfter, turnOf, dayAfter}
-use Rattle.quick.specs.Daily.{dailyOf}
-use Rattle.quick.proofs.OnePoint.{place-lt}
-use Rattle.quick.proofs.DailyReply.{stored, daily-reply, daily-calm}
+use Rattle.quick.specs.Quick.{dueDay, firstDue, isQuick, placeOf, supplierOf, signedAfter, dayAfter}
+use Rattle.one_point.specs.Turns.{turnOf}
+use Rattle.one_point.specs.Daily.{dailyOf}
+use Rattle.one_point.proofs.OnePoint.{place-lt}
+use Rattle.one_point.proofs.DailyReply.{stored, daily-reply, daily-calm}
 use Rattle.session.specs.declared.Session.{Session}
 use Rattle.session.specs.declared.pieces.Answered.{Answered}
 use Rattle.session.specs.Session.{answeredWith, AnsweredBy}

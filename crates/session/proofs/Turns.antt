@@ -27,10 +27,11 @@ use Rattle.input.proofs.Runs.{run-found, run-none}
 use Rattle.desk.specs.declared.Desk.{Desk}
 use Rattle.desk.specs.declared.Reply.{Reply}
 use Rattle.desk.specs.Desk.{desk, answerOf, deskAfter, replied}
-use Rattle.quick.specs.Quick.{dueDay, firstDue, isQuick, placeOf, supplierOf, signedAfter, turnOf, dayAfter}
+use Rattle.quick.specs.Quick.{dueDay, firstDue, isQuick, placeOf, supplierOf, signedAfter, dayAfter}
+use Rattle.one_point.specs.Turns.{turnOf}
 use Rattle.desk.proofs.Tabled.{every-answer-tabled, tabled-small}
 use Rattle.quick.proofs.Dues.{first-set}
-use Rattle.quick.proofs.OnePoint.{placed, pointIn, signedIn, quick-reply}
+use Rattle.one_point.proofs.OnePoint.{placed, pointIn, signedIn, quick-reply}
 use Rattle.session.specs.declared.Session.{Session}
 use Rattle.session.specs.declared.Fed.{Fed}
 use Rattle.session.specs.declared.pieces.Answered.{Answered}

@@ -7,7 +7,7 @@ use Rattle.fields.specs.Known.{IsKnown}
 use Rattle.input.specs.Lines.{untilFeed}
 use Rattle.input.specs.Part.{kept}
 use Rattle.desk.specs.Desk.{desk}
-use Rattle.quick.proofs.OnePoint.{place-lt, supplier-lt}
+use Rattle.one_point.proofs.OnePoint.{place-lt, supplier-lt}
 use Rattle.session.proofs.Turns.{Going, line-read}
 use Rattle.session.proofs.InTables.{registerIn, Tables, daily-turn, point-turn, register-turn, tables-start, tables-end, tables-set, tables-set-kept}
 use borrow.Author.Needs.{needs}
@@ -16,14 +16,14 @@ use Rattle.session.proofs.pieces.answer_lines.Tie as tie
 use Rattle.session.proofs.pieces.answer_lines.Reads as reads
 use Rattle.session.proofs.pieces.answer_lines.Lts as lts
 use Rattle.answer_lines.proofs.put_answer.Reads as put-answer-reads
-use Rattle.quick.proofs.daily_of.Reads as daily-of-reads
+use Rattle.one_point.proofs.daily_of.Reads as daily-of-reads
 use Rattle.quick.proofs.day_after.Reads as day-after-reads
 use Rattle.quick.proofs.first_due.Reads as first-due-reads
 use Rattle.quick.proofs.is_quick.Reads as is-quick-reads
 use Rattle.quick.proofs.place_of.Reads as place-of-reads
 use Rattle.quick.proofs.signed_after.Reads as signed-after-reads
 use Rattle.quick.proofs.supplier_of.Reads as supplier-of-reads
-use Rattle.quick.proofs.turn_of.Reads as turn-of-reads
+use Rattle.one_point.proofs.turn_of.Reads as turn-of-reads
 use Rattle.desk.proofs.respond.Reads as respond-reads
 use Rattle.next_line.proofs.next_line.Reads as next-line-reads
 use Rattle.message_lines.proofs.kind_of.Reads as kind-of-reads

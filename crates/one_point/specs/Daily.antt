@@ -20,9 +20,9 @@ use Rattle.rules.specs.declared.PointAction.the-variants.{
 use Rattle.point.specs.declared.Newest.{Newest}
 use Rattle.point.specs.Newest.{leftNewest, readNewest}
 use Rattle.message.specs.declared.Message.{Message}
-use Rattle.quick.specs.declared.daily.Read as declared
-use Rattle.quick.specs.declared.Named.{Named}
-use Rattle.quick.specs.Quick.{namedIn}
+use Rattle.one_point.specs.declared.daily.Read as declared
+use Rattle.one_point.specs.declared.Named.{Named}
+use Rattle.one_point.specs.Turns.{namedIn}
 
 abbrev pub noReading : declared.Read
 noReading = record { is = false; day = 0; index = 0; zero = 0 }

@@ -1,9 +1,9 @@
 use borrow.Author.Needs.{needs}
-use Rattle.quick.proofs.answer_beside.Statement.{statement}
-use Rattle.quick.proofs.answer_beside.Tie as tie
-use Rattle.quick.proofs.answer_beside.Reads as reads
-use Rattle.quick.proofs.answer_beside.Lts as lts
-use Rattle.quick.proofs.plain_answer.Reads as plain-answer-reads
+use Rattle.one_point.proofs.answer_beside.Statement.{statement}
+use Rattle.one_point.proofs.answer_beside.Tie as tie
+use Rattle.one_point.proofs.answer_beside.Reads as reads
+use Rattle.one_point.proofs.answer_beside.Lts as lts
+use Rattle.one_point.proofs.plain_answer.Reads as plain-answer-reads
 
 enum-told : tie.Need-enum-told
 enum-told c = search needs

@@ -1,10 +1,10 @@
 -- Each act in turn: a reading is one.
 use borrow.Author.Needs.{needs}
-use Rattle.quick.proofs.daily.reading_by.Statement.{statement}
-use Rattle.quick.proofs.daily.reading_by.Tie as tie
-use Rattle.quick.proofs.daily.reading_by.Reads as reads
-use Rattle.quick.proofs.daily.reading_by.Lts as lts
-use Rattle.quick.proofs.daily.no_reading.Reads as no-reading-reads
+use Rattle.one_point.proofs.daily.reading_by.Statement.{statement}
+use Rattle.one_point.proofs.daily.reading_by.Tie as tie
+use Rattle.one_point.proofs.daily.reading_by.Reads as reads
+use Rattle.one_point.proofs.daily.reading_by.Lts as lts
+use Rattle.one_point.proofs.daily.no_reading.Reads as no-reading-reads
 
 enum-known-a : tie.Need-enum-known-a
 enum-known-a c = search needs

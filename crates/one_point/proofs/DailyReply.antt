@@ -41,12 +41,13 @@ use Rattle.point.specs.Turn.{turned}
 use Rattle.point.proofs.NewestTurn.{newest-turn}
 use Rattle.message.specs.declared.Message.{Message}
 use Rattle.message.specs.declared.Message.the-variants.{Open, Ask, Unreadable}
-use Rattle.quick.specs.declared.daily.Read as declared
-use Rattle.quick.specs.declared.Named.{Named}
+use Rattle.one_point.specs.declared.daily.Read as declared
+use Rattle.one_point.specs.declared.Named.{Named}
 use Rattle.desk.specs.Desk.{desk, replied}
-use Rattle.quick.specs.Quick.{dueDay, firstDue, isQuick, placeOf, supplierOf, signedAfter, turnOf, namedIn, dayAfter}
-use Rattle.quick.specs.Daily.{readingBy, dailyBy, dailyOf}
-use Rattle.quick.proofs.OnePoint.{pointIn, turnAt, quickly, quick-reply}
+use Rattle.quick.specs.Quick.{dueDay, firstDue, isQuick, placeOf, supplierOf, signedAfter, dayAfter}
+use Rattle.one_point.specs.Turns.{turnOf, namedIn}
+use Rattle.one_point.specs.Daily.{readingBy, dailyBy, dailyOf}
+use Rattle.one_point.proofs.OnePoint.{pointIn, turnAt, quickly, quick-reply}
 
 -- the point after it
 abbrev pub readIn : Newest → History → Point

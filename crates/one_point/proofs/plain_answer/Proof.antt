@@ -1,12 +1,12 @@
 use borrow.Author.Needs.{needs}
-use Rattle.quick.proofs.plain_answer.Statement.{statement}
-use Rattle.quick.proofs.plain_answer.Tie as tie
-use Rattle.quick.proofs.plain_answer.Reads as reads
-use Rattle.quick.proofs.plain_answer.Lts as lts
-use Rattle.quick.proofs.is_out_of_range.Reads as is-out-of-range-reads
+use Rattle.one_point.proofs.plain_answer.Statement.{statement}
+use Rattle.one_point.proofs.plain_answer.Tie as tie
+use Rattle.one_point.proofs.plain_answer.Reads as reads
+use Rattle.one_point.proofs.plain_answer.Lts as lts
+use Rattle.one_point.proofs.is_out_of_range.Reads as is-out-of-range-reads
 use borrow.Author.Tests.{lt-ltb, le-ltb}
 use Rattle.rules.specs.Rejections.{firstOf}
-use Rattle.quick.specs.Quick.{plainAnswer}
+use Rattle.one_point.specs.Turns.{plainAnswer}
 
 is-out-of-range-requires : tie.Need-is-out-of-range-requires
 is-out-of-range-requires c κs = search needs

@@ -1,10 +1,10 @@
 use borrow.Author.Needs.{needs}
-use Rattle.quick.proofs.named_in.Statement.{statement}
-use Rattle.quick.proofs.named_in.Tie as tie
-use Rattle.quick.proofs.named_in.Reads as reads
-use Rattle.quick.proofs.named_in.Lts as lts
-use Rattle.quick.proofs.named_by.Reads as named-by-reads
-use Rattle.quick.proofs.no_point.Reads as no-point-reads
+use Rattle.one_point.proofs.named_in.Statement.{statement}
+use Rattle.one_point.proofs.named_in.Tie as tie
+use Rattle.one_point.proofs.named_in.Reads as reads
+use Rattle.one_point.proofs.named_in.Lts as lts
+use Rattle.one_point.proofs.named_by.Reads as named-by-reads
+use Rattle.one_point.proofs.no_point.Reads as no-point-reads
 
 enum-told : tie.Need-enum-told
 enum-told c = search needs

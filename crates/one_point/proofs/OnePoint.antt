@@ -29,31 +29,12 @@ use Rattle.message.specs.declared.Message.{Message}
 use Rattle.message.specs.declared.Message.the-variants.{Open, Ask, Unreadable}
 use Rattle.desk.specs.declared.Desk.{Desk}
 use Rattle.desk.specs.declared.Reply.{Reply}
-use Rattle.quick.specs.declared.Named.{Named}
+use Rattle.one_point.specs.declared.Named.{Named}
 use Rattle.rules.specs.declared.Settings.{Settings}
 use Rattle.desk.specs.Desk.{desk, unreadable, answerOf, deskAfter, replied}
-use Rattle.quick.specs.Quick.{
-  firstDue,
-  isSmall,
-  isQuick,
-  placeIn,
-  placeOf,
-  supplierIn,
-  supplierOf,
-  signsIn,
-  signedAfter,
-  leaves,
-  nonePoint,
-  namedBy,
-  namedIn,
-  answerBeside,
-  plainAnswer,
-  turnIn,
-  turnOf,
-  dayBy,
-  dayAfter,
-}
+use Rattle.quick.specs.Quick.{firstDue, isSmall, isQuick, placeIn, placeOf, supplierIn, supplierOf, signsIn, signedAfter, dayBy, dayAfter}
+use Rattle.one_point.specs.Turns.{leaves, nonePoint, namedBy, namedIn, answerBeside, plainAnswer, turnIn, turnOf}
 use Rattle.quick.proofs.Dues.{quiet-advanced, first-never}
 
 -- the register with one point in its place, on a day, and one supplier under contract or not
 abbrev pub placed : Register → ℕ → ℕ → Point → ℕ → Bool → Register

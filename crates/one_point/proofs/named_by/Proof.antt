@@ -1,9 +1,9 @@
 use borrow.Author.Needs.{needs}
-use Rattle.quick.proofs.named_by.Statement.{statement}
-use Rattle.quick.proofs.named_by.Tie as tie
-use Rattle.quick.proofs.named_by.Reads as reads
-use Rattle.quick.proofs.named_by.Lts as lts
-use Rattle.quick.proofs.no_point.Reads as no-point-reads
+use Rattle.one_point.proofs.named_by.Statement.{statement}
+use Rattle.one_point.proofs.named_by.Tie as tie
+use Rattle.one_point.proofs.named_by.Reads as reads
+use Rattle.one_point.proofs.named_by.Lts as lts
+use Rattle.one_point.proofs.no_point.Reads as no-point-reads
 
 enum-told : tie.Need-enum-told
 enum-told c = search needs

@@ -1,8 +1,8 @@
 use borrow.Author.Needs.{needs}
-use Rattle.quick.proofs.is_out_of_range.Statement.{statement}
-use Rattle.quick.proofs.is_out_of_range.Tie as tie
-use Rattle.quick.proofs.is_out_of_range.Reads as reads
-use Rattle.quick.proofs.is_out_of_range.Lts as lts
+use Rattle.one_point.proofs.is_out_of_range.Statement.{statement}
+use Rattle.one_point.proofs.is_out_of_range.Tie as tie
+use Rattle.one_point.proofs.is_out_of_range.Reads as reads
+use Rattle.one_point.proofs.is_out_of_range.Lts as lts
 use Rattle.checks.proofs.outside.Reads as outside-reads
 
 enum-known-a : tie.Need-enum-known-a

@@ -1,16 +1,16 @@
 use borrow.Author.Needs.{needs}
-use Rattle.quick.proofs.turn_of.Statement.{statement}
-use Rattle.quick.proofs.turn_of.Tie as tie
-use Rattle.quick.proofs.turn_of.Reads as reads
-use Rattle.quick.proofs.turn_of.Lts as lts
-use Rattle.quick.proofs.answer_beside.Reads as answer-beside-reads
-use Rattle.quick.proofs.leave.Reads as leave-reads
-use Rattle.quick.proofs.named_in.Reads as named-in-reads
+use Rattle.one_point.proofs.turn_of.Statement.{statement}
+use Rattle.one_point.proofs.turn_of.Tie as tie
+use Rattle.one_point.proofs.turn_of.Reads as reads
+use Rattle.one_point.proofs.turn_of.Lts as lts
+use Rattle.one_point.proofs.answer_beside.Reads as answer-beside-reads
+use Rattle.one_point.proofs.leave.Reads as leave-reads
+use Rattle.one_point.proofs.named_in.Reads as named-in-reads
 use Rattle.point.proofs.turn.Reads as turn-reads
 use mathlib.Core.Path.{_∙_, ap}
 use Rattle.rules.specs.declared.Answer.{Answer}
-use Rattle.quick.specs.Quick.{leaves}
-use Rattle.quick.proofs.OnePoint.{turn-named, turn-beside}
+use Rattle.one_point.specs.Turns.{leaves}
+use Rattle.one_point.proofs.OnePoint.{turn-named, turn-beside}
 
 named-in-requires : tie.Need-named-in-requires
 named-in-requires c κs = search needs

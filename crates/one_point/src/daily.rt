@@ -8,7 +8,7 @@ use rules::Period;
 use rules::PointAction;
 ghost use mathlib.Core.Path.{_≡_};
 ghost use Rattle.point.specs.Newest.{leftNewest};
-ghost use Rattle.quick.specs.Daily.{noReading, readingBy, dailyOf};
+ghost use Rattle.one_point.specs.Daily.{noReading, readingBy, dailyOf};
 
 // The reading of an act, if it is one.
 pub(crate) struct Read {

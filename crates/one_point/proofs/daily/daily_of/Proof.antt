@@ -2,15 +2,15 @@
 use mathlib.Core.Path.{_≡_}
 use native.Mathlib.Omega.{arith}
 use borrow.Author.Tests.{not-true, not-false, lt-ltb, le-ltb}
-use Rattle.quick.proofs.DailyReply.{daily-by}
+use Rattle.one_point.proofs.DailyReply.{daily-by}
 use borrow.Author.Needs.{needs}
-use Rattle.quick.proofs.daily.daily_of.Statement.{statement}
-use Rattle.quick.proofs.daily.daily_of.Tie as tie
-use Rattle.quick.proofs.daily.daily_of.Reads as reads
-use Rattle.quick.proofs.daily.daily_of.Lts as lts
-use Rattle.quick.proofs.daily.as_it_is.Reads as as-it-is-reads
-use Rattle.quick.proofs.daily.reading_by.Reads as reading-by-reads
-use Rattle.quick.proofs.named_in.Reads as named-in-reads
+use Rattle.one_point.proofs.daily.daily_of.Statement.{statement}
+use Rattle.one_point.proofs.daily.daily_of.Tie as tie
+use Rattle.one_point.proofs.daily.daily_of.Reads as reads
+use Rattle.one_point.proofs.daily.daily_of.Lts as lts
+use Rattle.one_point.proofs.daily.as_it_is.Reads as as-it-is-reads
+use Rattle.one_point.proofs.daily.reading_by.Reads as reading-by-reads
+use Rattle.one_point.proofs.named_in.Reads as named-in-reads
 use Rattle.point.proofs.read_newest.Reads as read-newest-reads
 
 named-in-requires : tie.Need-named-in-requires

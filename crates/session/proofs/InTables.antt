@@ -31,7 +31,7 @@ use Rattle.desk.specs.Desk.{desk, replied}
 use Rattle.quick.specs.Quick.{dueDay, firstDue, isQuick, placeOf, supplierOf, signedAfter, dayAfter}
 use Rattle.one_point.specs.Turns.{turnOf}
 use Rattle.one_point.specs.Daily.{dailyOf}
-use Rattle.one_point.proofs.OnePoint.{place-lt}
+use Rattle.quick.proofs.Places.{place-lt}
 use Rattle.one_point.proofs.DailyReply.{stored, daily-reply, daily-calm}
 use Rattle.session.specs.declared.Session.{Session}
 use Rattle.session.specs.declared.pieces.Answered.{Answered}

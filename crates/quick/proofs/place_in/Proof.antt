@@ -5,7 +5,7 @@ use Rattle.quick.proofs.place_in.Reads as reads
 use Rattle.quick.proofs.place_in.Lts as lts
 use Rattle.checks.proofs.outside.Reads as outside-reads
 use mathlib.Core.Path.{sym, _∙_}
-use Rattle.quick.proofs.OnePoint.{point-least}
+use Rattle.quick.proofs.Places.{point-least}
 
 enum-told : tie.Need-enum-told
 enum-told c = search needs

@@ -7,7 +7,7 @@ use Rattle.fields.specs.Known.{IsKnown}
 use Rattle.input.specs.Lines.{untilFeed}
 use Rattle.input.specs.Part.{kept}
 use Rattle.desk.specs.Desk.{desk}
-use Rattle.one_point.proofs.OnePoint.{place-lt, supplier-lt}
+use Rattle.quick.proofs.Places.{place-lt, supplier-lt}
 use Rattle.session.proofs.Turns.{Going, line-read}
 use Rattle.session.proofs.InTables.{registerIn, Tables, daily-turn, point-turn, register-turn, tables-start, tables-end, tables-set, tables-set-kept}
 use borrow.Author.Needs.{needs}

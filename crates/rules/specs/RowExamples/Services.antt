@@ -40,7 +40,7 @@ pub record ServiceExamples : Type 0 where
   pub default-supply : Then
       (on 11 (At 0 (DefaultSupply 77)) gives Refused 2 ∷ on 11 (At 33 (DefaultSupply 77)) gives Refused 2 ∷
       on 11 (At 5 (DefaultSupply 77)) gives Refused 2 ∷ on 11 (At 1 (DefaultSupply 77)) gives Refused 24 ∷
-      on 11 (At 2 (DefaultSupply 77)) gives Accepted ∷ [])
+      on 11 (At 3 (DefaultSupply 77)) gives Refused 24 ∷ on 11 (At 2 (DefaultSupply 77)) gives Accepted ∷ [])
   -- 6: "request, out of service: holder 0"; 2
   pub out-of-service : Then
       (on 11 (At 0 OutOfService) gives Refused 2 ∷ on 11 (At 33 OutOfService) gives Refused 2 ∷

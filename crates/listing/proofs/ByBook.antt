@@ -48,9 +48,14 @@ point-told r p lo hi z = go (pointAt p (r .points) .fields .enrolled) refl
     go : (b : Bool) → pointAt p (r .points) .fields .enrolled ≡ b
         → pointLines p (pointAt p (r .points)) ≡ withTotal p (periodsOf (pointAt p (r .points))) (advanceTold (advanceAnswer r p))
     go true e =
-        rw (le-ltb p 1 lo, le-ltb 32 p hi, e, used-count (pointAt p (r .points) .history) z,
+        rw (
+          le-ltb p 1 lo,
+          le-ltb 32 p hi,
+          e,
+          used-count (pointAt p (r .points) .history) z,
           lines-first p (pointAt p (r .points) .history .count) (pointAt p (r .points) .history .periods)
-          (omega (arith, z .slots, z .some)))
+              (omega (arith, z .slots, z .some)),
+        )
     go false e = rw (le-ltb p 1 lo, le-ltb 32 p hi, e)
 
 -- points one behind the other

@@ -157,10 +157,14 @@ module _ (r : Register) (l : List Span) (n : List ℕ) (g : Page) (p : ℕ) (lo 
         let k : suc m - 1 ≡ m = omega arith in
         rw (is-point, enrolled, used-all, le-ltb (suc m) 1 (omega arith), ne-eqb (suc m) 0 (λ q. not-suc-le-zero {n = 0} (omega arith)), k)
         (elim (decLe (suc m) (point .history .count)) [
-          | yes y ↦ rw (le-ltb (point .history .count) (suc m) y,
-              nth-in m (point .history .count) (point .history .periods) y (omega (arith, h .point .sized .slots, h .point .sized .some)))
-          | no y ↦ rw (lt-ltb (point .history .count) (suc m) (omega arith),
-              nth-past m (point .history .count) (point .history .periods) (omega arith))
+          | yes y ↦ rw (
+            le-ltb (point .history .count) (suc m) y,
+            nth-in m (point .history .count) (point .history .periods) y (omega (arith, h .point .sized .slots, h .point .sized .some)),
+          )
+          | no y ↦ rw (
+            lt-ltb (point .history .count) (suc m) (omega arith),
+            nth-past m (point .history .count) (point .history .periods) (omega arith),
+          )
         ])
 
   -- the three questions

@@ -34,7 +34,7 @@ pub record Asked (o : Opening) (calls : List Call) : Type 0 where
   pub advance : (p : ℕ) → advanceTold (advanceAnswer (register o calls) p) ≡ bookAdvance o calls p
   pub advance-number : (p : ℕ)
       → advanceNumber (advanceAnswer (register o calls) p) ≡ askedNumber (bookAdvance o calls p)
-  -- "each gas day from enrolment to the register's day" has its holder
+  -- "(enrolment to register's day)": each of these days has its holder
   pub answered : (p e d : ℕ) → 1 ≤ p → p ≤ 32 → enrolments (opened o) calls p ≡ e ∷ [] → e ≤ d
       → d ≤ register o calls .day → holderNumber (holderAnswer (register o calls) p d) ≡ 0
 

@@ -77,16 +77,16 @@ total (v ∷ vs) = v + total vs
 -- One point of the register beside its page, where the last day is `last`; the readings and the enrolments come from the list.
 pub record PointAgrees (last : ℕ) (readings : List Span) (enrolments : List ℕ) (page : Page) (point : Point) : Type 0 where
   pub fields : point .fields ≡ page .fields
-  -- "every point's periods start at the day book's marked cells and nowhere else"
+  -- "The register's periods are the marked cells": they start at these and nowhere else
   pub starts : startsOf point ≡ markedDays (page .cells) []
   -- the first period starts on the enrolment day; no point is enrolled twice, and one that is not has no period
   pub first : take 1 (startsOf point) ≡ enrolments
-  -- "each gas day from enrolment to the register's day lies in exactly one of them, with the day book's holder"
+  -- each gas day from enrolment to the register's day has a cell and lies in exactly one period, with the cell's holder
   pub covered : (e d : ℕ) → enrolments ≡ e ∷ [] → e ≤ d → d ≤ last
       → map (λ (q : Period). some (q .holder)) (covering d (periodsOf point)) ≡ holderOn d (page .cells) ∷ []
-  -- "each booked volume is the sum of its days' volumes, worked out from the list"; so no volume has wrapped
+  -- "A period's booked volume is the sum over its days", whose volumes are worked out from the list; so no volume has wrapped
   pub volumes : volumesOf point ≡ dailySums (volume readings) last (startsOf point)
-  -- "a point's volumes add up to its registered advance"
+  -- a point's volumes add up to its registered advance
   pub advance : total (volumesOf point) ≡ registered readings
   -- never more than 24 periods, those that are due included; and the full turn is 10^w
   pub room : point .history .count + due (point .fields .supply) ≤ 24
@@ -100,7 +100,7 @@ module _ (o : Opening) (calls : List Call) where
   register = Register.after (Register.opened o) calls
 
   pub record Demand3 : Type 0 where
-    -- "every answer is the day book's", with its date
+    -- every answer is the day book's, "with the date it carries"
     pub answers : Register.answers (Register.opened o) calls ≡ DayBook.answers (DayBook.opened o) calls
     -- "today of its last accepted call, or the first day if there is none"
     pub day : register .day ≡ book .day

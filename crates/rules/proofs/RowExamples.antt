@@ -330,6 +330,10 @@ varied-examples =
           record { periods = refl; advance = refl; starts = refl; holders = refl; volumes = refl; total = refl };
       changed-past-zero =
           record { periods = refl; advance = refl; starts = refl; holders = refl; volumes = refl; total = refl };
+      other-reading-not-booked =
+          record { periods = refl; advance = refl; starts = refl; holders = refl; volumes = refl; total = refl };
+      other-reading-not-booked-either =
+          record { periods = refl; advance = refl; starts = refl; holders = refl; volumes = refl; total = refl };
     }
 
 pub row-examples : RowExamples

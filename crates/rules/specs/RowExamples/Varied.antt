@@ -132,3 +132,6 @@ pub record VariedExamples : Type 0 where
   -- and for the old meter's last reading at a change: 2 past zero at U = 100
   pub changed-past-zero : ThenShows (oneBehind ++ (on 12 (At 5 (ChangeMeter 0 1 2 2 0)) gives Accepted ∷ [])) 5
       (period 10 0 200 ∷ []) 200
+  -- another point's reading books nothing here, whichever of the two has the higher number
+  pub other-reading-not-booked : ThenShows (on 20 (At 2 (Read 20 10 1)) gives Accepted ∷ []) 1 (period 10 5 0 ∷ []) 0
+  pub other-reading-not-booked-either : ThenShows (on 20 (At 2 (Read 20 10 1)) gives Accepted ∷ []) 3 (period 10 7 0 ∷ []) 0

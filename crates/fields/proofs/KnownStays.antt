@@ -13,7 +13,7 @@ use Rattle.fields.specs.declared.KnownDate.{KnownDate}
 use Rattle.fields.specs.declared.Shape.{Shape}
 use Rattle.fields.specs.declared.Sort.{Sort}
 use Rattle.fields.specs.declared.Sort.the-variants.{Date, Number}
-use Rattle.fields.specs.Known.{packed, knownText, IsKnown}
+use Rattle.fields.specs.Known.{packed, knownText, firstKnown, IsKnown}
 use Rattle.fields.specs.Fields.{Values, unread, valueOf, fieldOf, andThen, fieldsOf, sortsOf, fieldsIn}
 use Rattle.fields.specs.With.{ReadWith, value, none, numberRead, dateRead, dateWith, valueWith, fieldWith, RowRead, rowRead, onWith, fieldsWith, rowWith, allOf}
 use Rattle.fields.specs.KnownStays.{KnownStays}
@@ -78,3 +78,6 @@ row-as k s l h = go (leb (s .count) 7) where
 
 pub known-stays : KnownStays
 known-stays = record { first = first-right; same = λ k s l h. row-as k s l h .0; right = λ k s l h. row-as k s l h .1 }
+
+pub first-is-known : (k : KnownDate) → k ≡ firstKnown → IsKnown k
+first-is-known k e = rw e (known-stays .first)

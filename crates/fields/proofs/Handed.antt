@@ -1,10 +1,10 @@
 -- What is handed back of one field, and of a row of fields: the positions, and the values.
-use Prim.Native.Nat.{ℕ, suc, _+_, _-_, _<_, _≤_}
+use Prim.Native.Nat.{ℕ, _+_, _-_, _<_, _≤_}
 use mathlib.Core.Path.{_≡_, refl, sym, ap, _∙_}
 use mathlib.Core.Bool.{Bool, true, false, cond}
-use mathlib.Core.List.{List, [], _∷_, _++_}
+use mathlib.Core.List.{List, [], _∷_}
 use native.Mathlib.Omega.{arith}
-use lib.Dec.{leb, eqb}
+use lib.Dec.{eqb}
 use lib.ListN.{length, take, drop, getD, replicate, length-drop, take-append-drop}
 use lib.Seq.{length-take-le}
 use borrow.Author.Tests.{le-leb, lt-leb}
@@ -22,7 +22,8 @@ use Rattle.fields.specs.declared.Row.{Row}
 use Rattle.fields.specs.declared.Step.{Step}
 use Rattle.fields.specs.declared.Step.the-variants.{On, Bad}
 use Rattle.fields.specs.Known.{packed, knownText}
-use Rattle.fields.specs.With.{ReadWith, value, none, numberRead, dateRead, dateWith, valueWith, fieldWith, RowRead, rowRead, rowWith, stepAt, rowAt, valuesAfter, ReadRow}
+use Rattle.fields.specs.With.{ReadWith, value, none, numberRead, dateRead, dateWith, valueWith, fieldWith, RowRead, rowRead, rowWith}
+use Rattle.fields.specs.With.{stepAt, rowAt, valuesAfter, ReadRow}
 use Rattle.fields.proofs.FieldSteps.{field-here, too-many}
 
 -- what is read with a known date leaves the end of the text

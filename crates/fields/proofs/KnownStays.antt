@@ -1,9 +1,8 @@
 -- A right known date changes nothing, and stays right: the statement `KnownStays`, proved.
 use Prim.Native.Nat.{ℕ}
-use mathlib.Core.Path.{_≡_, refl, sym, ap, _∙_}
+use mathlib.Core.Path.{_≡_, refl}
 use mathlib.Core.Bool.{Bool, true, false, cond}
 use mathlib.Core.List.{List, [], _∷_, _++_}
-use native.Mathlib.Omega.{arith}
 use lib.Dec.{leb, eqb}
 use lib.ListN.{take, drop}
 use Rattle.reading.specs.Words.{isSame}
@@ -15,7 +14,8 @@ use Rattle.fields.specs.declared.Sort.{Sort}
 use Rattle.fields.specs.declared.Sort.the-variants.{Date, Number}
 use Rattle.fields.specs.Known.{packed, knownText, firstKnown, IsKnown}
 use Rattle.fields.specs.Fields.{Values, unread, valueOf, fieldOf, andThen, fieldsOf, sortsOf, fieldsIn}
-use Rattle.fields.specs.With.{ReadWith, value, none, numberRead, dateRead, dateWith, valueWith, fieldWith, RowRead, rowRead, onWith, fieldsWith, rowWith, allOf}
+use Rattle.fields.specs.With.{ReadWith, value, none, numberRead, dateRead, dateWith, valueWith, fieldWith}
+use Rattle.fields.specs.With.{RowRead, rowRead, onWith, fieldsWith, rowWith, allOf}
 use Rattle.fields.specs.KnownStays.{KnownStays}
 use Rattle.fields.proofs.KnownDates.{known-day, now-known, first-right}
 

@@ -25,7 +25,7 @@ pub data ReadWith : Type 0 where
   value : ℕ → List ℕ → KnownDate → ReadWith
   none : ReadWith
 
--- A number: the known date stays. A date that is read: it is known from then on, by its bytes b.
+-- A number that is read leaves the known date; a date that is read is known from then on, by its bytes b.
 abbrev pub numberRead : KnownDate → Read → ReadWith
 numberRead k (number n r) = value n r k
 numberRead k bad = none
@@ -34,14 +34,19 @@ abbrev pub dateRead : ℕ → Read → ReadWith
 dateRead b (number n r) = value n r (record { bytes = b; day = n })
 dateRead b bad = none
 
+-- The number that a text begins with.
+abbrev pub numberWith : KnownDate → List ℕ → ReadWith
+numberWith k l = numberRead k (numberOf l)
+
 -- The date that a text begins with: the known day where the eight bytes are the known ones, else their own.
 unfoldable pub dateWith : KnownDate → List ℕ → ReadWith
-dateWith k l = cond (isSame (take 8 l) (knownText k)) (value (k .day) (drop 8 l) k) (dateRead (packed (take 8 l)) (dayIn l))
+dateWith k l =
+    cond (isSame (take 8 l) (knownText k)) (value (k .day) (drop 8 l) k) (dateRead (packed (take 8 l)) (dayIn l))
 
 -- The value that a text holds, as a field of its sort.
 abbrev pub valueWith : KnownDate → Sort → List ℕ → ReadWith
 valueWith k Date l = dateWith k l
-valueWith k Number l = numberRead k (numberOf l)
+valueWith k Number l = numberWith k l
 
 -- The field that a text begins with.
 unfoldable pub fieldWith : KnownDate → Sort → List ℕ → ReadWith

@@ -6,10 +6,9 @@ use reading::number_at;
 ghost use mathlib.Core.Path.{_≡_};
 ghost use Prim.Native.Nat.{_+_, _≤_, _<_};
 ghost use lib.ListN.{length, take, drop};
-ghost use Rattle.reading.specs.Numbers.{numberOf};
 ghost use Rattle.fields.specs.Known.{packed, firstKnown};
 ghost use Rattle.fields.specs.Fields.{sortAt};
-ghost use Rattle.fields.specs.With.{numberRead, dateWith, fieldWith, stepAt, ReadRow};
+ghost use Rattle.fields.specs.With.{numberWith, dateWith, fieldWith, stepAt, ReadRow};
 
 // What a field holds: a date, whose value is its day, or a number.
 pub enum Sort {
@@ -128,7 +127,7 @@ fn field_at(s: &[u8], at: usize, sort: Sort, known: KnownDate) -> Step
 
 // A number; the known date stays.
 fn known_number_at(s: &[u8], at: usize, known: KnownDate) -> Step
-    ensures { λ r. ⌜ r ≡ stepAt at (drop at (now (s .entry))) (numberRead known (numberOf (drop at (now (s .entry))))) ⌝ }
+    ensures { λ r. ⌜ r ≡ stepAt at (drop at (now (s .entry))) (numberWith known (drop at (now (s .entry)))) ⌝ }
 {
     let Field::Value(v, end) = number_at(s, at) else {
         return Step::Bad;

@@ -1,7 +1,7 @@
 -- What is handed back: behind the buffer's end, by the fields, and by the line's end.
 use Prim.Native.Nat.{ℕ, _+_, _-_, _<_, _≤_}
 use mathlib.Core.Path.{_≡_, refl, sym, ap, ap₂, _∙_}
-use mathlib.Core.Bool.{Bool, true, false, cond, _&&_}
+use mathlib.Core.Bool.{Bool, true, false, _&&_}
 use mathlib.Core.List.{List, []}
 use native.Mathlib.Omega.{arith}
 use lib.ListN.{length, take, drop, length-drop, drop-of-length-le}
@@ -22,8 +22,7 @@ use Rattle.message.specs.declared.Message.the-variants.{Unreadable}
 use Rattle.message.specs.Lines.{messageOf}
 use Rattle.message.specs.Reading.{readLine}
 use Rattle.message.proofs.LineTexts.{message-first}
-use Rattle.next_line.specs.declared.Taken.{Taken}
-use Rattle.next_line.specs.NextLine.{firstLine, feedFirst, stopAt, firstKind, firstRow, taken, takenBy, nextLine}
+use Rattle.next_line.specs.NextLine.{feedFirst, stopAt, firstKind, firstRow, taken, takenBy, nextLine}
 use Rattle.next_line.proofs.NextLines.{empty-line}
 
 -- an empty text has no word, no fields, and is a line that cannot be read

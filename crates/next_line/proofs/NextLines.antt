@@ -8,7 +8,7 @@ use native.Mathlib.Omega.{arith}
 use native.Mathlib.Numerals.{add-one}
 use lib.Dec.{leb, eqb}
 use lib.ListN.{length, take, drop, getD, length-append, length-drop, take-append-drop, drop-of-length-le}
-use lib.Seq.{drop-cons, drop-drop, take-at, take-length}
+use lib.Seq.{drop-cons, take-at, take-length}
 use borrow.Author.Tests.{eqb-true, eq-eqb, ne-eqb}
 use Rattle.reading.specs.Words.{isSame}
 use Rattle.fields.specs.Fields.{values, unread, fieldsText, sortsFrom, sortsOf, fieldsOf}

@@ -58,6 +58,7 @@ pub record IsNext (l : List ℕ) (from : ℕ) (t : Taken) : Type 0 where
   pub end : t .end ≡ from + untilFeed (drop from l)
   pub known : IsKnown (t .known)
 
--- With a right known date the next line is the first line, whichever way it is read: `next-is-line` of proofs/ proves it.
+-- With a right known date the next line is the first line, whichever way it is read: `next-is-line` of proofs/
+-- proves it.
 abbrev pub NextIsLine : Type 0
 NextIsLine = (k : KnownDate) (l : List ℕ) (from : ℕ) → IsKnown k → IsNext l from (nextLine k l from)

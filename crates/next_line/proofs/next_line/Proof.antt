@@ -68,7 +68,11 @@ part-read-line-start : tie.Need-part-read-line-start
 part-read-line-start c = search needs
 
 part-read-line-end : tie.Need-part-read-line-end
-part-read-line-end c = omega (arith, (c .line-end) .ensures, (c .before .before .before .before .before .before .before .before .before .if1) .left, until-le (drop ((c .before .before .before .before .before .before .before .before .before .before .before) .args .from) ((c .before .before .before .before .before .before .before .before .before .before .before) .args .buf .now)), length-drop ((c .before .before .before .before .before .before .before .before .before .before .before) .args .from) ((c .before .before .before .before .before .before .before .before .before .before .before) .args .buf .now))
+part-read-line-end c =
+    let c₉ = c .before .before .before .before .before .before .before .before .before in
+    let a = c₉ .before .before .args in
+    let until = until-le (drop (a .from) (a .buf .now)) in
+    omega (arith, c .line-end .ensures, c₉ .if1 .left, until, length-drop (a .from) (a .buf .now))
 
 read-line-requires : tie.Need-read-line-requires
 read-line-requires c κs = search needs

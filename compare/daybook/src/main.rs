@@ -1,4 +1,4 @@
-//! `daybook` writes what `registre` writes; `daybook ask ..` what `ask ..` writes.
+//! `daybook` writes what `registre` writes; `daybook ask ..` what `ask ..` writes. Usage goes to standard error.
 
 use daybook::{questions, Registre};
 use std::io::{self, BufWriter, Write};
@@ -10,7 +10,7 @@ fn main() -> ExitCode {
     let done = match words.split_first() {
         None => Registre::default().run(&mut io::stdin().lock(), &mut output),
         Some((word, question)) if word == "ask" => ask(question, &mut output),
-        Some(_) => writeln!(output, "usage: daybook [ask ..]"),
+        Some(_) => writeln!(io::stderr(), "usage: daybook [ask ..]"),
     };
     // A closed output ends the program; there is nobody to tell.
     match done.and_then(|()| output.flush()) {
@@ -22,11 +22,11 @@ fn main() -> ExitCode {
 fn ask(words: &[String], output: &mut impl Write) -> io::Result<()> {
     let mut registre = Registre::default();
     let Some(question) = questions::read(words, &registre.calendar) else {
-        return writeln!(output, "{}", questions::USAGE);
+        return writeln!(io::stderr(), "{}", questions::USAGE);
     };
     registre.take_all(&mut io::stdin().lock(), |registre, line| {
         registre.take(line);
         Ok(())
     })?;
-    output.write_all(questions::answer(registre.book.as_ref(), question).as_bytes())
+    output.write_all(questions::answer(registre.book.as_ref(), &registre.calendar, question).as_bytes())
 }

@@ -28,13 +28,13 @@ pub fn read(words: &[String], calendar: &Calendar) -> Option<Question> {
 }
 
 /// The lines that answer a question.
-pub fn answer(book: Option<&DayBook>, question: Question) -> String {
+pub fn answer(book: Option<&DayBook>, calendar: &Calendar, question: Question) -> String {
     let Some(book) = book else { return "unopened\n".to_string() };
     match question {
         Question::Holder { point, day } => holder(book, point, day) + "\n",
-        Question::Period { point, number } => period(&periods(book, point), number) + "\n",
+        Question::Period { point, number } => period(&periods(book, point), calendar, number) + "\n",
         Question::Advance { point } => advance(book, point) + "\n",
-        Question::All => all(book),
+        Question::All => all(book, calendar),
     }
 }
 
@@ -53,18 +53,19 @@ fn periods(book: &DayBook, point: u64) -> Vec<Period> {
     }
 }
 
-fn period(periods: &[Period], number: u64) -> String {
+/// A period's start as a date, its holder and its volume.
+fn period(periods: &[Period], calendar: &Calendar, number: u64) -> String {
     let slot = (number as usize).checked_sub(1);
-    slot.and_then(|slot| periods.get(slot))
-        .map_or(REFUSED.to_string(), |period| format!("ok;{};{};{}", period.start, period.holder, period.volume))
+    let Some(period) = slot.and_then(|slot| periods.get(slot)) else { return REFUSED.to_string() };
+    format!("ok;{};{};{}", calendar.date(period.start), period.holder, period.volume)
 }
 
 fn advance(book: &DayBook, point: u64) -> String {
     book.advance(point).map_or(REFUSED.to_string(), |advance| format!("ok;{advance}"))
 }
 
-/// Every question inside and just off its range.
-fn all(book: &DayBook) -> String {
+/// Every question inside and just off its range; the days asked for are written as numbers.
+fn all(book: &DayBook, calendar: &Calendar) -> String {
     let mut lines = String::new();
     for p in 0..=POINTS + 1 {
         lines += &format!("advance;{p};{}\n", advance(book, p));
@@ -72,11 +73,11 @@ fn all(book: &DayBook) -> String {
         let enrolled = book.points.get(p as usize).copied().flatten();
         let Some(point) = enrolled else {
             lines += &format!("holder;{p};{};{}\n", book.day, holder(book, p, book.day));
-            lines += &format!("period;{p};1;{}\n", period(&periods, 1));
+            lines += &format!("period;{p};1;{}\n", period(&periods, calendar, 1));
             continue;
         };
         for number in 0..=periods.len() as u64 + 1 {
-            lines += &format!("period;{p};{number};{}\n", period(&periods, number));
+            lines += &format!("period;{p};{number};{}\n", period(&periods, calendar, number));
         }
         for day in point.enrolment.saturating_sub(1)..=book.day + 1 {
             lines += &format!("holder;{p};{day};{}\n", holder(book, p, day));

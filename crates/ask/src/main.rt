@@ -1,8 +1,9 @@
 // Reads the lines of standard input as `registre` does, and then answers the question that its words ask.
-// Other words get the usage line before anything is read. A read that fails ends the run with a word on standard error
-// and without an answer.
+// Other words get the usage line on standard error before anything is read. A read that fails, and an input that is not
+// taken to its end, end the run with a word on standard error and without an answer.
 use all_questions::put_every;
 use desk::Desk;
+use libc::STDERR_FILENO;
 use libc::STDIN_FILENO;
 use libc::STDOUT_FILENO;
 use question_lines::put_reply;
@@ -52,36 +53,66 @@ fn answer_buffer() -> [u8; 98304]
     [0; 98304]
 }
 
+fn not_taken(s: Session) -> Came {
+    io::write_all(STDERR_FILENO, b"ask: the input was not taken to its end\n");
+    Came {
+        whole: false,
+        session: s,
+    }
+}
+
+// The session behind the last line, if it lacks its line feed.
+fn finished(s: Session) -> Came {
+    let mut out = io::buffer();
+    let f = transcript::finish(s, &mut out);
+    let last = f.session;
+    let part = last.part;
+    if part.len > 0 {
+        return not_taken(last);
+    }
+    Came {
+        whole: true,
+        session: last,
+    }
+}
+
 // The session behind all of the input; its answer lines are not written.
 fn read_all() -> Came {
     let mut input = io::buffer();
     let mut out = answer_buffer();
     let mut s = transcript::start();
+    // What is read and not yet taken stands from `from` to `end`.
+    let mut from: usize = 0;
+    let mut end: usize = 0;
     // A proved loop has to end: turns are counted down from a number that no run uses up.
     let mut turns = u64::MAX;
     while turns > 0 {
         turns -= 1;
-        let got = libc::read(STDIN_FILENO, &mut input);
-        if got < 0 {
-            os::fail(b"ask: reading the input");
-            return Came {
-                whole: false,
-                session: s,
-            };
+        if from == end {
+            let got = libc::read(STDIN_FILENO, &mut input);
+            if got < 0 {
+                os::fail(b"ask: reading the input");
+                return Came {
+                    whole: false,
+                    session: s,
+                };
+            }
+            if got == 0 {
+                return finished(s);
+            }
+            from = 0;
+            end = io::count(got, &input);
+            continue;
         }
-        if got == 0 {
+        let f = session::feed(s, &input[from..end], &mut out);
+        let taken = f.taken;
+        if taken == 0 {
             break;
         }
-        let n = io::count(got, &input);
-        let f = session::feed(s, &input[..n], &mut out);
         s = f.session;
+        from += taken;
     }
-    let f = transcript::finish(s, &mut out);
-    let last = f.session;
-    Came {
-        whole: true,
-        session: last,
-    }
+    not_taken(s)
 }
 
 fn answer_one(r: Register, q: Question) {
@@ -101,11 +132,15 @@ fn answer_all(r: Register) {
         }
         let h = put_every(r, from, &mut out);
         let n = h.written;
+        if n == 0 {
+            break;
+        }
         if !write_out(&out[..n]) {
             return;
         }
         from = h.next;
     }
+    io::write_all(STDERR_FILENO, b"ask: not every question was answered\n");
 }
 
 fn answer(d: Desk, asked: Asked) {
@@ -128,7 +163,7 @@ fn main() {
     if let Asked::Unknown = question {
         let mut out = [0u8; 128];
         let n = put_usage(&mut out, 0);
-        write_out(&out[..n]);
+        io::write_all(STDERR_FILENO, &out[..n]);
         return;
     }
     let came = read_all();

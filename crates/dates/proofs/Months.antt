@@ -1,10 +1,12 @@
--- The month table and the code's formula for a month's first day, by tests that antt computes.
+-- The month table and the table of its sums, by tests that antt computes.
 use mathlib.Core.Path.{_≡_, refl}
 use mathlib.Core.Bool.{Bool, true, false, cond, _&&_}
-use Prim.Native.Nat.{ℕ, zero, suc, _+_, _-_, _*_, _/_, _%_, _≤_, _<_}
+use mathlib.Core.List.{List, [], _∷_}
+use Prim.Native.Nat.{ℕ, zero, suc, _+_, _/_, _%_, _≤_, _<_}
 use native.Mathlib.Omega.{arith}
 use borrow.Author.Tests.{lt-ltb, le-ltb, ltb-true, leb-true, eqb-true}
 use lib.Dec.{ltb, leb, eqb}
+use lib.ListN.{getD}
 use Rattle.dates.specs.Dates.{leapRow, monthLength}
 use Rattle.dates.specs.Numbers.{monthStart}
 use Rattle.dates.proofs.Every.{and-left, and-right, every, every-below, every₂, every₂-below}
@@ -35,23 +37,28 @@ length-bounds row m r h =
       leb-true _ _ (and-right (leb 28 (monthLength row m)) _ t),
     )
 
--- the first day of a month, as the code reckons it, is the sum of the lengths before it
-abbrev pub startFormula : ℕ → ℕ → ℕ
-startFormula row m = cond (ltb m 2) ((367 * m + 5) / 12) ((367 * m + 5) / 12 + row - 2)
+-- the table of the days before each month: its entries are the sums of the lengths before them
+abbrev pub starts : List (List ℕ)
+starts =
+    (0 ∷ 31 ∷ 59 ∷ 90 ∷ 120 ∷ 151 ∷ 181 ∷ 212 ∷ 243 ∷ 273 ∷ 304 ∷ 334 ∷ []) ∷
+    (0 ∷ 31 ∷ 60 ∷ 91 ∷ 121 ∷ 152 ∷ 182 ∷ 213 ∷ 244 ∷ 274 ∷ 305 ∷ 335 ∷ []) ∷ []
+
+abbrev pub startAt : ℕ → ℕ → ℕ
+startAt row m = getD (getD starts row []) m 0
 
 isStart : ℕ → ℕ → Bool
-isStart row m = eqb (startFormula row m) (monthStart row m) && leb (startFormula row m) 335
+isStart row m = eqb (startAt row m) (monthStart row m) && leb (startAt row m) 335
 
 starts-are : every₂ isStart 2 12 ≡ true
 unfolding isStart monthStart monthLength
 starts-are = refl
 
-pub start-is : (row m : ℕ) → row < 2 → m < 12 → (startFormula row m ≡ monthStart row m) × (startFormula row m ≤ 335)
+pub start-is : (row m : ℕ) → row < 2 → m < 12 → (startAt row m ≡ monthStart row m) × (startAt row m ≤ 335)
 unfolding isStart
 start-is row m r h =
     let t = every₂-below isStart 2 12 starts-are row m r h in (
-      eqb-true _ _ (and-left _ (leb (startFormula row m) 335) t),
-      leb-true _ _ (and-right (eqb (startFormula row m) (monthStart row m)) _ t),
+      eqb-true _ _ (and-left _ (leb (startAt row m) 335) t),
+      leb-true _ _ (and-right (eqb (startAt row m) (monthStart row m)) _ t),
     )
 
 -- day r of the year lies in month m

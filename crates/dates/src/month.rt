@@ -10,6 +10,12 @@ const LENGTHS: [[u8; 12]; 2] = [
     [31, 29, 31, 30, 31, 30, 31, 31, 30, 31, 30, 31],
 ];
 
+// The days of a year before each month: the sums of the lengths before it, in the same two rows.
+const STARTS: [[u16; 12]; 2] = [
+    [0, 31, 59, 90, 120, 151, 181, 212, 243, 273, 304, 334],
+    [0, 31, 60, 91, 121, 152, 182, 213, 244, 274, 305, 335],
+];
+
 // The days of a month.
 pub(crate) fn length(row: usize, m: usize) -> u32
     requires { ⌜ (row < 2) × (m < 12) ⌝ }
@@ -25,16 +31,19 @@ fn wide(n: u8) -> u32
     n as u32
 }
 
-// The days of a year before a month: from March on, a twelfth of 367 days a month, less what February lacks.
+// The days of a year before a month.
 pub(crate) fn start(row: usize, m: usize) -> u32
     requires { ⌜ (row < 2) × (m < 12) ⌝ }
     ensures { λ r. ⌜ (r ≡ monthStart row m) × (r ≤ 335) ⌝ }
 {
-    let days = (367 * m as u32 + 5) / 12;
-    if m < 2 {
-        return days;
-    }
-    days + row as u32 - 2
+    let n = STARTS[row][m];
+    wide_start(n)
+}
+
+fn wide_start(n: u16) -> u32
+    ensures { λ r. ⌜ r ≡ n ⌝ }
+{
+    n as u32
 }
 
 // The month of a day of the year: a 32nd of it, or the month after.

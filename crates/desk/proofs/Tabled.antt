@@ -51,7 +51,7 @@ use Rattle.desk.specs.Desk.{unreadable, answerOf}
 use Rattle.desk.specs.Table.{isNumber, isTabled, EveryAnswerTabled}
 
 -- a row more
-row : (b : Bool) (n : ℕ) (rs : List Row) (a : Answer) → isNumber n ≡ true → isTabled (firstOf rs a) ≡ true →
+row : (b : Bool) (n : ℕ) (rs : List Row) (a : Answer) → isTabled (Refused n) ≡ true → isTabled (firstOf rs a) ≡ true →
     isTabled (firstOf ((b ⇒ n) ∷ rs) a) ≡ true
 unfolding firstOf
 row true n rs a h k = h
@@ -130,16 +130,23 @@ every-answer-tabled d (Ask c) = go (d .ready)
 every-answer-tabled d Unreadable = refl
 
 -- so its number has two digits at the most
+and-left : (x y : Bool) → (x && y) ≡ true → x ≡ true
+and-left true y e = refl
+and-left false y e = absurd (false≢true e)
+
 and-right : (x y : Bool) → (x && y) ≡ true → y ≡ true
 and-right true y e = e
 and-right false y e = absurd (false≢true e)
+
+number-small : (n : ℕ) → isNumber n ≡ true → n < 100
+number-small n h = go (leb 1 n && leb n 8) refl h
+  where
+    go : (b : Bool) → (leb 1 n && leb n 8) ≡ b → (b || (leb 20 n && leb n 31)) ≡ true → n < 100
+    go true e k = omega (arith, leb-true n 8 (and-right (leb 1 n) (leb n 8) e))
+    go false e k = omega (arith, leb-true n 31 (and-right (leb 20 n) (leb n 31) k))
 
 pub tabled-small : (a : Answer) → isTabled a ≡ true → number a < 100
 tabled-small Accepted h = omega arith
 tabled-small (AcceptedOn e) h = omega arith
 tabled-small (RefusedUntil d) h = omega arith
-tabled-small (Refused n) h = go (leb 1 n && leb n 7) refl h
-  where
-    go : (b : Bool) → (leb 1 n && leb n 7) ≡ b → (b || (leb 20 n && leb n 31)) ≡ true → n < 100
-    go true e k = omega (arith, leb-true n 7 (and-right (leb 1 n) (leb n 7) e))
-    go false e k = omega (arith, leb-true n 31 (and-right (leb 20 n) (leb n 31) k))
+tabled-small (Refused n) h = number-small n (and-left (isNumber n) _ h)

@@ -1,24 +1,30 @@
--- "A refused call gives one number of document 01's table (number 8 with its day)". Definitions only: proofs/Tabled proves it.
+-- 01, "The day book": "An answer is accepted or the number from the rejection codes, with the date it carries". Every answer is one of
+-- the table's. Definitions only: proofs/Tabled proves it.
 use mathlib.Core.Path.{_≡_}
-use mathlib.Core.Bool.{Bool, true, _&&_, _||_}
+use mathlib.Core.Bool.{Bool, true, false, cond, not, _&&_, _||_}
+use mathlib.Core.Option.{Option, none, some}
 use Prim.Native.Nat.{ℕ}
-use lib.Dec.{leb}
+use lib.Dec.{eqb, leb}
 use Rattle.rules.specs.declared.Answer.{Answer}
-use Rattle.rules.specs.declared.Answer.the-variants.{Accepted, AcceptedOn, Refused, RefusedUntil}
+use Rattle.rules.specs.Answers.{isAccepted, number, date}
 use Rattle.message.specs.declared.Message.{Message}
 use Rattle.desk.specs.declared.Desk.{Desk}
 use Rattle.desk.specs.Desk.{answerOf}
 
--- The numbers of "Rejection codes" that carry no day.
+-- The numbers of "Rejection codes".
 abbrev pub isNumber : ℕ → Bool
-isNumber n = (leb 1 n && leb n 7) || (leb 20 n && leb n 31)
+isNumber n = (leb 1 n && leb n 8) || (leb 20 n && leb n 31)
 
--- An answer that the table knows.
+abbrev pub carriesDay : Option ℕ → Bool
+carriesDay none = false
+carriesDay (some d) = true
+
+-- An answer that the table knows: accepted, which has number 0; or refused with one of its numbers, with a day where that is 8 and
+-- none where it is another.
 abbrev pub isTabled : Answer → Bool
-isTabled Accepted = true
-isTabled (AcceptedOn e) = true
-isTabled (Refused n) = isNumber n
-isTabled (RefusedUntil d) = true
+isTabled a =
+    cond (isAccepted a) (eqb (number a) 0)
+    (isNumber (number a) && cond (eqb (number a) 8) (carriesDay (date a)) (not (carriesDay (date a))))
 
 abbrev pub EveryAnswerTabled : Type 0
 EveryAnswerTabled = (d : Desk) (m : Message) → isTabled (answerOf d m) ≡ true

@@ -1,8 +1,7 @@
 // What a message is answered, and what it changes, before and after the register is opened.
+use checks::is_accepted;
 use message::Message;
-use register::Opened;
 use register::apply;
-use register::begin;
 use register::open;
 use rules::Answer;
 use rules::Call;
@@ -49,21 +48,15 @@ fn respond_opening(d: Desk, o: Opening) -> Reply
     if d.ready {
         return unreadable(d);
     }
-    let x = open(o);
-    match x {
-        Opened::Ready(s) => {
-            let r = begin(s);
-            Reply {
-                answer: Answer::Accepted,
-                desk: Desk {
-                    ready: true,
-                    register: r,
-                },
-            }
-        }
-        Opened::Turned(n) => Reply {
-            answer: Answer::Refused(n),
-            desk: d,
+    let r = d.register;
+    let x = open(r, o);
+    let answer = x.answer;
+    let after = x.register;
+    Reply {
+        answer: answer,
+        desk: Desk {
+            ready: is_accepted(answer),
+            register: after,
         },
     }
 }

@@ -3,9 +3,7 @@
 use Prim.Native.Nat.{ℕ, zero, suc, _^_}
 use mathlib.Core.Bool.{Bool, true, false, cond, _&&_}
 use mathlib.Core.List.{List, [], _∷_, _++_}
-use mathlib.Core.Path.{_≡_}
 use lib.Dec.{leb, ltb, eqb}
-use lib.ListN.{take, drop}
 use Rattle.dates.specs.Dates.{lastDay}
 use Rattle.text.specs.Decimal.{decimal}
 use Rattle.text.specs.Days.{dayText}
@@ -14,11 +12,6 @@ use Rattle.reading.specs.Days.{dayIn}
 use Rattle.fields.specs.declared.Sort.{Sort}
 use Rattle.fields.specs.declared.Sort.the-variants.{Date, Number}
 use Rattle.fields.specs.declared.Shape.{Shape}
-use Rattle.fields.specs.declared.KnownDate.{KnownDate}
-use Rattle.fields.specs.declared.Row.{Row}
-use Rattle.fields.specs.declared.Step.{Step}
-use Rattle.fields.specs.declared.Step.the-variants.{On, Bad}
-use Rattle.fields.specs.Known.{IsKnown}
 
 -- A field's text in front of l: 59 is the byte of `;`.
 abbrev pub fieldText : Sort → ℕ → List ℕ → List ℕ
@@ -81,25 +74,3 @@ sortsOf s = sortsFrom (s .second) 0 (s .count)
 -- The fields of a shape that a text begins with; a shape of more than seven is not read.
 unfoldable pub fieldsIn : Shape → List ℕ → Values
 fieldsIn s l = cond (leb (s .count) 7) (fieldsOf (sortsOf s) [] l) unread
-
--- What the code read of the text s: one field, and a row of fields with their values.
-abbrev pub stepIn : List ℕ → Step → Read
-stepIn s (On v next known) = number v (drop next s)
-stepIn s Bad = bad
-
-abbrev pub rowIn : List ℕ → List ℕ → Row → Values
-rowIn s vs r = cond (r .ok) (values vs (drop (r .end) s)) unread
-
--- The date that is known after a field.
-abbrev pub KnownAfter : Step → Type 0
-KnownAfter (On v next known) = IsKnown known
-KnownAfter Bad = Unit {0}
-
--- What it means that a field is read as x says, and that the fields of a shape are read from a position on: where
--- the last date was known, this is what is read, and the last date stays known.
-abbrev pub ReadStep : KnownDate → Read → List ℕ → Step → Type 0
-ReadStep last x s r = IsKnown last → (x ≡ stepIn s r) × KnownAfter r
-
-abbrev pub ReadRow : KnownDate → Shape → ℕ → List ℕ → List ℕ → Row → Type 0
-ReadRow last shape from s vs r =
-    IsKnown last → (fieldsIn shape (drop from s) ≡ rowIn s (take (shape .count) vs) r) × IsKnown (r .known)

@@ -1,2 +1,4 @@
 pub mod Known
 pub mod Fields
+pub mod With
+pub mod KnownStays

@@ -6,10 +6,9 @@ use reading::number_at;
 ghost use mathlib.Core.Path.{_≡_};
 ghost use Prim.Native.Nat.{_+_, _≤_, _<_};
 ghost use lib.ListN.{length, take, drop};
-ghost use Rattle.reading.specs.Numbers.{numberOf};
-ghost use Rattle.reading.specs.Days.{dayIn};
-ghost use Rattle.fields.specs.Known.{AreFour, IsKnown};
-ghost use Rattle.fields.specs.Fields.{sortAt, fieldOf, ReadStep, ReadRow};
+ghost use Rattle.fields.specs.Known.{packed, firstKnown};
+ghost use Rattle.fields.specs.Fields.{sortAt};
+ghost use Rattle.fields.specs.With.{numberWith, dateWith, fieldWith, stepAt, ReadRow};
 
 // What a field holds: a date, whose value is its day, or a number.
 pub enum Sort {
@@ -44,7 +43,7 @@ pub enum Step {
 
 // The date that is known before any is read: 1 January 2000, day 0.
 pub fn first_known() -> KnownDate
-    ensures { λ r. ⌜ IsKnown r ⌝ }
+    ensures { λ r. ⌜ r ≡ firstKnown ⌝ }
 {
     KnownDate {
         bytes: 3_544_386_989_777_236_018,
@@ -61,7 +60,7 @@ pub fn read_row(
     last: KnownDate,
     values: &mut [u64; 7],
 ) -> Row
-    ensures { λ r. ⌜ ReadRow last shape from (now (line .entry)) (now (values .exit)) r ⌝ }
+    ensures { λ r. ⌜ ReadRow last shape from (now (line .entry)) (now (values .entry)) (now (values .exit)) r ⌝ }
 {
     let count = shape.count;
     let second = shape.second;
@@ -112,7 +111,7 @@ pub fn sort_at(second: usize, i: usize) -> Sort
 
 // A `;` and then a date or a number.
 fn field_at(s: &[u8], at: usize, sort: Sort, known: KnownDate) -> Step
-    ensures { λ r. ⌜ ReadStep known (fieldOf sort (drop at (now (s .entry)))) (now (s .entry)) r ⌝ }
+    ensures { λ r. ⌜ r ≡ stepAt at (drop at (now (s .entry))) (fieldWith known sort (drop at (now (s .entry)))) ⌝ }
 {
     if s.len() <= at {
         return Step::Bad;
@@ -128,7 +127,7 @@ fn field_at(s: &[u8], at: usize, sort: Sort, known: KnownDate) -> Step
 
 // A number; the known date stays.
 fn known_number_at(s: &[u8], at: usize, known: KnownDate) -> Step
-    ensures { λ r. ⌜ ReadStep known (numberOf (drop at (now (s .entry)))) (now (s .entry)) r ⌝ }
+    ensures { λ r. ⌜ r ≡ stepAt at (drop at (now (s .entry))) (numberWith known (drop at (now (s .entry)))) ⌝ }
 {
     let Field::Value(v, end) = number_at(s, at) else {
         return Step::Bad;
@@ -138,7 +137,7 @@ fn known_number_at(s: &[u8], at: usize, known: KnownDate) -> Step
 
 // A date: the known one where the bytes are its, else one that is read and known from now on.
 fn known_date_at(s: &[u8], at: usize, known: KnownDate) -> Step
-    ensures { λ r. ⌜ ReadStep known (dayIn (drop at (now (s .entry)))) (now (s .entry)) r ⌝ }
+    ensures { λ r. ⌜ r ≡ stepAt at (drop at (now (s .entry))) (dateWith known (drop at (now (s .entry)))) ⌝ }
 {
     if s.len() < at {
         return Step::Bad;
@@ -159,7 +158,7 @@ fn known_date_at(s: &[u8], at: usize, known: KnownDate) -> Step
 // Four bytes as one number, the first the lowest.
 fn four_at(s: &[u8], at: usize) -> u64
     requires { ⌜ at + 4 ≤ length (now s) ⌝ }
-    ensures { λ r. ⌜ AreFour (take 4 (drop at (now (s .entry)))) r ⌝ }
+    ensures { λ r. ⌜ (r ≡ packed (take 4 (drop at (now (s .entry))))) × (r < 4294967296) ⌝ }
 {
     wide(s[at]) + 256 * wide(s[at + 1]) + 65_536 * wide(s[at + 2]) + 16_777_216 * wide(s[at + 3])
 }

@@ -123,3 +123,10 @@ pub fitting-next : (n : ℕ) (l : List ℕ) (i : ℕ) → i < length l → (eqb 
     fitting n (drop i l) ≡ suc (fitting (cond (eqb (getD l i 0) 10) (n - 1) n) (drop (suc i) l))
 fitting-next n l i h e =
     fitting-here n l i h ∙ ap (λ (t : Bool). cond t 0 (suc (fitting (cond (eqb (getD l i 0) 10) (n - 1) n) (drop (suc i) l)))) e
+
+-- with room for one line feed some of the bytes fit
+pub fitting-some : (n : ℕ) (l : List ℕ) → 0 < n → 0 < length l → 0 < fitting n l
+unfolding fitting
+fitting-some n [] h k = absurd (not-suc-le-zero k)
+fitting-some zero (b ∷ l) h k = absurd (not-suc-le-zero h)
+fitting-some (suc n) (b ∷ l) h k = omega arith

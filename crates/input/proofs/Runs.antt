@@ -94,7 +94,7 @@ module _ {S : Type 0} (next : S → List ℕ → S) (say : S → List ℕ → Li
     end-lines s [] = (refl, refl)
     end-lines s (b ∷ l) = (ap (λ (o : List ℕ). o ++ []) (say-capped s (b ∷ l)), next-capped s (b ∷ l))
 
-    run-lines : (s : S) (full input : List ℕ) →
+    pub run-lines : (s : S) (full input : List ℕ) →
         (lastSaid (run next say s (capped full) input) ≡ said next say s (linesFrom full input))
         × (lastState (run next say s (capped full) input) ≡ afterLines next say s (linesFrom full input))
     unfolding run linesFrom said afterLines capped

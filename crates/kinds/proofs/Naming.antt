@@ -1,15 +1,13 @@
 -- Which kind a word names: only a kind with that very word, so only one of its length.
-use Prim.Native.Nat.{ℕ, zero, suc, _+_, _<_, _≤_}
-use mathlib.Core.Path.{_≡_, refl, sym, ap, ap₂, _∙_}
-use mathlib.Core.Bool.{Bool, true, false, cond, _&&_}
-use mathlib.Core.List.{List, [], _∷_, _++_}
-use native.Mathlib.Omega.{arith}
+use Prim.Native.Nat.{ℕ}
+use mathlib.Core.Path.{_≡_, refl, sym, ap, _∙_}
+use mathlib.Core.Bool.{Bool, true, false, cond}
+use mathlib.Core.List.{List, [], _∷_}
 use lib.Dec.{eqb}
 use lib.ListN.{length}
-use borrow.Author.Tests.{eqb-true, eqb-false}
-use Rattle.dates.proofs.Every.{and-left, and-right}
+use borrow.Author.Tests.{eqb-false}
 use Rattle.reading.specs.Words.{isSame}
-use Rattle.reading.proofs.Steps.{other-length}
+use Rattle.reading.proofs.Steps.{other-length, same-words}
 use Rattle.kinds.specs.declared.Kind.{Kind}
 use Rattle.kinds.specs.declared.Kind.the-variants.{Set, Ctr, Def, Enr, Demmespc, I, Demcf, Adc, Ri, Cdt, Demmhs, Sus, Jour, Unknown}
 use Rattle.kinds.specs.Kinds.{word, kinds, kindIn, kindNamed}
@@ -59,16 +57,6 @@ kind-of-none w n1 n2 n3 n4 n5 n6 n8 =
       other-length w (word Sus) n3,
       other-length w (word Jour) n4,
     )
-
--- two words that are the same
-pub same-words : (a b : List ℕ) → isSame a b ≡ true → a ≡ b
-unfolding isSame
-same-words [] [] h = refl
-same-words [] (y ∷ b) h = absurd (let z : _≡_ {A = ℕ} 0 1 = cc in omega arith)
-same-words (x ∷ a) [] h = absurd (let z : _≡_ {A = ℕ} 0 1 = cc in omega arith)
-same-words (x ∷ a) (y ∷ b) h =
-    ap₂ (λ (n : ℕ) (l : List ℕ). n ∷ l) (eqb-true x y (and-left (eqb x y) (isSame a b) h))
-    (same-words a b (and-right (eqb x y) (isSame a b) h))
 
 -- a kind that was found is Unknown, or its word is what was looked for
 pub data Found (w : List ℕ) : Kind → Type 0 where

@@ -1,4 +1,5 @@
 pub mod Growing
 pub mod Rising
 pub mod Pieces
+pub mod ByBook
 pub mod Examples

@@ -1,5 +1,5 @@
 -- Each call and each opening has one line, and each line at most one meaning: the statement `OneLine`, proved.
-use Prim.Native.Nat.{ℕ, zero, suc, _≤_}
+use Prim.Native.Nat.{ℕ, _≤_}
 use mathlib.Core.Path.{_≡_, refl, sym, ap, _∙_}
 use mathlib.Core.Bool.{Bool, true, false, cond}
 use mathlib.Core.List.{List, [], _∷_, _++_, append-nil}
@@ -8,7 +8,8 @@ use lib.Dec.{leb}
 use lib.ListN.{length, take, drop, length-append, take-append-drop}
 use lib.Seq.{take-at, take-all, drop-at}
 use borrow.Author.Tests.{le-leb}
-use Rattle.fields.specs.Fields.{Values, values, unread, fieldsText, fitAll, fieldsOf, sortsFrom, sortsOf}
+use Rattle.fields.specs.Fields.{Values, values, unread, fieldsText, fitAll, fieldsOf, sortsOf}
+use Rattle.fields.proofs.FieldSteps.{sorts-length}
 use Rattle.fields.proofs.FieldTexts.{fields-back, FieldsAre, fields-only, fields-short, fit-count}
 use Rattle.kinds.specs.declared.Kind.{Kind}
 use Rattle.kinds.specs.declared.Kind.the-variants.{Unknown}
@@ -54,11 +55,6 @@ module _ (k : Kind) (v : List ℕ) (h : k ≡ Unknown → ⊥) (fit : isWritable
       (own-enough k v)
 
 -- the values of a line, in their places
-sorts-length : (second i n : ℕ) → length (sortsFrom second i n) ≡ n
-unfolding sortsFrom
-sorts-length second i zero = refl
-sorts-length second i (suc n) = ap suc (sorts-length second (suc i) n)
-
 own-all : (k : Kind) (vs : List ℕ) → length vs ≡ shapeOf k .count → own k vs ≡ vs
 own-all k vs e =
     firsts-take (shapeOf k .count) 0 vs (omega arith) ∙ take-all (shapeOf k .count) vs (omega arith)

@@ -1,2 +1,3 @@
 pub mod PlainTexts
 pub mod NextLines
+pub mod Handed

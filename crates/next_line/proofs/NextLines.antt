@@ -2,35 +2,34 @@
 use Prim.Native.Nat.{ℕ, suc, _+_, _-_, _<_, _≤_}
 use mathlib.Core.Path.{_≡_, refl, sym, ap, ap₂, _∙_}
 use mathlib.Core.Logic.{_⊎_, inl, inr, ⊎-elim}
-use mathlib.Core.Bool.{Bool, true, false, cond}
+use mathlib.Core.Bool.{Bool, true, false, cond, _&&_}
 use mathlib.Core.List.{List, [], _∷_, _++_, append-assoc, append-nil}
 use native.Mathlib.Omega.{arith}
 use native.Mathlib.Numerals.{add-one}
 use lib.Dec.{leb, eqb}
 use lib.ListN.{length, take, drop, getD, length-append, length-drop, take-append-drop, drop-of-length-le}
-use lib.Seq.{drop-cons, drop-drop, take-at, take-length}
+use lib.Seq.{drop-cons, take-at, take-length}
 use borrow.Author.Tests.{eqb-true, eq-eqb, ne-eqb}
 use Rattle.reading.specs.Words.{isSame}
-use Rattle.fields.specs.Fields.{values, fieldsText, sortsFrom, sortsOf, fieldsOf, fieldsIn, rowIn}
+use Rattle.fields.specs.Fields.{values, unread, fieldsText, sortsFrom, sortsOf, fieldsOf}
 use Rattle.fields.specs.Known.{IsKnown}
+use Rattle.fields.specs.With.{RowRead}
 use Rattle.fields.specs.declared.KnownDate.{KnownDate}
-use Rattle.fields.specs.declared.Row.{Row}
-use Rattle.fields.specs.declared.Shape.{Shape}
 use Rattle.fields.proofs.FieldSteps.{fields-are}
 use Rattle.fields.proofs.FieldTexts.{fields-only}
+use Rattle.fields.proofs.KnownStays.{known-stays}
 use Rattle.kinds.specs.declared.Kind.{Kind}
 use Rattle.kinds.specs.declared.Kind.the-variants.{Set, Ctr, Def, Enr, Demmespc, I, Demcf, Adc, Ri, Cdt, Demmhs, Sus, Jour, Unknown}
 use Rattle.kinds.specs.Kinds.{word, kinds, kindIn, kindNamed, shapeOf}
 use Rattle.kinds.proofs.KindTable.{few}
 use Rattle.kinds.proofs.Naming.{Found, named, unnamed, found}
 use Rattle.input.specs.Lines.{untilFeed}
-use Rattle.message.specs.declared.Message.{Message}
 use Rattle.message.specs.declared.Message.the-variants.{Unreadable}
 use Rattle.message.specs.Lines.{messageOf}
 use Rattle.message.specs.Reading.{wordEnd, readLine}
-use Rattle.message.proofs.LineTexts.{message-first}
 use Rattle.message.proofs.OneLine.{line-is, its-line-back}
-use Rattle.next_line.specs.NextLine.{firstLine, feedFirst, stopAt, IsNext}
+use Rattle.next_line.specs.declared.Taken.{Taken}
+use Rattle.next_line.specs.NextLine.{firstLine, feedFirst, stopAt, firstKind, firstRow, taken, takenBy, nextLine, IsNext, NextIsLine}
 use Rattle.next_line.proofs.PlainTexts.{Plain, plain-end, plain-append, plain-fields, plain-word}
 
 -- one step of looking for the end of a word, and of a line
@@ -167,48 +166,45 @@ module _ (l : List ℕ) (n : ℕ) (k : Kind) (vs r : List ℕ) (hn : n ≡ stopA
             hn ∙ sym end in omega arith,
       )
 
-  pub next-is : (readLine (firstLine l) ≡ messageOf k vs) × (length l ≡ untilFeed l + length r)
-  next-is = ⊎-elim unknown-line known-line (known-or k)
+  row-line : (readLine (firstLine l) ≡ messageOf k vs) × (length l ≡ untilFeed l + length r)
+  row-line = ⊎-elim unknown-line known-line (known-or k)
 
--- what is taken: behind the end, by its fields, and by its end
-empty-line : readLine [] ≡ Unreadable
+-- with a right known date
+pub empty-line : readLine [] ≡ Unreadable
 unfolding readLine wordEnd kindIn isSame fieldsOf sortsFrom
 empty-line = refl
 
-pub next-off : (buf : List ℕ) (from : ℕ) (d : KnownDate) → length buf < from → IsKnown d →
-    IsNext buf from (record { message = Unreadable; end = from; known = d })
-unfolding untilFeed
-next-off buf from d h known =
-    let past : length buf ≤ from = omega arith in
-    let none = drop-of-length-le buf past in
-    record { message = rw none (sym empty-line); end = rw none (omega arith); known = known }
+module _ (k : KnownDate) (buf : List ℕ) (from : ℕ) (right : IsKnown k) where
+  abbrev text : List ℕ
+  text = drop from buf
 
-pub next-by-end : (buf : List ℕ) (from e : ℕ) (m : Message) (d : KnownDate) → e ≡ from + untilFeed (drop from buf) →
-    m ≡ readLine (take (e - from) (drop from buf)) → IsKnown d →
-    IsNext buf from (record { message = m; end = e; known = d })
-next-by-end buf from e m d he hm known =
-    let n : e - from ≡ untilFeed (drop from buf) = omega arith in
-    record { message = rw n at hm; end = he; known = known }
+  abbrev x : RowRead
+  x = firstRow k text
 
-module _ (buf : List ℕ) (from e : ℕ) (k : Kind) (s : Shape) (v : List ℕ) (row : Row) (m : Message) (h : from ≤
-    length buf)
-    (he : e ≡ from + stopAt (drop from buf)) (hk : k ≡ kindNamed (take (e - from) (drop from buf))) (hs : s ≡ shapeOf k)
-    (hf : fieldsIn s (drop e buf) ≡ rowIn buf (take (s .count) v) row) (ok : row .ok ≡ true)
-    (feed : feedFirst (drop (row .end) buf) ≡ true) (hm : m ≡ messageOf k v) where
-  row-is : fieldsOf (sortsOf (shapeOf k)) [] (drop (e - from) (drop from buf)) ≡
-      values (take (shapeOf k .count) v) (drop (row .end) buf)
-  row-is =
-      let there : from + (e - from) ≡ e = omega arith in
-      let read = rw (hs, ok) at hf in
-      ap (fieldsOf (sortsOf (shapeOf k)) []) (drop-drop (e - from) from buf ∙ ap (λ (i : ℕ). drop i buf) there) ∙
-      sym (fields-are (shapeOf k) (drop e buf) (few k)) ∙ read
+  is-known : IsKnown (x .known)
+  is-known = known-stays .right k (shapeOf (firstKind text)) (drop (stopAt text) text) right
 
-  pub next-by-fields : IsKnown (row .known) →
-      IsNext buf from (record { message = m; end = row .end; known = row .known })
-  next-by-fields known =
-      let n : e - from ≡ stopAt (drop from buf) = omega arith in
-      let w = next-is (drop from buf) (e - from) k (take (shapeOf k .count) v) (drop (row .end) buf) n hk row-is feed in
-      let some = feed-some (drop (row .end) buf) feed in
-      let here = length-drop from buf in
-      let there = length-drop (row .end) buf in
-      record { message = hm ∙ sym (message-first k v) ∙ sym (w .0); end = omega arith; known = known }
+  -- its fields are those that are read without a known date
+  row-of : x .ok ≡ true → fieldsOf (sortsOf (shapeOf (firstKind text))) [] (drop (stopAt text) text) ≡ values (x .read) (x .rest)
+  row-of e =
+      sym (fields-are (shapeOf (firstKind text)) (drop (stopAt text) text) (few (firstKind text))) ∙
+      sym (known-stays .same k (shapeOf (firstKind text)) (drop (stopAt text) text) right) ∙
+      ap (λ (b : Bool). cond b (values (x .read) (x .rest)) unread) e
+
+  pub next-is : IsNext buf from (takenBy from text x)
+  next-is = go (x .ok) (feedFirst (x .rest)) refl refl where
+    go : (a b : Bool) → x .ok ≡ a → feedFirst (x .rest) ≡ b →
+        IsNext buf from (cond (a && b) (taken (messageOf (firstKind text) (x .read)) (from + (length text - length (x .rest))) (x .known))
+        (taken (readLine (firstLine text)) (from + untilFeed text) (x .known)))
+    go true true p q =
+        let w = row-line text (stopAt text) (firstKind text) (x .read) (x .rest) refl refl (row-of p) q in
+        record { message = sym (w .0); end = ap (λ (n : ℕ). from + n) (omega arith); known = is-known }
+    go true false p q = record { message = refl; end = refl; known = is-known }
+    go false b p q = record { message = refl; end = refl; known = is-known }
+
+pub next-is-line : NextIsLine
+unfolding nextLine
+next-is-line k buf from right = next-is k buf from right
+
+pub next-right : (k : KnownDate) (buf : List ℕ) (from : ℕ) (t : Taken) → t ≡ nextLine k buf from → IsKnown k → IsNext buf from t
+next-right k buf from t e right = rw e (next-is-line k buf from right)

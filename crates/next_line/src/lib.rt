@@ -10,7 +10,7 @@ use message::read_line;
 ghost use mathlib.Core.Path.{_≡_};
 ghost use Prim.Native.Nat.{_+_, _≤_};
 ghost use lib.ListN.{length, drop};
-ghost use Rattle.next_line.specs.NextLine.{feedFirst, stopAt, NextLine};
+ghost use Rattle.next_line.specs.NextLine.{feedFirst, stopAt, nextLine};
 
 // What the next line says, the position of its end, and the last date read.
 pub struct Taken {
@@ -21,7 +21,7 @@ pub struct Taken {
 
 // The line that begins at a position: up to its line feed, or to the buffer's end.
 pub fn next_line(buf: &[u8], from: usize, last: KnownDate) -> Taken
-    ensures { λ r. ⌜ NextLine last (now (buf .entry)) from r ⌝ }
+    ensures { λ r. ⌜ r ≡ nextLine last (now (buf .entry)) from ⌝ }
 {
     if buf.len() < from {
         return Taken {

@@ -10,14 +10,16 @@ use lib.ListN.{length}
 use Rattle.text.proofs.Appends.{room-put, no-room, appended-length}
 use Rattle.text.specs.Appending.{Appended}
 use Rattle.text.specs.Ascii.{ascii}
+use Rattle.text.specs.Days.{dayText}
 use Rattle.text.specs.Decimal.{decimal}
+use Rattle.text.proofs.DayTexts.{day-append, day-length}
 use Rattle.text.proofs.Spelling.{decimal-append}
 use Rattle.answer_lines.proofs.LineTexts.{digits-few}
 use Rattle.listing.specs.Listing.{AppendedWithin}
 use Rattle.listing.proofs.Growing.{within-more, within-length, within-end}
 use Rattle.rules.specs.declared.Register.{Register}
 use Rattle.question_words.specs.declared.Question.{Question}
-use Rattle.question_lines.specs.Lines.{field, one, two, okThree, reply, head, line, OnePut, TwoPut}
+use Rattle.question_lines.specs.Lines.{field, dateField, one, okPeriod, reply, head, line, OnePut, TwoPut}
 
 pub within : (m at : ℕ) (t o o₁ : List ℕ) (e : ℕ) → Appended at t o o₁ e → length t ≤ m → AppendedWithin m at t o o₁ e
 within m at t o o₁ e w h = record { text = w; short = h }
@@ -43,6 +45,15 @@ module _ (at : ℕ) (o o₁ o₂ : List ℕ) (e₁ e₂ : ℕ) where
       (within-more 20 1 at (decimal v []) (end ∷ []) o o₁ o₂ e₁ e₂
       (within 20 at (decimal v []) o o₁ e₁ a (digits-few v hv)) b (omega arith) h)
 
+  -- a date, and the byte behind it
+  pub date-put : (d end : ℕ) → at + 9 ≤ length o → Appended at (dayText d []) o o₁ e₁ →
+      Appended e₁ (end ∷ []) o₁ o₂ e₂ → AppendedWithin 9 at (dateField d end) o o₂ e₂
+  date-put d end h a b =
+      let eight = day-length d in
+      rw (day-append d (end ∷ []))
+      (within-more 8 1 at (dayText d []) (end ∷ []) o o₁ o₂ e₁ e₂
+      (within 8 at (dayText d []) o o₁ e₁ a (omega arith)) b (omega arith) h)
+
   -- a word in front of it
   pub one-put : (w : List ℕ) (v end : ℕ) → at + (length w + 21) ≤ length o → Appended at w o o₁ e₁ →
       AppendedWithin 21 e₁ (field v end) o₁ o₂ e₂ → OnePut at w v end o o₂ e₂
@@ -59,19 +70,26 @@ module _ (at : ℕ) (o o₁ o₂ : List ℕ) (e₁ e₂ : ℕ) where
       (omega arith) in
       rw (append-assoc w (field a 59) (field b 59), k) at all
 
--- `ok;` and three values
-pub three-put : (at a b c : ℕ) (o o₁ o₂ o₃ : List ℕ) (e₁ e₂ e₃ : ℕ) → at + 66 ≤ length o → OnePut at (ascii "ok;") a
-    59 o o₁ e₁ →
-    AppendedWithin 21 e₁ (field b 59) o₁ o₂ e₂ → AppendedWithin 21 e₂ (field c 10) o₂ o₃ e₃ → AppendedWithin 66 at
-    (okThree a b c) o o₃ e₃
-three-put at a b c o o₁ o₂ o₃ e₁ e₂ e₃ h p q s =
-    let both = two-put at o o₁ o₂ e₁ e₂ (ascii "ok;") a b (omega arith) p q in
-    let all = within-more 45 21 at (two (ascii "ok;") a b) (field c 10) o o₂ o₃ e₂ e₃ both (s .text) (s .short) h in
-    rw (
-      append-assoc (ascii "ok;") (field a 59 ++ field b 59) (field c 10),
-      append-assoc (field a 59) (field b 59)
-          (field c 10),
-    ) at all
+-- `ok;` and a period's start; its holder behind them; and its volume
+module _ (at start : ℕ) (o o₁ o₂ : List ℕ) (e₁ e₂ : ℕ) (room : at + 66 ≤ length o)
+    (word : Appended at (ascii "ok;") o o₁ e₁) (date : AppendedWithin 9 e₁ (dateField start 59) o₁ o₂ e₂) where
+  pub start-put : AppendedWithin 12 at (ascii "ok;" ++ dateField start 59) o o₂ e₂
+  start-put =
+      within-more 3 9 at (ascii "ok;") (dateField start 59) o o₁ o₂ e₁ e₂
+      (within 3 at (ascii "ok;") o o₁ e₁ word (omega arith)) (date .text) (date .short) (omega arith)
+
+  module _ (holder : ℕ) (o₃ : List ℕ) (e₃ : ℕ) (next : AppendedWithin 21 e₂ (field holder 59) o₂ o₃ e₃) where
+    pub holder-put : AppendedWithin 33 at (ascii "ok;" ++ dateField start 59 ++ field holder 59) o o₃ e₃
+    holder-put =
+        within-more 12 21 at (ascii "ok;" ++ dateField start 59) (field holder 59) o o₂ o₃ e₂ e₃ start-put
+        (next .text) (next .short) (omega arith)
+
+    pub period-put : (volume : ℕ) (o₄ : List ℕ) (e₄ : ℕ) → AppendedWithin 21 e₃ (field volume 10) o₃ o₄ e₄ →
+        AppendedWithin 66 at (okPeriod start holder volume) o o₄ e₄
+    period-put volume o₄ e₄ last =
+        let all = within-more 33 21 at (ascii "ok;" ++ dateField start 59 ++ field holder 59) (field volume 10) o o₃ o₄
+        e₃ e₄ holder-put (last .text) (last .short) (omega arith) in
+        within-wider 54 66 at (okPeriod start holder volume) o o₄ e₄ (omega arith) (simp append-assoc at all)
 
 -- a question and its answer, at the start of a buffer
 pub line-put : (r : Register) (q : Question) (o o₁ o₂ : List ℕ) (e₁ e₂ : ℕ) → 128 ≤ length o →

@@ -16,8 +16,13 @@ pub record LinesExamples : Type 0 where
   pub holder-5 : holderReply (holder.Holder 5) ≡ ended (ascii "ok;5")
   pub holder-refused : holderReply holder.OffRange ≡ ended (ascii "refused;22")
   pub period-of-16000 : periodReply (period.Of (record { start = 7674; holder = 5; volume = 16000 })) ≡
-      ended (ascii "ok;7674;5;16000")
+      ended (ascii "ok;20210104;5;16000")
+  -- a day off the calendar, on which no period that calls make starts
+  pub period-off-the-calendar : periodReply (period.Of (record { start = 73049; holder = 0; volume = 0 })) ≡
+      ended (ascii "ok;00000000;0;0")
+  pub period-refused : periodReply period.OffRange ≡ ended (ascii "refused;22")
   pub advance-20000 : advanceReply (advance.Volume 20000) ≡ ended (ascii "ok;20000")
+  pub advance-refused : advanceReply advance.OffRange ≡ ended (ascii "refused;22")
   pub holder-head : head (Holder 1 7674) ≡ ascii "holder;1;7674;"
   pub period-head : head (Period 33 0) ≡ ascii "period;33;0;"
   pub advance-head : head (Advance 0) ≡ ascii "advance;0;"

@@ -1,5 +1,5 @@
--- The lines that answer questions, each with its line feed: `ok;` and the values, or `refused;22`; alone, or behind
--- the question. Definitions only.
+-- The lines that answer questions, each with its line feed: `ok;` and the values, or `refused;` and the number; alone,
+-- or behind the question. Definitions only.
 use Prim.Native.Nat.{ℕ, _+_}
 use mathlib.Core.List.{List, [], _∷_, _++_}
 use lib.ListN.{length}
@@ -11,8 +11,10 @@ use Rattle.rules.specs.declared.PeriodAnswer.the-variants as period
 use Rattle.rules.specs.declared.AdvanceAnswer.{AdvanceAnswer}
 use Rattle.rules.specs.declared.AdvanceAnswer.the-variants as advance
 use Rattle.rules.specs.Questions.{holderAnswer, periodAnswer, advanceAnswer}
+use Rattle.rules.specs.Answers.{holderNumber, periodNumber, advanceNumber}
 use Rattle.text.specs.Ascii.{ascii}
 use Rattle.text.specs.Decimal.{decimal}
+use Rattle.text.specs.Days.{dayText}
 use Rattle.listing.specs.Listing.{AppendedWithin}
 use Rattle.question_words.specs.declared.Question.{Question}
 use Rattle.question_words.specs.declared.Question.the-variants.{Holder, Period, Advance}
@@ -21,35 +23,41 @@ use Rattle.question_words.specs.declared.Question.the-variants.{Holder, Period,
 abbrev pub field : ℕ → ℕ → List ℕ
 field v end = decimal v (end ∷ [])
 
+-- 01: "dates aaaammjj". A day's date and the byte behind it; 00000000 for a day off the calendar, as in the closing
+-- lines.
+abbrev pub dateField : ℕ → ℕ → List ℕ
+dateField d end = dayText d (end ∷ [])
+
 abbrev pub one : List ℕ → ℕ → ℕ → List ℕ
 one w v end = w ++ field v end
 
 abbrev pub two : List ℕ → ℕ → ℕ → List ℕ
 two w a b = w ++ (field a 59 ++ field b 59)
 
--- `ok;` and the value, or the three values.
+-- `ok;` and the value.
 abbrev pub okOne : ℕ → List ℕ
 okOne v = one (ascii "ok;") v 10
 
-abbrev pub okThree : ℕ → ℕ → ℕ → List ℕ
-okThree a b c = ascii "ok;" ++ (field a 59 ++ (field b 59 ++ field c 10))
+-- 01: "period n of p (start, holder, volume; n from 1 to their count)".
+abbrev pub okPeriod : ℕ → ℕ → ℕ → List ℕ
+okPeriod start holder volume = ascii "ok;" ++ (dateField start 59 ++ (field holder 59 ++ field volume 10))
 
--- 01: "A question off its range, or on a point not enrolled, gives 22."
-abbrev pub refusal : List ℕ
-refusal = ascii "refused;22" ++ (10 ∷ [])
+-- `refused;` and the number.
+abbrev pub refusal : ℕ → List ℕ
+refusal n = one (ascii "refused;") n 10
 
--- The holder; start as a day, holder and volume; the advance.
+-- 01: "A question off its range, or on a point not enrolled, gives 22." The number is that of the answer.
 unfoldable pub holderReply : HolderAnswer → List ℕ
 holderReply (holder.Holder s) = okOne s
-holderReply holder.OffRange = refusal
+holderReply holder.OffRange = refusal (holderNumber holder.OffRange)
 
 unfoldable pub periodReply : PeriodAnswer → List ℕ
-periodReply (period.Of q) = okThree (q .start) (q .holder) (q .volume)
-periodReply period.OffRange = refusal
+periodReply (period.Of q) = okPeriod (q .start) (q .holder) (q .volume)
+periodReply period.OffRange = refusal (periodNumber period.OffRange)
 
 unfoldable pub advanceReply : AdvanceAnswer → List ℕ
 advanceReply (advance.Volume v) = okOne v
-advanceReply advance.OffRange = refusal
+advanceReply advance.OffRange = refusal (advanceNumber advance.OffRange)
 
 -- The line that answers a question.
 unfoldable pub reply : Register → Question → List ℕ
@@ -57,7 +65,7 @@ reply r (Holder p d) = holderReply (holderAnswer r p d)
 reply r (Period p n) = periodReply (periodAnswer r p n)
 reply r (Advance p) = advanceReply (advanceAnswer r p)
 
--- The question in front of its answer: `holder;P;DAY;`, `period;P;N;`, `advance;P;`.
+-- The question in front of its answer: `holder;P;DAY;`, `period;P;N;`, `advance;P;`, the day by its number.
 unfoldable pub head : Question → List ℕ
 head (Holder p d) = two (ascii "holder;") p d
 head (Period p n) = two (ascii "period;") p n

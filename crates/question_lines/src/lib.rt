@@ -8,14 +8,18 @@ use rules::HolderAnswer;
 use rules::PeriodAnswer;
 use rules::Register;
 use text::write::put_byte;
+use text::write::put_day;
 use text::write::put_number;
 use text::write::put_word;
 ghost use Prim.Native.Nat.{_+_, _≤_};
 ghost use lib.ListN.{length};
 ghost use Rattle.text.specs.Appending.{Appended};
 ghost use Rattle.listing.specs.Listing.{AppendedWithin};
-ghost use Rattle.question_lines.specs.Lines.{field, okOne, okThree, refusal, holderReply, periodReply, advanceReply};
-ghost use Rattle.question_lines.specs.Lines.{OnePut, TwoPut, reply, head, line};
+ghost use Rattle.question_lines.specs.Lines.{field, dateField, okOne, okPeriod, refusal, OnePut, TwoPut};
+ghost use Rattle.question_lines.specs.Lines.{holderReply, periodReply, advanceReply, reply, head, line};
+
+// The number of a question off its range.
+const OFF_RANGE: u64 = 22;
 
 // The line that answers a question.
 pub fn put_reply(out: &mut [u8], at: usize, r: Register, q: Question) -> usize
@@ -66,7 +70,7 @@ fn put_holder(out: &mut [u8], at: usize, answer: HolderAnswer) -> usize
 {
     match answer {
         HolderAnswer::Holder(s) => put_ok(out, at, s as u64),
-        HolderAnswer::OffRange => put_refusal(out, at),
+        HolderAnswer::OffRange => put_refusal(out, at, OFF_RANGE),
     }
 }
 
@@ -75,8 +79,8 @@ fn put_period(out: &mut [u8], at: usize, answer: PeriodAnswer) -> usize
     ensures { λ x. ⌜ AppendedWithin 66 at (periodReply answer) (now (out .entry)) (now (out .exit)) x ⌝ }
 {
     match answer {
-        PeriodAnswer::Of(q) => put_ok_three(out, at, q.start as u64, q.holder as u64, q.volume),
-        PeriodAnswer::OffRange => put_refusal(out, at),
+        PeriodAnswer::Of(q) => put_ok_period(out, at, q.start as u64, q.holder as u64, q.volume),
+        PeriodAnswer::OffRange => put_refusal(out, at, OFF_RANGE),
     }
 }
 
@@ -86,15 +90,16 @@ fn put_advance(out: &mut [u8], at: usize, answer: AdvanceAnswer) -> usize
 {
     match answer {
         AdvanceAnswer::Volume(v) => put_ok(out, at, v),
-        AdvanceAnswer::OffRange => put_refusal(out, at),
+        AdvanceAnswer::OffRange => put_refusal(out, at, OFF_RANGE),
     }
 }
 
-fn put_refusal(out: &mut [u8], at: usize) -> usize
+// `refused;` and a number.
+fn put_refusal(out: &mut [u8], at: usize, n: u64) -> usize
     requires { ⌜ at + 66 ≤ length (now out) ⌝ }
-    ensures { λ x. ⌜ AppendedWithin 66 at refusal (now (out .entry)) (now (out .exit)) x ⌝ }
+    ensures { λ x. ⌜ AppendedWithin 66 at (refusal n) (now (out .entry)) (now (out .exit)) x ⌝ }
 {
-    put_word(out, at, b"refused;22\n")
+    put_one(out, at, b"refused;", n, b'\n')
 }
 
 // `ok;` and a value.
@@ -105,14 +110,15 @@ fn put_ok(out: &mut [u8], at: usize, v: u64) -> usize
     put_one(out, at, b"ok;", v, b'\n')
 }
 
-// `ok;` and three values.
-fn put_ok_three(out: &mut [u8], at: usize, a: u64, b: u64, c: u64) -> usize
+// `ok;`, a period's start as a date, its holder and its volume.
+fn put_ok_period(out: &mut [u8], at: usize, start: u64, holder: u64, volume: u64) -> usize
     requires { ⌜ at + 66 ≤ length (now out) ⌝ }
-    ensures { λ x. ⌜ AppendedWithin 66 at (okThree a b c) (now (out .entry)) (now (out .exit)) x ⌝ }
+    ensures { λ x. ⌜ AppendedWithin 66 at (okPeriod start holder volume) (now (out .entry)) (now (out .exit)) x ⌝ }
 {
-    let second_at = put_one(out, at, b"ok;", a, b';');
-    let third_at = put_field(out, second_at, b, b';');
-    put_field(out, third_at, c, b'\n')
+    let start_at = put_word(out, at, b"ok;");
+    let holder_at = put_date(out, start_at, start, b';');
+    let volume_at = put_field(out, holder_at, holder, b';');
+    put_field(out, volume_at, volume, b'\n')
 }
 
 // A word and two numbers, each with a `;`.
@@ -139,5 +145,14 @@ fn put_field(out: &mut [u8], at: usize, v: u64, end: u8) -> usize
     ensures { λ x. ⌜ AppendedWithin 21 at (field v end) (now (out .entry)) (now (out .exit)) x ⌝ }
 {
     let next = put_number(out, at, v);
+    put_byte(out, next, end)
+}
+
+// A day's date and the byte behind it.
+fn put_date(out: &mut [u8], at: usize, day: u64, end: u8) -> usize
+    requires { ⌜ at + 9 ≤ length (now out) ⌝ }
+    ensures { λ x. ⌜ AppendedWithin 9 at (dateField day end) (now (out .entry)) (now (out .exit)) x ⌝ }
+{
+    let next = put_day(out, at, day);
     put_byte(out, next, end)
 }

@@ -1,36 +1,34 @@
 -- A word has a value where it is read to its end; what words ask for, by their count.
-use Prim.Native.Nat.{ℕ, _≤_, _<_}
-use mathlib.Core.Path.{_≡_, refl, _∙_}
-use mathlib.Core.Bool.{Bool, true, false, cond}
+use Prim.Native.Nat.{ℕ, _+_, _-_, _≤_, _<_}
+use mathlib.Core.Path.{_≡_, refl}
+use mathlib.Core.Bool.{true, false}
 use mathlib.Core.List.{List, [], _∷_}
 use native.Mathlib.Omega.{arith}
-use lib.Dec.{ltb}
-use lib.ListN.{length, drop, length-drop}
-use lib.Seq.{drop-cons}
-use borrow.Author.Tests.{ltb-true, ltb-false, lt-ltb, le-ltb, ne-eqb}
-use Rattle.reading.specs.declared.Field.{Field}
+use lib.ListN.{length}
+use borrow.Author.Tests.{lt-ltb, le-ltb, ne-eqb}
 use Rattle.reading.specs.declared.Field.the-variants as field
 use Rattle.text.specs.Ascii.{ascii}
 use Rattle.reading.specs.Words.{isSame}
-use Rattle.reading.specs.Numbers.{number, readIn}
+use Rattle.reading.specs.Numbers.{Read, number, bad, fieldAt}
+use Rattle.reading.proofs.Places.{ends-short, Leaves}
 use Rattle.question_words.specs.declared.Value.the-variants.{Is, Nothing}
 use Rattle.question_words.specs.declared.Asked.the-variants.{Unknown}
 use Rattle.question_words.specs.Asked.{valueOf, wholeOf, numberValue, dateValue, holderAsked, periodAsked}
 use Rattle.question_words.specs.Asked.{byOne, byTwo, byThree, askedBy}
 
-empty : (l : List ℕ) → length l ≡ 0 → l ≡ []
-empty [] h = refl
-empty (c ∷ l) h = absurd (omega arith)
+-- what was read of a word, where more follows it and where nothing does
+pub whole-more : (len v next : ℕ) → next < len → wholeOf len (field.Value v next) ≡ Nothing
+whole-more len v next h = rw (lt-ltb next len h)
 
-pub whole-value : (w : List ℕ) (f : Field) → wholeOf (length w) f ≡ valueOf (readIn w f)
-whole-value w field.Bad = refl
-whole-value w (field.Value v next) = go (ltb next (length w)) refl
-  where
-    go : (t : Bool) → ltb next (length w) ≡ t → cond t Nothing (Is v) ≡ valueOf (number v (drop next w))
-    go true e = rw (drop-cons w next 0 (ltb-true next (length w) e))
-    go false e =
-        let k = ltb-false next (length w) e in
-        rw (empty (drop next w) (length-drop next w ∙ omega arith))
+pub whole-all : (len v next : ℕ) → len ≤ next → wholeOf len (field.Value v next) ≡ Is v
+whole-all len v next h = rw (le-ltb next len h)
+
+pub whole-value : (w : List ℕ) (x : Read) → Leaves w x → wholeOf (length w) (fieldAt 0 w x) ≡ valueOf x
+whole-value w (number v []) e = whole-all (length w) v (0 + (length w - 0)) (omega arith)
+whole-value w (number v (c ∷ r)) e =
+    let short = ends-short w (c ∷ r) e in
+    whole-more (length w) v (0 + (length w - length (c ∷ r))) (omega arith)
+whole-value w bad e = refl
 
 -- what words ask for, by their count
 module _ (n : ℕ) (w a b : List ℕ) where
@@ -60,10 +58,3 @@ module _ (w a b : List ℕ) where
       byThree w a b ≡ periodAsked (numberValue a) (numberValue b)
   unfolding byThree
   three-period h k = rw (h, k)
-
--- what was read of a word, where more follows it and where nothing does
-pub whole-more : (len v next : ℕ) → next < len → wholeOf len (field.Value v next) ≡ Nothing
-whole-more len v next h = rw (lt-ltb next len h)
-
-pub whole-all : (len v next : ℕ) → len ≤ next → wholeOf len (field.Value v next) ≡ Is v
-whole-all len v next h = rw (le-ltb next len h)

@@ -1,13 +1,15 @@
 -- The questions after any list of calls. The statement is specs/Asking.antt.
 use mathlib.Core.Path.{_≡_, refl, sym, _∙_, ap}
-use mathlib.Core.Bool.{Bool, true, false, cond, not, _||_}
-use mathlib.Core.List.{List, [], _∷_}
-use Prim.Native.Nat.{ℕ, suc, _+_, _-_, _*_, _^_, _≤_, _<_}
+use mathlib.Core.Bool.{Bool, true, false, cond, _&&_, _||_}
+use mathlib.Core.List.{List, [], _∷_, reverse}
+use mathlib.Core.Option.{Option, none, some}
+use Prim.Native.Nat.{ℕ, zero, suc, _-_, _^_, _≤_, _<_}
 use native.Mathlib.Omega.{arith}
-use lib.Dec.{leb, ltb}
-use lib.ListN.{length, getD, length-map, List·getD-map}
-use lib.Seq.{length-take-le, getD-take}
-use borrow.Author.Tests.{lt-ltb, le-ltb}
+use native.Mathlib.Decide.{decLe}
+use lib.Dec.{eqb, leb, ltb}
+use lib.ListN.{getD}
+use native.Mathlib.Nat.{not-suc-le-zero}
+use borrow.Author.Tests.{lt-ltb, le-ltb, le-leb, lt-leb, ne-eqb}
 use Rattle.dates.specs.Dates.{lastDay}
 use Rattle.rules.specs.declared.Opening.{Opening}
 use Rattle.rules.specs.declared.Call.{Call}
@@ -17,29 +19,65 @@ use Rattle.rules.specs.declared.Period.{Period}
 use Rattle.rules.specs.declared.Point.{Point}
 use Rattle.rules.specs.declared.HolderAnswer.{HolderAnswer}
 use Rattle.rules.specs.declared.HolderAnswer.the-variants as holder
+use Rattle.rules.specs.declared.PeriodAnswer.{PeriodAnswer}
 use Rattle.rules.specs.declared.PeriodAnswer.the-variants as period
+use Rattle.rules.specs.declared.AdvanceAnswer.{AdvanceAnswer}
 use Rattle.rules.specs.declared.AdvanceAnswer.the-variants as advance
 use Rattle.rules.specs.Volumes.{volume, registered}
-use Rattle.rules.specs.Answers.{isAccepted}
+use Rattle.rules.specs.Answers.{isAccepted, holderNumber, holderTold, periodNumber, periodTold, advanceNumber, advanceTold}
 use Rattle.rules.specs.Rejections.{openingAnswer, notPoint}
 use Rattle.rules.specs.Register.{noPeriod, used, pointAt}
 use Rattle.rules.specs.Questions.{unasked, holderIn, holderAnswer, periodAnswer, advanceAnswer}
 use Rattle.rules.specs.DayBook.{opened, readings, enrolments, Page}
-use Rattle.rules.specs.Demand3.{PointAgrees, periodsOf, markedDays, holderOn, dailySums, book, register}
-use Rattle.rules.proofs.Tally.{tally-desc, live-runs, Desc, oldest}
-use Rattle.rules.proofs.Slots.{listed, used-count}
-use Rattle.rules.proofs.Tied.{Tied}
+use Rattle.rules.specs.Demand3.{PointAgrees, periodsOf, holderOn, book, register}
+use Rattle.rules.proofs.Tally.{tally-desc, live-runs, Desc}
+use Rattle.rules.proofs.Slots.{listed, Sized, used-count, take-listed}
+use Rattle.rules.proofs.Tied.{Tied, Since}
 use Rattle.rules.proofs.Run.{run-agrees}
 use Rattle.rules.proofs.Theorem.{day-book-agrees}
 use Rattle.rules.proofs.Seen.{pending-unseen, request-unseen}
-use Rattle.questions.specs.Asking.{periodOn, Asked, Asking}
+use Rattle.questions.specs.ByBook.{
+  periodsIn,
+  nth,
+  askedNumber,
+  sinceEnrolment,
+  bookPeriods,
+  bookHolder,
+  bookPeriod,
+  bookAdvance,
+}
+use Rattle.questions.specs.Asking.{Asked, Asking}
+use Rattle.questions.proofs.Asked.{range-in}
 use Rattle.questions.proofs.Calendar.{run-day}
-use Rattle.questions.proofs.Covers.{among-covered, among-before, sum-exact, start-below, oldest-first, among-own}
+use Rattle.questions.proofs.Covers.{Tells, among-covered, among-before, sum-exact}
+use Rattle.questions.proofs.ByBook.{periods-told, nth-in, nth-past}
 
--- The holder that an answer tells.
-holderIs : HolderAnswer → ℕ
-holderIs (holder.Holder h) = h
-holderIs holder.OffRange = 0
+-- A number is 22 exactly where nothing is told.
+holder-number : (a : HolderAnswer) → holderNumber a ≡ askedNumber (holderTold a)
+holder-number (holder.Holder h) = refl
+holder-number holder.OffRange = refl
+
+period-number : (a : PeriodAnswer) → periodNumber a ≡ askedNumber (periodTold a)
+period-number (period.Of q) = refl
+period-number period.OffRange = refl
+
+advance-number : (a : AdvanceAnswer) → advanceNumber a ≡ askedNumber (advanceTold a)
+advance-number (advance.Volume v) = refl
+advance-number advance.OffRange = refl
+
+-- A number outside 1 to 32.
+module _ (r : Register) (p : ℕ) (off : notPoint p ≡ true) where
+  holder-off : (d : ℕ) → holderAnswer r p d ≡ holder.OffRange
+  unfolding holderAnswer
+  holder-off d = rw off
+
+  period-off : (m : ℕ) → periodAnswer r p m ≡ period.OffRange
+  unfolding periodAnswer
+  period-off m = rw off
+
+  advance-off : advanceAnswer r p ≡ advance.OffRange
+  unfolding advanceAnswer
+  advance-off = rw off
 
 -- One point of a register beside its page, on the register's day.
 module _ (r : Register) (l : List Span) (n : List ℕ) (g : Page) (p : ℕ) (lo : 1 ≤ p) (hi : p ≤ 32)
@@ -49,24 +87,6 @@ module _ (r : Register) (l : List Span) (n : List ℕ) (g : Page) (p : ℕ) (lo 
 
   is-point : notPoint p ≡ false
   is-point = rw (le-ltb p 1 lo, le-ltb 32 p hi)
-
-  asked : (e : ℕ) → n ≡ e ∷ [] → point .fields .enrolled ≡ true
-  asked e q = go (point .fields .enrolled) refl
-    where
-      go : (b : Bool) → point .fields .enrolled ≡ b → b ≡ true
-      go true y = refl
-      go false z =
-          let b = h .point .born .outside (rw (h .point .same) z) in
-          let w : _≡_ {A = ℕ} 0 1 = cc (b .0, q) in absurd (omega arith)
-
-  unborn : n ≡ [] → point .fields .enrolled ≡ false
-  unborn q = go (point .fields .enrolled) refl
-    where
-      go : (b : Bool) → point .fields .enrolled ≡ b → b ≡ false
-      go true y =
-          let s = h .point .born .inside (rw (h .point .same) y) in
-          let w : _≡_ {A = ℕ} 0 1 = cc (s .one, q) in absurd (omega arith)
-      go false z = refl
 
   used-all : used (point .history) ≡ point .history .count
   used-all = used-count (point .history) (h .point .sized)
@@ -79,145 +99,224 @@ module _ (r : Register) (l : List Span) (n : List ℕ) (g : Page) (p : ℕ) (lo 
   small : registered l < 2 ^ 64
   small = let m = h .point .most in let d = h .fine .past in omega (arith, m, d)
 
-  pub holder-asked : (e d : ℕ) → PointAgrees (r .day) l n g point → n ≡ e ∷ [] → e ≤ d → d ≤ r .day
-      → holderAnswer r p d ≡ holder.Holder (holderOn d (g .cells))
-  unfolding holderAnswer
-  holder-asked e d a q le on =
-      rw (is-point, asked e q, le-ltb (r .day) d on, used-all)
-      (among-covered d (point .history .count) (point .history .periods) _
-      (omega (arith, h .point .sized .slots, h .point .sized .some)) (a .covered e d q le on))
+  -- what the day book says of a point that is not enrolled, and of one that is
+  module _ (out : point .fields .enrolled ≡ false) where
+    none-made : n ≡ []
+    none-made = h .point .born .outside (rw (h .point .same) out) .0
 
-  pub before-asked : (e d : ℕ) → n ≡ e ∷ [] → d < e → holderAnswer r p d ≡ holder.OffRange
-  unfolding holderAnswer
-  before-asked e d q lt =
-      let s = h .point .born .inside (rw (h .point .same) (asked e q)) in
-      let k : s .enrolment ≡ e = cc (s .one, q) in
-      let o = s .start (suc (r .day)) in
-      rw (is-point, asked e q, le-ltb (r .day) d (omega (arith, s .read, h .fine .past)), used-all)
-      (among-before d (point .history .count) (point .history .periods) (suc (r .day)) falling (omega (arith, o, k)))
+    unlisted : periodsOf point ≡ []
+    unlisted =
+        take-listed (point .history) (h .point .sized) ∙ ap reverse (h .point .born .outside (rw (h .point .same) out) .1)
 
-  pub past-asked : (d : ℕ) → r .day < d → holderAnswer r p d ≡ holder.OffRange
-  unfolding holderAnswer
-  past-asked d lt = rw (lt-ltb (r .day) d lt) (go (unasked r p))
-    where
-      go : (b : Bool) → cond (b || true) holder.OffRange (holderIn d (pointAt p (r .points) .history)) ≡ holder.OffRange
-      go true = refl
-      go false = refl
+    holder-unasked : (d : ℕ) → holderAnswer r p d ≡ holder.OffRange
+    unfolding holderAnswer
+    holder-unasked d = rw (is-point, out)
 
-  pub advance-asked : (e : ℕ) → n ≡ e ∷ [] → advanceAnswer r p ≡ advance.Volume (registered l)
-  unfolding advanceAnswer
-  advance-asked e q =
-      rw (is-point, asked e q, used-all)
-      (ap advance.Volume
-      (sum-exact (point .history .count) (point .history .periods) (rw (h .point .sum) small) ∙ h .point .sum))
-
-  -- period m of the count: its place in the slots is its place among the marked cells
-  module _ (a : PointAgrees (r .day) l n g point) where
-    counted : length (markedDays (g .cells) []) ≡ point .history .count
-    counted =
-        ap length (sym (a .starts)) ∙ length-map (periodsOf point) (λ (q : Period). q .start)
-        ∙ length-take-le (point .history .count) (point .history .periods)
-        (omega (arith, h .point .sized .slots, h .point .sized .some))
-
-    module _ (m : ℕ) (least : 1 ≤ m) (most : m ≤ length (markedDays (g .cells) [])) where
-      abbrev one : Period
-      one = getD (point .history .periods) (m - 1) noPeriod
-
-      by : m ≤ point .history .count
-      by = omega (arith, counted)
-
-      taken : getD (periodsOf point) (m - 1) noPeriod ≡ one
-      taken = getD-take (point .history .count) (point .history .periods) (m - 1) noPeriod (omega (arith, by))
-
-      start-at : getD (markedDays (g .cells) []) (m - 1) 0 ≡ one .start
-      start-at =
-          ap (λ (k : List ℕ). getD k (m - 1) 0) (sym (a .starts))
-          ∙ List·getD-map (λ (q : Period). q .start) (periodsOf point) (m - 1) noPeriod
-          ∙ ap (λ (q : Period). q .start) taken
-
-      volume-at : getD (dailySums (volume l) (r .day) (markedDays (g .cells) [])) (m - 1) 0 ≡ one .volume
-      volume-at =
-          ap (λ (k : List ℕ). getD (dailySums (volume l) (r .day) k) (m - 1) 0) (sym (a .starts))
-          ∙ ap (λ (k : List ℕ). getD k (m - 1) 0) (sym (a .volumes))
-          ∙ List·getD-map (λ (q : Period). q .volume) (periodsOf point) (m - 1) noPeriod
-          ∙ ap (λ (q : Period). q .volume) taken
-
-      holder-at : (e : ℕ) → n ≡ e ∷ [] → one .holder ≡ holderOn (one .start) (g .cells)
-      unfolding holderIs
-      holder-at e q =
-          let s = h .point .born .inside (rw (h .point .same) (asked e q)) in
-          let k : s .enrolment ≡ e = cc (s .one, q) in
-          let from =
-          oldest-first (point .history .periods) m least (point .history .count) (suc (r .day)) 0 by falling in
-          let to = start-below (point .history .periods) m least (point .history .count) (suc (r .day)) by falling in
-          let own = among-own (point .history .periods) m least (point .history .count) (suc (r .day)) by falling in
-          let told =
-          among-covered (one .start) (point .history .count) (point .history .periods) _
-          (omega (arith, h .point .sized .slots, h .point .sized .some))
-          (a .covered e (one .start) q (omega (arith, s .start 0, k, from)) (omega (arith, to))) in
-          ap holderIs (sym own ∙ told)
-
-      pub period-asked : (e : ℕ) → n ≡ e ∷ [] → periodAnswer r p m ≡ period.Of (record {
-        start = getD (markedDays (g .cells) []) (m - 1) 0;
-        holder = holderOn (getD (markedDays (g .cells) []) (m - 1) 0) (g .cells);
-        volume = getD (dailySums (volume l) (r .day) (markedDays (g .cells) [])) (m - 1) 0;
-      })
-      unfolding periodAnswer
-      period-asked e q =
-          rw (is-point, asked e q, used-all, le-ltb m 1 least, le-ltb (point .history .count) m by)
-          (ap period.Of (λ i. record {
-            start = sym start-at i;
-            holder = (holder-at e q ∙ ap (λ (d : ℕ). holderOn d (g .cells)) (sym start-at)) i;
-            volume = sym volume-at i;
-          }))
-
-    pub period-beyond : (m : ℕ) → length (markedDays (g .cells) []) < m → periodAnswer r p m ≡ period.OffRange
+    period-unasked : (m : ℕ) → periodAnswer r p m ≡ period.OffRange
     unfolding periodAnswer
-    period-beyond m lt =
-        rw (used-all, le-ltb m 1 (omega arith), lt-ltb (point .history .count) m (omega (arith, counted)))
-        (go (unasked r p))
+    period-unasked m = rw (is-point, out)
+
+    advance-unasked : advanceAnswer r p ≡ advance.OffRange
+    unfolding advanceAnswer
+    advance-unasked = rw (is-point, out)
+
+  module _ (enrolled : point .fields .enrolled ≡ true) where
+    since : Since n (listed (point .history)) (g .fields .reading .day)
+    since = h .point .born .inside (rw (h .point .same) enrolled)
+
+    holder-asked : (d : ℕ) → PointAgrees (r .day) l n g point → since .enrolment ≤ d → d ≤ r .day
+        → Tells d (holderAnswer r p d) (holderOn d (g .cells))
+    unfolding holderAnswer
+    holder-asked d a le on =
+        rw (is-point, enrolled, le-ltb (r .day) d on, used-all)
+        (among-covered d (point .history .count) (point .history .periods) _
+        (omega (arith, h .point .sized .slots, h .point .sized .some)) (a .covered (since .enrolment) d (since .one) le on))
+
+    holder-before : (d : ℕ) → d < since .enrolment → d ≤ r .day → holderAnswer r p d ≡ holder.OffRange
+    unfolding holderAnswer
+    holder-before d lt on =
+        let o = since .start (suc (r .day)) in
+        rw (is-point, enrolled, le-ltb (r .day) d on, used-all)
+        (among-before d (point .history .count) (point .history .periods) (suc (r .day)) falling (omega (arith, o)))
+
+    holder-past : (d : ℕ) → r .day < d → holderAnswer r p d ≡ holder.OffRange
+    unfolding holderAnswer
+    holder-past d lt = rw (is-point, enrolled, lt-ltb (r .day) d lt)
+
+    advance-asked : advanceAnswer r p ≡ advance.Volume (registered l)
+    unfolding advanceAnswer
+    advance-asked =
+        rw (is-point, enrolled, used-all)
+        (ap advance.Volume
+        (sum-exact (point .history .count) (point .history .periods) (rw (h .point .sum) small) ∙ h .point .sum))
+
+    period-asked : (m : ℕ) → periodTold (periodAnswer r p m) ≡ cond (eqb m 0) none (nth (m - 1) (periodsOf point))
+    unfolding periodAnswer
+    period-asked zero = rw (is-point, enrolled)
+    period-asked (suc m) =
+        let k : suc m - 1 ≡ m = omega arith in
+        rw (is-point, enrolled, used-all, le-ltb (suc m) 1 (omega arith), ne-eqb (suc m) 0 (λ q. not-suc-le-zero {n = 0} (omega arith)), k)
+        (elim (decLe (suc m) (point .history .count)) [
+          | yes y ↦ rw (
+            le-ltb (point .history .count) (suc m) y,
+            nth-in m (point .history .count) (point .history .periods) y (omega (arith, h .point .sized .slots, h .point .sized .some)),
+          )
+          | no y ↦ rw (
+            lt-ltb (point .history .count) (suc m) (omega arith),
+            nth-past m (point .history .count) (point .history .periods) (omega arith),
+          )
+        ])
+
+  -- the three questions
+  module _ (a : PointAgrees (r .day) l n g point) where
+    holder-told : (d : ℕ) → holderTold (holderAnswer r p d)
+        ≡ cond (notPoint p) none (sinceEnrolment n (λ e. cond (leb e d && leb d (r .day)) (holderOn d (g .cells)) none))
+    holder-told d = rw is-point (go (point .fields .enrolled) refl)
       where
-        go : (b : Bool) → cond b period.OffRange period.OffRange ≡ period.OffRange
-        go true = refl
-        go false = refl
+        go : (b : Bool) → point .fields .enrolled ≡ b → holderTold (holderAnswer r p d)
+            ≡ sinceEnrolment n (λ e. cond (leb e d && leb d (r .day)) (holderOn d (g .cells)) none)
+        go false z = rw (none-made z, holder-unasked z d)
+        go true y =
+            let e = since y .enrolment in
+            rw (since y .one)
+            (elim (decLe e d) [
+              | yes le ↦ (elim (decLe d (r .day)) [
+                | yes on ↦ rw (le-leb e d le, le-leb d (r .day) on) (holder-asked y d a le on .0)
+                | no on ↦ rw (le-leb e d le, lt-leb d (r .day) (omega arith), holder-past y d (omega arith))
+              ])
+              | no le ↦ rw (lt-leb e d (omega arith)) (ap holderTold (early y (omega arith)))
+            ])
+          where
+            early : (y : point .fields .enrolled ≡ true) → d < since y .enrolment → holderAnswer r p d ≡ holder.OffRange
+            early y lt =
+                elim (decLe d (r .day)) [
+                  | yes on ↦ holder-before y d lt on
+                  | no on ↦ holder-past y d (omega arith)
+                ]
 
-  pub period-unasked : (m : ℕ) → n ≡ [] → periodAnswer r p m ≡ period.OffRange
-  unfolding periodAnswer
-  period-unasked m q = rw (is-point, unborn q)
+    period-told : (m : ℕ) → periodTold (periodAnswer r p m)
+        ≡ cond (notPoint p || eqb m 0) none (nth (m - 1) (periodsIn (volume l) (suc (r .day)) (g .cells) []))
+    unfolding nth
+    period-told m =
+        rw (is-point, ← (periods-told point (h .point .sized) (volume l) (g .cells) (h .point .told) (r .day) (h .point .live)))
+        (go (point .fields .enrolled) refl)
+      where
+        nothing : (b : Bool) → periodsOf point ≡ [] → none ≡ cond b none (nth (m - 1) (periodsOf point))
+        nothing true q = refl
+        nothing false q = rw q
 
-  pub holder-unasked : (d : ℕ) → n ≡ [] → holderAnswer r p d ≡ holder.OffRange
-  unfolding holderAnswer
-  holder-unasked d q = rw (is-point, unborn q)
+        go : (b : Bool) → point .fields .enrolled ≡ b
+            → periodTold (periodAnswer r p m) ≡ cond (eqb m 0) none (nth (m - 1) (periodsOf point))
+        go false z = rw (period-unasked z m) (nothing (eqb m 0) (unlisted z))
+        go true y = period-asked y m
 
-  pub advance-unasked : n ≡ [] → advanceAnswer r p ≡ advance.OffRange
-  unfolding advanceAnswer
-  advance-unasked q = rw (is-point, unborn q)
+    advance-told : advanceTold (advanceAnswer r p) ≡ cond (notPoint p) none (sinceEnrolment n (λ e. some (registered l)))
+    advance-told = rw is-point (go (point .fields .enrolled) refl)
+      where
+        go : (b : Bool) → point .fields .enrolled ≡ b → advanceTold (advanceAnswer r p) ≡ sinceEnrolment n (λ e. some (registered l))
+        go false z = rw (none-made z, advance-unasked z)
+        go true y = rw (since y .one, advance-asked y)
+
+-- Any number, after a list of calls.
+module _ (o : Opening) (ok : isAccepted (openingAnswer o) ≡ true) (calls : List Call) (p : ℕ) where
+  abbrev r : Register
+  r = register o calls
+
+  abbrev l : List Span
+  l = readings (opened o) calls p
+
+  abbrev n : List ℕ
+  n = enrolments (opened o) calls p
+
+  abbrev g : Page
+  g = book o calls .page p
+
+  -- the register's day is the day book's
+  same-day : book o calls .day ≡ r .day
+  same-day = run-agrees o ok calls .day
+
+  module _ (lo : 1 ≤ p) (hi : p ≤ 32) where
+    tied : Tied (r .day) l n g (pointAt p (r .points))
+    tied = rw same-day at (run-agrees o ok calls .points p lo hi)
+
+    agrees : PointAgrees (r .day) l n g (pointAt p (r .points))
+    agrees = day-book-agrees o ok calls .points p lo hi
+
+    pub point-sized : Sized (pointAt p (r .points) .history)
+    point-sized = tied .point .sized
+
+    -- the periods that the register keeps are the day book's
+    pub periods-are : periodsOf (pointAt p (r .points)) ≡ bookPeriods o calls p
+    unfolding bookPeriods
+    periods-are =
+        let h = tied in
+        rw same-day (periods-told (pointAt p (r .points)) (h .point .sized) (volume l) (g .cells) (h .point .told) (r .day) (h .point .live))
+
+  in-range : notPoint p ≡ false → (1 ≤ p) × (p ≤ 32)
+  in-range on = range-in 1 32 p on
+
+  holder-is : (d : ℕ) → holderTold (holderAnswer r p d) ≡ bookHolder o calls p d
+  unfolding bookHolder
+  holder-is d = rw same-day (go (notPoint p) refl)
+    where
+      go : (b : Bool) → notPoint p ≡ b → holderTold (holderAnswer r p d)
+          ≡ cond (notPoint p) none (sinceEnrolment n (λ e. cond (leb e d && leb d (r .day)) (holderOn d (g .cells)) none))
+      go true off = rw (off, holder-off r p off d)
+      go false on =
+          let k = in-range on in
+          holder-told r l n g p (k .0) (k .1) (tied (k .0) (k .1)) (run-day o ok calls) (agrees (k .0) (k .1)) d
+
+  period-is : (m : ℕ) → periodTold (periodAnswer r p m) ≡ bookPeriod o calls p m
+  unfolding bookPeriod bookPeriods
+  period-is m = rw same-day (go (notPoint p) refl)
+    where
+      go : (b : Bool) → notPoint p ≡ b → periodTold (periodAnswer r p m)
+          ≡ cond (notPoint p || eqb m 0) none (nth (m - 1) (periodsIn (volume l) (suc (r .day)) (g .cells) []))
+      go true off = rw (off, period-off r p off m)
+      go false on =
+          let k = in-range on in
+          period-told r l n g p (k .0) (k .1) (tied (k .0) (k .1)) (run-day o ok calls) (agrees (k .0) (k .1)) m
+
+  pub advance-is : advanceTold (advanceAnswer r p) ≡ bookAdvance o calls p
+  unfolding bookAdvance
+  advance-is = go (notPoint p) refl
+    where
+      go : (b : Bool) → notPoint p ≡ b
+          → advanceTold (advanceAnswer r p) ≡ cond (notPoint p) none (sinceEnrolment n (λ e. some (registered l)))
+      go true off = rw (off, advance-off r p off)
+      go false on =
+          let k = in-range on in
+          advance-told r l n g p (k .0) (k .1) (tied (k .0) (k .1)) (run-day o ok calls) (agrees (k .0) (k .1))
+
+  answered-on : (e d : ℕ) → 1 ≤ p → p ≤ 32 → n ≡ e ∷ [] → e ≤ d → d ≤ r .day → holderNumber (holderAnswer r p d) ≡ 0
+  answered-on e d lo hi q le on = go (pointAt p (r .points) .fields .enrolled) refl
+    where
+      h : Tied (r .day) l n g (pointAt p (r .points))
+      h = tied lo hi
+
+      cal : r .day ≤ lastDay
+      cal = run-day o ok calls
+
+      go : (b : Bool) → pointAt p (r .points) .fields .enrolled ≡ b → holderNumber (holderAnswer r p d) ≡ 0
+      go false z =
+          let w : _≡_ {A = ℕ} 0 1 = cc (none-made r l n g p lo hi h cal z, q) in absurd (omega arith)
+      go true y =
+          let s = since r l n g p lo hi h cal y in
+          let k : s .enrolment ≡ e = cc (s .one, q) in
+          holder-asked r l n g p lo hi h cal y d (agrees lo hi) (omega (arith, k)) on .1
 
 pub asking : Asking
-unfolding periodOn
 asking =
     record {
-      agree = λ o ok calls p least most.
-          let a = run-agrees o ok calls in
-          let r = register o calls in
-          let h = rw (a .day) at (a .points p least most) in
-          let cal = run-day o ok calls in
-          let l = readings (opened o) calls p in
-          let m = enrolments (opened o) calls p in
-          let g = book o calls .page p in
-          record {
-            holder = λ e d q le on.
-                holder-asked r l m g p least most h cal e d (day-book-agrees o ok calls .points p least most) q le on;
-            before = before-asked r l m g p least most h cal;
-            past = past-asked r l m g p least most h cal;
-            advance = advance-asked r l m g p least most h cal;
-            period = λ e n q lo hi.
-                period-asked r l m g p least most h cal (day-book-agrees o ok calls .points p least most) n lo hi e q;
-            beyond = period-beyond r l m g p least most h cal (day-book-agrees o ok calls .points p least most);
-            periodless = period-unasked r l m g p least most h cal;
-            holderless = holder-unasked r l m g p least most h cal;
-            advanceless = advance-unasked r l m g p least most h cal;
-          };
+      agree = λ o ok calls. record {
+        holder = holder-is o ok calls;
+        holder-number = λ p d. holder-number (holderAnswer (register o calls) p d) ∙ ap askedNumber (holder-is o ok calls p d);
+        period = period-is o ok calls;
+        period-number = λ p n. period-number (periodAnswer (register o calls) p n) ∙ ap askedNumber (period-is o ok calls p n);
+        advance = advance-is o ok calls;
+        advance-number = λ p. advance-number (advanceAnswer (register o calls) p) ∙ ap askedNumber (advance-is o ok calls p);
+        answered = answered-on o ok calls;
+      };
       unseen = pending-unseen;
       requests = request-unseen;
     }

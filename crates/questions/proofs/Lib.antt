@@ -2,4 +2,5 @@ pub mod Asked
 pub mod Asking
 pub mod Calendar
 pub mod Covers
+pub mod ByBook
 pub mod Walks

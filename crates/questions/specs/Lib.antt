@@ -1,1 +1,2 @@
+pub mod ByBook
 pub mod Asking

@@ -2,4 +2,5 @@ pub mod Numbers
 pub mod Fixed
 pub mod Days
 pub mod OneText
+pub mod Places
 pub mod Steps

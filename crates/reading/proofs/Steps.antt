@@ -1,6 +1,6 @@
 -- One step of reading at a position of a line: what the definitions of reading come to there.
 use Prim.Native.Nat.{ℕ, zero, suc, _+_, _-_, _*_, _^_, _<_, _≤_}
-use mathlib.Core.Path.{_≡_, refl, ap, _∙_}
+use mathlib.Core.Path.{_≡_, refl, ap, ap₂, _∙_}
 use mathlib.Core.Bool.{Bool, true, false, cond, _&&_}
 use mathlib.Core.List.{List, [], _∷_}
 use native.Mathlib.Nat.{pow-le-pow-right}
@@ -9,9 +9,10 @@ use native.Mathlib.Omega.{arith}
 use lib.Dec.{eqb}
 use lib.ListN.{length, drop, getD, drop-of-length-le}
 use lib.Seq.{drop-cons}
-use borrow.Author.Tests.{lt-ltb, le-ltb, le-leb, lt-leb, eq-eqb, ne-eqb}
+use borrow.Author.Tests.{lt-ltb, le-ltb, le-leb, lt-leb, eqb-true, eq-eqb, ne-eqb}
 use Rattle.dates.specs.declared.DayAnswer.{DayAnswer}
 use Rattle.dates.specs.Numbers.{dayAnswer}
+use Rattle.dates.proofs.Every.{and-left, and-right}
 use Rattle.reading.specs.Words.{isSame}
 use Rattle.reading.specs.Numbers.{number, bad, isDigit, moreOf, numberOf, fixedOf}
 use Rattle.reading.specs.Days.{dayRead, dayIn}
@@ -149,3 +150,17 @@ module _ (a b : List ℕ) (i : ℕ) (ha : i < length a) (hb : i < length b) wher
 pub same-end : (a b : List ℕ) (i : ℕ) → length a ≤ i → length b ≤ i → isSame (drop i a) (drop i b) ≡ true
 unfolding isSame
 same-end a b i ha hb = rw (drop-of-length-le a ha, drop-of-length-le b hb)
+
+pub same-words : (a b : List ℕ) → isSame a b ≡ true → a ≡ b
+unfolding isSame
+same-words [] [] h = refl
+same-words [] (y ∷ b) h = absurd (let z : _≡_ {A = ℕ} 0 1 = cc in omega arith)
+same-words (x ∷ a) [] h = absurd (let z : _≡_ {A = ℕ} 0 1 = cc in omega arith)
+same-words (x ∷ a) (y ∷ b) h =
+    ap₂ (λ (n : ℕ) (l : List ℕ). n ∷ l) (eqb-true x y (and-left (eqb x y) (isSame a b) h))
+    (same-words a b (and-right (eqb x y) (isSame a b) h))
+
+pub same-self : (a : List ℕ) → isSame a a ≡ true
+unfolding isSame
+same-self [] = refl
+same-self (x ∷ a) = rw (eq-eqb x x refl) (same-self a)

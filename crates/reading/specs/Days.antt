@@ -1,10 +1,12 @@
 -- 01, Message lines: "dates aaaammjj as real dates of the calendar". The value of a date is its day. Definitions only.
 use Prim.Native.Nat.{ℕ}
 use mathlib.Core.List.{List}
+use lib.ListN.{drop}
 use Rattle.dates.specs.declared.DayAnswer.{DayAnswer}
 use Rattle.dates.specs.declared.DayAnswer.the-variants.{Day, NoDate}
 use Rattle.dates.specs.Numbers.{dayAnswer}
-use Rattle.reading.specs.Numbers.{fixedOf, Read, number, bad}
+use Rattle.reading.specs.declared.Field.{Field}
+use Rattle.reading.specs.Numbers.{fixedOf, Read, number, bad, fieldAt}
 
 -- Reading one thing after another.
 abbrev pub andThen : Read → (ℕ → List ℕ → Read) → Read
@@ -22,3 +24,7 @@ dayIn l =
     andThen (fixedOf 2 0 l₁) (λ m l₂.
     andThen (fixedOf 2 0 l₂) (λ d r.
     dayRead (dayAnswer y m d) r)))
+
+-- The date at a position of a text; its value is the day.
+abbrev pub dateAt : List ℕ → ℕ → Field
+dateAt s at = fieldAt at (drop at s) (dayIn (drop at s))

@@ -3,7 +3,7 @@ use Prim.Native.Nat.{ℕ, zero, suc, _+_, _-_, _*_, _^_}
 use mathlib.Core.Bool.{Bool, cond, _&&_}
 use mathlib.Core.List.{List, [], _∷_}
 use lib.Dec.{ltb, leb, eqb}
-use lib.ListN.{drop}
+use lib.ListN.{length, drop}
 use Rattle.reading.specs.declared.Field.{Field}
 use Rattle.reading.specs.declared.Field.the-variants.{Value, Bad}
 
@@ -32,7 +32,12 @@ fixedOf zero v l = number v l
 fixedOf (suc k) v [] = bad
 fixedOf (suc k) v (c ∷ l) = cond (isDigit c) (fixedOf k (v * 10 + (c - 48)) l) bad
 
--- What the code read at a position of s, as a number and the rest of s.
-abbrev pub readIn : List ℕ → Field → Read
-readIn s (Value v next) = number v (drop next s)
-readIn s Bad = bad
+-- What the code hands back of what is read from a position on, l being the text from there on: the value, and the
+-- position behind it, as many bytes on as were read.
+abbrev pub fieldAt : ℕ → List ℕ → Read → Field
+fieldAt at l (number v rest) = Value v (at + (length l - length rest))
+fieldAt at l bad = Bad
+
+-- The number at a position of a text.
+abbrev pub numberAt : List ℕ → ℕ → Field
+numberAt s at = fieldAt at (drop at s) (numberOf (drop at s))

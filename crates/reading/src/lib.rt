@@ -4,8 +4,8 @@ ghost use mathlib.Core.Path.{_≡_};
 ghost use Prim.Native.Nat.{_-_, _≤_, _<_};
 ghost use lib.ListN.{drop};
 ghost use Rattle.reading.specs.Words.{isSame};
-ghost use Rattle.reading.specs.Numbers.{moreOf, numberOf, fixedOf, readIn};
-ghost use Rattle.reading.specs.Days.{dayIn};
+ghost use Rattle.reading.specs.Numbers.{moreOf, fixedOf, fieldAt, numberAt};
+ghost use Rattle.reading.specs.Days.{dateAt};
 
 // What is read at a position: a value and the position behind it, or none.
 pub enum Field {
@@ -32,7 +32,7 @@ pub fn same(a: &[u8], b: &[u8]) -> bool
 
 // A number of 1 to 12 digits, no leading zero but 0 itself.
 pub fn number_at(s: &[u8], at: usize) -> Field
-    ensures { λ r. ⌜ numberOf (drop at (now (s .entry))) ≡ readIn (now (s .entry)) r ⌝ }
+    ensures { λ r. ⌜ r ≡ numberAt (now (s .entry)) at ⌝ }
 {
     if s.len() <= at {
         return Field::Bad;
@@ -53,7 +53,7 @@ pub fn number_at(s: &[u8], at: usize) -> Field
 // The rest of a number whose digits before at are those of first.
 fn more_digits(s: &[u8], at: usize, first: u64) -> Field
     requires { ⌜ first < 10 ⌝ }
-    ensures { λ r. ⌜ moreOf first (drop at (now (s .entry))) ≡ readIn (now (s .entry)) r ⌝ }
+    ensures { λ r. ⌜ r ≡ fieldAt at (drop at (now (s .entry))) (moreOf first (drop at (now (s .entry)))) ⌝ }
 {
     let mut v = first;
     let mut i = at;
@@ -76,7 +76,7 @@ fn more_digits(s: &[u8], at: usize, first: u64) -> Field
 
 // A date aaaammjj of the calendar; its value is the day.
 pub fn date_at(s: &[u8], at: usize) -> Field
-    ensures { λ r. ⌜ dayIn (drop at (now (s .entry))) ≡ readIn (now (s .entry)) r ⌝ }
+    ensures { λ r. ⌜ r ≡ dateAt (now (s .entry)) at ⌝ }
 {
     let Field::Value(year, after_year) = fixed_at(s, at, 4) else {
         return Field::Bad;
@@ -96,7 +96,7 @@ pub fn date_at(s: &[u8], at: usize) -> Field
 // A number of exactly count digits.
 fn fixed_at(s: &[u8], at: usize, count: usize) -> Field
     requires { ⌜ (0 < count) × (count < 10) ⌝ }
-    ensures { λ r. ⌜ fixedOf count 0 (drop at (now (s .entry))) ≡ readIn (now (s .entry)) r ⌝ }
+    ensures { λ r. ⌜ r ≡ fieldAt at (drop at (now (s .entry))) (fixedOf count 0 (drop at (now (s .entry)))) ⌝ }
 {
     if s.len() < at {
         return Field::Bad;

@@ -1,24 +1,28 @@
--- The law of the opening: `open` answers Ready exactly where the opening is accepted, and what `begin` makes of that is
--- the register that demand 3 starts from. Both are proved equal to `opensWith` and `newRegister`. Definitions only.
-use mathlib.Core.Path.{_≡_}
-use mathlib.Core.Bool.{true}
-use Prim.Native.Nat.{ℕ}
+-- 01, "What the register holds": the answer to an opening, and the register after it. Definitions only.
+use mathlib.Core.Bool.{false, cond}
+use Prim.Native.Nat.{ℕ, _≤_}
+use lib.ListN.{replicate}
+use Rattle.dates.specs.Dates.{lastDay}
+use Rattle.rules.specs.declared.Register.{Register}
 use Rattle.rules.specs.declared.Opening.{Opening}
-use Rattle.rules.specs.declared.Answer.the-variants.{Refused}
+use Rattle.rules.specs.declared.Outcome.{Outcome}
 use Rattle.rules.specs.Answers.{isAccepted}
 use Rattle.rules.specs.Rejections.{openingAnswer}
-use Rattle.rules.specs.Register
-use Rattle.register.specs.declared.Start.{Start}
-use Rattle.register.specs.declared.Opened.the-variants.{Ready, Turned}
-use Rattle.register.specs.Calls.{startOf, opensWith, newRegister}
+use Rattle.rules.specs.Register.{blankPoint, register, outcome, opened}
 
-pub record Opens (o : Opening) : Type 0 where
-  pub ready : isAccepted (openingAnswer o) ≡ true → opensWith o ≡ Ready (startOf o)
-  pub accepted : (s : Start) → opensWith o ≡ Ready s → isAccepted (openingAnswer o) ≡ true
-  pub begins : (s : Start) → opensWith o ≡ Ready s → newRegister s ≡ Register.opened o
-  -- "A refused opening opens no register": its number is the answer's
-  pub turned : (n : ℕ) → openingAnswer o ≡ Refused n → opensWith o ≡ Turned n
-  pub refused : (n : ℕ) → opensWith o ≡ Turned n → openingAnswer o ≡ Refused n
+-- "A refused opening opens no register": the register stays as it came.
+unfoldable pub openedOver : Register → Opening → Outcome
+openedOver r o = outcome (openingAnswer o) (cond (isAccepted (openingAnswer o)) (opened o) r)
 
-abbrev pub EveryOpening : Type 0
-EveryOpening = (o : Opening) → Opens o
+-- What stands where no register is open: nobody is under contract, no point is enrolled, and nothing looks at it.
+unfoldable pub noRegister : Register
+noRegister = register (record { w = 0; a = 0; b = 0; default = 0; resort = 0 }) 0 (replicate 100 false) (replicate 32 blankPoint)
+
+-- The numbers of an opening fit the fields that keep them.
+pub record InRange (o : Opening) : Type 0 where
+  pub w : o .w ≤ 10
+  pub a : o .a ≤ 400
+  pub b : o .b ≤ 400
+  pub default : o .default ≤ 99
+  pub resort : o .resort ≤ 99
+  pub day : o .day ≤ lastDay

@@ -5,7 +5,7 @@ mod points;
 use checks::is_accepted;
 use checks::outside;
 use dates::LAST_DAY;
-pub use opening::begin;
+pub use opening::no_register;
 pub use opening::open;
 use point::turn;
 use points::advance;
@@ -18,23 +18,10 @@ use rules::Call;
 use rules::Outcome;
 use rules::PointAction;
 use rules::Register;
-use rules::Settings;
 ghost use mathlib.Core.Path.{_≡_};
 ghost use Rattle.rules.specs.Register.{applied};
 ghost use Rattle.register.specs.Calls.{call, callAt};
 ghost use Rattle.register.specs.Failure.{FailureOn};
-
-// What an accepted opening starts the register from.
-pub struct Start {
-    pub settings: Settings,
-    pub day: u32,
-}
-
-// An accepted opening, or the number of a refused one.
-pub enum Opened {
-    Ready(Start),
-    Turned(u8),
-}
 
 fn refused(number: u8, r: Register) -> Outcome
     ensures { λ x. ⌜ x ≡ record { answer = Answer.Refused number; register = r } ⌝ }

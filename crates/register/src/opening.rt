@@ -1,54 +1,61 @@
 // Opening a register.
-use crate::Opened;
-use crate::Start;
 use crate::points::blank_point;
+use checks::is_accepted;
 use checks::outside;
 use dates::LAST_DAY;
+use rules::Answer;
 use rules::Opening;
+use rules::Outcome;
 use rules::Register;
 use rules::Settings;
 ghost use mathlib.Core.Path.{_≡_};
 ghost use mathlib.Core.Bool.{true};
-ghost use lib.ListN.{set as ListN·set};
-ghost use Rattle.rules.specs.Opening.{firstContracts};
-ghost use Rattle.register.specs.Calls.{opensWith, newRegister};
+ghost use lib.ListN.{set as ListN·set, replicate};
+ghost use Rattle.rules.specs.Opening.{settingsOf, firstContracts};
+ghost use Rattle.rules.specs.Rejections.{openingAnswer};
+ghost use Rattle.rules.specs.Register.{blankPoint, register};
+ghost use Rattle.register.specs.Opens.{InRange, noRegister, openedOver};
 
-// An opening with any numbers: what the register starts from, or the number of the refusal.
-pub fn open(o: Opening) -> Opened
-    ensures { λ r. ⌜ r ≡ opensWith o ⌝ }
+// The answer to an opening with any numbers.
+fn opening_answer(o: Opening) -> Answer
+    ensures { λ r. ⌜ r ≡ openingAnswer o ⌝ }
 {
     if outside(0, 10, o.w) {
-        return Opened::Turned(22);
+        return Answer::Refused(22);
     }
     if outside(1, 400, o.a) {
-        return Opened::Turned(22);
+        return Answer::Refused(22);
     }
     if outside(1, 400, o.b) {
-        return Opened::Turned(22);
+        return Answer::Refused(22);
     }
     if outside(1, 99, o.default) {
-        return Opened::Turned(22);
+        return Answer::Refused(22);
     }
     if outside(1, 99, o.resort) {
-        return Opened::Turned(22);
+        return Answer::Refused(22);
     }
     if o.default == o.resort {
-        return Opened::Turned(22);
+        return Answer::Refused(22);
     }
     if o.day > LAST_DAY as u64 {
-        return Opened::Turned(20);
+        return Answer::Refused(20);
     }
-    let settings = Settings {
+    Answer::Accepted
+}
+
+// The settings of an opening whose numbers are in range.
+fn settings_of(o: Opening) -> Settings
+    requires { ⌜ InRange o ⌝ }
+    ensures { λ r. ⌜ r ≡ settingsOf o ⌝ }
+{
+    Settings {
         w: o.w as u8,
         a: o.a as u16,
         b: o.b as u16,
         default: o.default as u8,
         resort: o.resort as u8,
-    };
-    Opened::Ready(Start {
-        settings: settings,
-        day: o.day as u32,
-    })
+    }
 }
 
 // The suppliers under contract from the start.
@@ -70,17 +77,54 @@ fn signed(i: usize, u: [bool; 100]) -> [bool; 100]
     out
 }
 
-// The newly opened register.
-pub fn begin(s: Start) -> Register
-    ensures { λ r. ⌜ r ≡ newRegister s ⌝ }
+// A newly opened register: no point is enrolled.
+fn new_register(set: Settings, day: u32) -> Register
+    ensures { λ r. ⌜ r ≡ register set day (firstContracts set) (replicate 32 blankPoint) ⌝ }
 {
-    let set = s.settings;
     let contracts = first_contracts(set);
     let blank = blank_point();
     Register {
         settings: set,
-        day: s.day,
+        day: day,
         contracts: contracts,
         points: [blank; 32],
+    }
+}
+
+// What stands where no register is open.
+pub fn no_register() -> Register
+    ensures { λ r. ⌜ r ≡ noRegister ⌝ }
+{
+    let blank = blank_point();
+    Register {
+        settings: Settings {
+            w: 0,
+            a: 0,
+            b: 0,
+            default: 0,
+            resort: 0,
+        },
+        day: 0,
+        contracts: [false; 100],
+        points: [blank; 32],
+    }
+}
+
+// An opening with any numbers: its answer, and the register after it. A refused one opens none: the register stays as it came.
+pub fn open(r: Register, o: Opening) -> Outcome
+    ensures { λ x. ⌜ x ≡ openedOver r o ⌝ }
+{
+    let answer = opening_answer(o);
+    if is_accepted(answer) {
+        let set = settings_of(o);
+        let fresh = new_register(set, o.day as u32);
+        return Outcome {
+            answer: answer,
+            register: fresh,
+        };
+    }
+    Outcome {
+        answer: answer,
+        register: r,
     }
 }

@@ -11,6 +11,7 @@ use Rattle.rules.specs.RowExamples.Readings.{ReadingExamples}
 use Rattle.rules.specs.RowExamples.Full.{FullExamples}
 use Rattle.rules.specs.RowExamples.Events.{EventExamples}
 use Rattle.rules.specs.RowExamples.Questions.{QuestionExamples}
+use Rattle.rules.specs.RowExamples.Varied.{VariedExamples}
 use Rattle.rules.specs.RowExamples.{RowExamples}
 use Rattle.rules.proofs.Computes.{machines, computes}
 use Rattle.rules.proofs.Scenes.{plays}
@@ -296,6 +297,45 @@ question-examples =
       advance-not-enrolled = refl;
     }
 
+varied-examples : VariedExamples
+unfolding computes
+varied-examples =
+    record {
+      default-to-37 = record { by-register = refl; by-book = refl };
+      default-on-36 = record { by-register = refl; by-book = refl };
+      last-resort-on-37 = record { by-register = refl; by-book = refl };
+      last-resort-on-96 = record { by-register = refl; by-book = refl };
+      none-on-97 = record { by-register = refl; by-book = refl };
+      starts-12-37-97 =
+          record { periods = refl; advance = refl; starts = refl; holders = refl; volumes = refl; total = refl };
+      request-near-37 = record { by-register = refl; by-book = refl };
+      cancel-with-three-days = record { by-register = refl; by-book = refl };
+      failure-to-71 = record { by-register = refl; by-book = refl };
+      starts-11-71 =
+          record { periods = refl; advance = refl; starts = refl; holders = refl; volumes = refl; total = refl };
+      protected-9-and-4 = record { by-register = refl; by-book = refl };
+      sums-off-the-calendar = record { by-register = refl; by-book = refl };
+      holder-5-beside-6 = record { by-register = refl; by-book = refl };
+      holder-7-beside-6 = record { by-register = refl; by-book = refl };
+      request-of-5-beside-6 = record { by-register = refl; by-book = refl };
+      request-of-7-beside-6 = record { by-register = refl; by-book = refl };
+      cancel-beside-6 = record { by-register = refl; by-book = refl };
+      supplier-99 = record { by-register = refl; by-book = refl };
+      enrolled-below-10000 = record { by-register = refl; by-book = refl };
+      read-below-10000 = record { by-register = refl; by-book = refl };
+      past-zero-with-one-behind =
+          record { periods = refl; advance = refl; starts = refl; holders = refl; volumes = refl; total = refl };
+      fresh-below-10000 = record { by-register = refl; by-book = refl };
+      past-zero-of-the-new-meter =
+          record { periods = refl; advance = refl; starts = refl; holders = refl; volumes = refl; total = refl };
+      changed-past-zero =
+          record { periods = refl; advance = refl; starts = refl; holders = refl; volumes = refl; total = refl };
+      other-reading-not-booked =
+          record { periods = refl; advance = refl; starts = refl; holders = refl; volumes = refl; total = refl };
+      other-reading-not-booked-either =
+          record { periods = refl; advance = refl; starts = refl; holders = refl; volumes = refl; total = refl };
+    }
+
 pub row-examples : RowExamples
 row-examples =
     record {
@@ -310,4 +350,5 @@ row-examples =
       full = full-examples;
       events = event-examples;
       questions = question-examples;
+      varied = varied-examples;
     }

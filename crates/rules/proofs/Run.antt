@@ -1,6 +1,6 @@
 -- The whole list: from a newly opened register on, the register stays beside the day book.
 use mathlib.Core.Path.{_≡_, refl, sym, _∙_, ap, ap₂, subst₂, fun-ext}
-use mathlib.Core.Bool.{Bool, true, false, false≢true, true≢false}
+use mathlib.Core.Bool.{Bool, true, false, cond, false≢true, true≢false}
 use mathlib.Core.List.{List, [], _∷_, _++_, append-nil, append-assoc}
 use Prim.Native.Nat.{ℕ, zero, suc, _+_, _-_, _≤_, _<_}
 use native.Mathlib.Omega.{arith}
@@ -18,10 +18,12 @@ use Rattle.rules.specs.Rejections.{openingAnswer}
 use Rattle.rules.specs.Register
 use Rattle.rules.specs.Register.{blankPoint, noPoint, applied}
 use Rattle.rules.specs.DayBook
-use Rattle.rules.specs.DayBook.{Book}
+use Rattle.rules.specs.DayBook.{Book, upToDay}
+use Rattle.rules.specs.Opening.{settingsOf}
 use Rattle.rules.proofs.Tally.{tally, sumVolumes}
 use Rattle.rules.proofs.Slots.{recent}
 use Rattle.rules.proofs.Accept.{pass, neither}
+use Rattle.rules.proofs.Theorem.Days.{gone-on}
 use Rattle.rules.proofs.Tied.{Tied}
 use Rattle.rules.proofs.Step.{Agree, says-agree, readNow, enrolledNow, call-agree}
 
@@ -87,6 +89,24 @@ answers-agree (c ∷ cs) l n b r h =
     ap₂ (λ (a : Answer) (l : List Answer). a ∷ l) (sym (says-agree c l n b r h))
     (answers-agree cs (λ p. l p ++ readNow c l n b r h p) (λ p. n p ++ enrolledNow c l n b r h p) (DayBook.next b c) (applied r c .register)
     (call-agree c l n b r h))
+
+-- No call changes the settings.
+next-settings : (b : Book) (c : Call) → DayBook.next b c .settings ≡ b .settings
+unfolding DayBook.next
+next-settings b c = go (isAccepted (DayBook.says b c))
+  where
+    go : (x : Bool) → cond x (DayBook.entered c (upToDay (c .today) b)) b .settings ≡ b .settings
+    go true = gone-on (c .today - b .day) b .settings
+    go false = refl
+
+after-settings : (cs : List Call) (b : Book) → DayBook.after b cs .settings ≡ b .settings
+unfolding DayBook.after
+after-settings [] b = refl
+after-settings (c ∷ cs) b = after-settings cs (DayBook.next b c) ∙ next-settings b c
+
+pub run-settings : (o : Opening) (cs : List Call) → DayBook.after (DayBook.opened o) cs .settings ≡ settingsOf o
+unfolding DayBook.opened
+run-settings o cs = after-settings cs (DayBook.opened o)
 
 module _ (o : Opening) (ok : isAccepted (openingAnswer o) ≡ true) (cs : List Call) where
   pub run-agrees : Agree (λ p. DayBook.readings (DayBook.opened o) cs p) (λ p. DayBook.enrolments (DayBook.opened o) cs p)

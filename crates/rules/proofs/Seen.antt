@@ -3,24 +3,27 @@ use mathlib.Core.Path.{_≡_, refl, sym, ap, _∙_}
 use mathlib.Core.Bool.{Bool, true, false, cond}
 use mathlib.Core.List.{List, map}
 use Prim.Native.Nat.{ℕ, _-_}
-use borrow.Author.Tests.{eq-eqb}
+use borrow.Author.Tests.{le-ltb}
 use lib.ListN.{getD, set, List·getD-map}
 use lib.Seq.{map-set-same}
+use Rattle.dates.specs.Dates.{lastDay}
 use Rattle.rules.specs.declared.Point.{Point}
 use Rattle.rules.specs.declared.Register.{Register}
 use Rattle.rules.specs.declared.Pending.{Pending}
 use Rattle.rules.specs.declared.Pending.the-variants.{Nothing, Request}
 use Rattle.rules.specs.declared.Action.{Action}
-use Rattle.rules.specs.declared.Action.the-variants.{At}
+use Rattle.rules.specs.declared.Action.the-variants.{At, Day}
 use Rattle.rules.specs.declared.PointAction.the-variants.{AskSwitch, Cancel}
 use Rattle.rules.specs.Fields.{withPending}
 use Rattle.rules.specs.Effects.{effectiveDay, effectOf}
 use Rattle.rules.specs.Volumes.{spansOf}
 use Rattle.rules.specs.Answers.{isAccepted}
-use Rattle.rules.specs.Register.{noPoint, pointAt, advanced, says, acted, done, applied}
+use Rattle.rules.specs.Rejections.{firstOf, outOfRange, offCalendar, rows, accepted, answerTo, shown, answer}
+use Rattle.rules.specs.Register.{noPoint, pointAt, view, advanced, says, acted, done, applied}
 use Rattle.rules.specs.Scenes.{on}
 use Rattle.rules.specs.Questions.{holderAnswer, periodAnswer, advanceAnswer}
-use Rattle.rules.specs.Seen.{notAsked, withoutPending, SameAnswers, PendingUnseen, RequestUnseen}
+use Rattle.rules.specs.Seen.{notAsked, withoutPending, SameAnswers, PendingUnseen, onlyDay, RequestUnseen}
+use Rattle.rules.proofs.Theorem.Answered.{passed}
 
 -- The point that stands for none has no request already.
 point-unseen : (p : ℕ) (ps : List Point) → pointAt p (map notAsked ps) ≡ notAsked (pointAt p ps)
@@ -46,38 +49,43 @@ pending-unseen r r′ e =
       advance = λ p. sym (advance-unseen r p) ∙ ap (λ (q : Register). advanceAnswer q p) e ∙ advance-unseen r′ p;
     }
 
--- A register brought up to its own day is itself.
-own-day : (r : Register) → advanced (r .day) r ≡ r
-unfolding advanced
-own-day r = rw (eq-eqb (r .day) (r .day) refl)
-
 -- A request that is stored, another or none, is all that a request and its cancel change.
 stored-unseen : (p : ℕ) (q : Pending) (ps : List Point)
     → map notAsked (set ps (p - 1) (record { fields = withPending (pointAt p ps .fields) q; history = pointAt p ps .history }))
     ≡ map notAsked ps
 stored-unseen p q ps = map-set-same notAsked ps (p - 1) _ noPoint refl
 
-request-done : (r : Register) (p s k d : ℕ) → withoutPending (done (r .day) (At p (AskSwitch s k d)) r) ≡ withoutPending r
+request-done : (r : Register) (t p s k d : ℕ) → withoutPending (done t (At p (AskSwitch s k d)) r) ≡ withoutPending r
 unfolding withoutPending done acted effectOf spansOf
-request-done r p s k d = rw (stored-unseen p (Request s (effectiveDay (r .day) d)) (r .points))
+request-done r t p s k d = rw (stored-unseen p (Request s (effectiveDay t d)) (r .points))
 
-cancel-done : (r : Register) (p s : ℕ) → withoutPending (done (r .day) (At p (Cancel s)) r) ≡ withoutPending r
+cancel-done : (r : Register) (t p s : ℕ) → withoutPending (done t (At p (Cancel s)) r) ≡ withoutPending r
 unfolding withoutPending done acted effectOf spansOf
-cancel-done r p s = rw (stored-unseen p Nothing (r .points))
+cancel-done r t p s = rw (stored-unseen p Nothing (r .points))
 
--- A call on the register's day that would change requests only changes requests only.
-applied-unseen : (r : Register) (a : Action) → withoutPending (done (r .day) a r) ≡ withoutPending r
-    → withoutPending (applied r (on (r .day) a) .register) ≡ withoutPending r
-unfolding applied
-applied-unseen r a e = go (isAccepted (says r (on (r .day) a)))
+-- Where a call on a day is accepted, so is the day alone.
+day-accepted : (r : Register) (t : ℕ) (a : Action) → isAccepted (says r (on t a)) ≡ true → isAccepted (says r (on t Day)) ≡ true
+unfolding says answer answerTo firstOf outOfRange offCalendar rows accepted
+day-accepted r t a ok =
+    let w = passed (r .settings) (r .day) (r .contracts) t a (shown (λ p. view t (pointAt p (advanced t r .points)))) ok in
+    rw (le-ltb lastDay t (w .calendar), le-ltb t (r .day) (w .on))
+
+-- A call that would change requests only changes nothing else that the day alone does not change.
+applied-unseen : (r : Register) (t : ℕ) (a : Action) → withoutPending (done t a (advanced t r)) ≡ withoutPending (advanced t r)
+    → withoutPending (applied r (on t a) .register) ≡ withoutPending (onlyDay r t a)
+unfolding applied done
+applied-unseen r t a e = go (isAccepted (says r (on t a))) refl
   where
-    go : (b : Bool) → withoutPending (cond b (done (r .day) a (advanced (r .day) r)) r) ≡ withoutPending r
-    go true = rw (own-day r) e
-    go false = refl
+    go : (b : Bool) → isAccepted (says r (on t a)) ≡ b
+        → withoutPending (cond b (done t a (advanced t r)) r)
+        ≡ withoutPending (cond b (cond (isAccepted (says r (on t Day))) (done t Day (advanced t r)) r) r)
+    go true ok = rw (day-accepted r t a ok) e
+    go false ok = refl
 
 pub request-unseen : RequestUnseen
 request-unseen =
     record {
-      request = λ r p s k d. pending-unseen _ _ (applied-unseen r (At p (AskSwitch s k d)) (request-done r p s k d));
-      cancel = λ r p s. pending-unseen _ _ (applied-unseen r (At p (Cancel s)) (cancel-done r p s));
+      request = λ r t p s k d. pending-unseen _ _
+          (applied-unseen r t (At p (AskSwitch s k d)) (request-done (advanced t r) t p s k d));
+      cancel = λ r t p s. pending-unseen _ _ (applied-unseen r t (At p (Cancel s)) (cancel-done (advanced t r) t p s));
     }

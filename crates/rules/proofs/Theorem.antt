@@ -19,7 +19,7 @@ use Rattle.rules.proofs.Theorem.Cover.{starts-read, volumes-read, total
 use Rattle.rules.proofs.Theorem.Good.{Wheels}
 use Rattle.rules.proofs.Tied.{Tied, Since}
 use Rattle.rules.proofs.Step.{Agree}
-use Rattle.rules.proofs.Run.{run-agrees, run-answers}
+use Rattle.rules.proofs.Run.{run-settings, run-agrees, run-answers}
 pub mod Jump
 pub mod Good
 pub mod Kept
@@ -69,6 +69,8 @@ day-book-agrees o ok calls =
     record {
       answers = run-answers o ok calls;
       day = sym (h .day);
+      settings = sym (h .settings) ∙ run-settings o calls;
+      book-settings = run-settings o calls;
       contracts = sym (h .contracts);
       points = λ p lo hi. rw (← (h .day)) (point-agrees _ _ _ _ _ (h .points p lo hi));
     }

@@ -4,6 +4,7 @@ use mathlib.Core.Option.{Option, none, some}
 use Prim.Native.Nat.{ℕ}
 use Rattle.rules.specs.declared.Answer.{Answer}
 use Rattle.rules.specs.declared.Answer.the-variants.{Accepted, AcceptedOn, Refused, RefusedUntil}
+use Rattle.rules.specs.declared.Period.{Period}
 use Rattle.rules.specs.declared.HolderAnswer.{HolderAnswer}
 use Rattle.rules.specs.declared.HolderAnswer.the-variants as holder
 use Rattle.rules.specs.declared.PeriodAnswer.{PeriodAnswer}
@@ -31,15 +32,28 @@ date (AcceptedOn e) = some e
 date (Refused n) = none
 date (RefusedUntil d) = some d
 
--- "A question off its range, or on a point not enrolled, gives 22."
+-- The answers to questions: "A question off its range, or on a point not enrolled, gives 22." The number, 0 where the question is
+-- answered, and what is told then: the holder; the period's start, holder and volume; the advance.
 abbrev pub holderNumber : HolderAnswer → ℕ
 holderNumber (holder.Holder h) = 0
 holderNumber holder.OffRange = 22
+
+abbrev pub holderTold : HolderAnswer → Option ℕ
+holderTold (holder.Holder h) = some h
+holderTold holder.OffRange = none
 
 abbrev pub periodNumber : PeriodAnswer → ℕ
 periodNumber (period.Of q) = 0
 periodNumber period.OffRange = 22
 
+abbrev pub periodTold : PeriodAnswer → Option Period
+periodTold (period.Of q) = some q
+periodTold period.OffRange = none
+
 abbrev pub advanceNumber : AdvanceAnswer → ℕ
 advanceNumber (advance.Volume v) = 0
 advanceNumber advance.OffRange = 22
+
+abbrev pub advanceTold : AdvanceAnswer → Option ℕ
+advanceTold (advance.Volume v) = some v
+advanceTold advance.OffRange = none

@@ -1,14 +1,15 @@
--- Demand 3: for every list of the twelve calls from a newly opened register, the register is what the day book says. One statement about
--- the whole list; proofs/Theorem.antt proves it. Definitions only.
+-- Demand 3: for every list of the twelve calls from a newly opened register, the register is what the day book says. 01: "Demand 3 is
+-- one statement about the whole list, not one for each call." proofs/Theorem.antt proves it. Definitions only.
 --
 -- periodsOf    a point's periods, oldest first
 -- markedDays   the days of the marked cells, oldest first
--- holderOn     the day book's holder on a day
+-- holderOn     the day book's holder on a day: the cell's; none where the day has no cell
 -- covering     the periods that a day lies in
 -- dailySums    for each period the sum of its days' volumes
 use mathlib.Core.Path.{_≡_}
 use mathlib.Core.Bool.{Bool, true, false, cond, _&&_}
 use mathlib.Core.List.{List, [], _∷_, map}
+use mathlib.Core.Option.{Option, none, some}
 use Prim.Native.Nat.{ℕ, zero, suc, _+_, _-_, _^_, _≤_}
 use lib.Dec.{eqb, leb, ltb}
 use lib.ListN.{take}
@@ -21,6 +22,7 @@ use Rattle.rules.specs.declared.Call.{Call}
 use Rattle.rules.specs.Volumes.{fullTurn, volume, registered}
 use Rattle.rules.specs.Answers.{isAccepted}
 use Rattle.rules.specs.Rejections.{openingAnswer, due}
+use Rattle.rules.specs.Opening.{settingsOf}
 use Rattle.rules.specs.Register
 use Rattle.rules.specs.Register.{pointAt}
 use Rattle.rules.specs.DayBook
@@ -41,9 +43,9 @@ markedDays [] l = l
 markedDays (cell d h true ∷ cs) l = markedDays cs (d ∷ l)
 markedDays (cell d h false ∷ cs) l = markedDays cs l
 
-unfoldable pub holderOn : ℕ → List Cell → ℕ
-holderOn d [] = 0
-holderOn d (cell k h m ∷ cs) = cond (eqb k d) h (holderOn d cs)
+unfoldable pub holderOn : ℕ → List Cell → Option ℕ
+holderOn d [] = none
+holderOn d (cell k h m ∷ cs) = cond (eqb k d) (some h) (holderOn d cs)
 
 -- "each starts at one and runs to the next, the last without end"
 abbrev pub isBeforeNext : ℕ → List Period → Bool
@@ -75,16 +77,16 @@ total (v ∷ vs) = v + total vs
 -- One point of the register beside its page, where the last day is `last`; the readings and the enrolments come from the list.
 pub record PointAgrees (last : ℕ) (readings : List Span) (enrolments : List ℕ) (page : Page) (point : Point) : Type 0 where
   pub fields : point .fields ≡ page .fields
-  -- "every point's periods start at the day book's marked cells and nowhere else"
+  -- "The register's periods are the marked cells": they start at these and nowhere else
   pub starts : startsOf point ≡ markedDays (page .cells) []
   -- the first period starts on the enrolment day; no point is enrolled twice, and one that is not has no period
   pub first : take 1 (startsOf point) ≡ enrolments
-  -- "each gas day from enrolment to the register's day lies in exactly one of them, with the day book's holder"
+  -- each gas day from enrolment to the register's day has a cell and lies in exactly one period, with the cell's holder
   pub covered : (e d : ℕ) → enrolments ≡ e ∷ [] → e ≤ d → d ≤ last
-      → map (λ (q : Period). q .holder) (covering d (periodsOf point)) ≡ holderOn d (page .cells) ∷ []
-  -- "each booked volume is the sum of its days' volumes, worked out from the list"; so no volume has wrapped
+      → map (λ (q : Period). some (q .holder)) (covering d (periodsOf point)) ≡ holderOn d (page .cells) ∷ []
+  -- "A period's booked volume is the sum over its days", whose volumes are worked out from the list; so no volume has wrapped
   pub volumes : volumesOf point ≡ dailySums (volume readings) last (startsOf point)
-  -- "a point's volumes add up to its registered advance"
+  -- a point's volumes add up to its registered advance
   pub advance : total (volumesOf point) ≡ registered readings
   -- never more than 24 periods, those that are due included; and the full turn is 10^w
   pub room : point .history .count + due (point .fields .supply) ≤ 24
@@ -98,10 +100,13 @@ module _ (o : Opening) (calls : List Call) where
   register = Register.after (Register.opened o) calls
 
   pub record Demand3 : Type 0 where
-    -- "every answer is the day book's", with its date
+    -- every answer is the day book's, "with the date it carries"
     pub answers : Register.answers (Register.opened o) calls ≡ DayBook.answers (DayBook.opened o) calls
     -- "today of its last accepted call, or the first day if there is none"
     pub day : register .day ≡ book .day
+    -- both go by the opening's settings, from the first call to the last
+    pub settings : register .settings ≡ settingsOf o
+    pub book-settings : book .settings ≡ settingsOf o
     pub contracts : register .contracts ≡ book .contracts
     pub points : (p : ℕ) → 1 ≤ p → p ≤ 32
         → PointAgrees (register .day) (DayBook.readings (DayBook.opened o) calls p) (DayBook.enrolments (DayBook.opened o) calls p)

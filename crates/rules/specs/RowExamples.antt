@@ -13,6 +13,7 @@ pub mod Readings
 pub mod Full
 pub mod Events
 pub mod Questions
+pub mod Varied
 use Rattle.rules.specs.RowExamples.Answers.{AnswerExamples}
 use Rattle.rules.specs.RowExamples.Openings.{OpeningExamples}
 use Rattle.rules.specs.RowExamples.Order.{OrderExamples}
@@ -24,6 +25,7 @@ use Rattle.rules.specs.RowExamples.Readings.{ReadingExamples}
 use Rattle.rules.specs.RowExamples.Full.{FullExamples}
 use Rattle.rules.specs.RowExamples.Events.{EventExamples}
 use Rattle.rules.specs.RowExamples.Questions.{QuestionExamples}
+use Rattle.rules.specs.RowExamples.Varied.{VariedExamples}
 
 pub record RowExamples : Type 0 where
   pub answers : AnswerExamples
@@ -37,3 +39,4 @@ pub record RowExamples : Type 0 where
   pub full : FullExamples
   pub events : EventExamples
   pub questions : QuestionExamples
+  pub varied : VariedExamples

@@ -9,6 +9,7 @@
 use mathlib.Core.Path.{_≡_}
 use mathlib.Core.Bool.{Bool}
 use mathlib.Core.List.{List, [], _∷_, map}
+use mathlib.Core.Option.{Option, some}
 use Prim.Native.Nat.{ℕ}
 use Rattle.rules.specs.declared.Period.{Period}
 use Rattle.rules.specs.declared.Fields.{Fields}
@@ -47,7 +48,7 @@ said ((c gives a) ∷ ls) = a ∷ said ls
 abbrev startsIn : List Period → List ℕ
 startsIn ps = map (λ (q : Period). q .start) ps
 
-abbrev holdersOn : List ℕ → List Cell → List ℕ
+abbrev holdersOn : List ℕ → List Cell → List (Option ℕ)
 holdersOn ds cs = map (λ (d : ℕ). holderOn d cs) ds
 
 module _ (o : Opening) (ls : List Line) where
@@ -69,7 +70,7 @@ module _ (o : Opening) (ls : List Line) where
     pub periods : periodsOf (pointAt p (register o (calls ls) .points)) ≡ ps
     pub advance : advanceAnswer (register o (calls ls)) p ≡ Volume v
     pub starts : markedDays (book o (calls ls) .page p .cells) [] ≡ startsIn ps
-    pub holders : holdersOn (startsIn ps) (book o (calls ls) .page p .cells) ≡ map (λ (q : Period). q .holder) ps
+    pub holders : holdersOn (startsIn ps) (book o (calls ls) .page p .cells) ≡ map (λ (q : Period). some (q .holder)) ps
     pub volumes :
         dailySums (volume (DayBook.readings (DayBook.opened o) (calls ls) p)) (book o (calls ls) .day) (startsIn ps)
         ≡ map (λ (q : Period). q .volume) ps

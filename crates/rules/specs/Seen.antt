@@ -1,14 +1,17 @@
--- What those who may only ask see of a pending request: nothing. "A new supplier's name reaches them only once the
--- switch is confirmed." proofs/Seen.antt proves the statements. Definitions only.
+-- What those who may only ask see of a pending request: nothing, so that a new supplier's name reaches them only once
+-- the switch has taken effect. proofs/Seen.antt proves the statements. Definitions only.
 use mathlib.Core.Path.{_≡_}
+use mathlib.Core.Bool.{cond}
 use mathlib.Core.List.{map}
 use Prim.Native.Nat.{ℕ}
 use Rattle.rules.specs.declared.Point.{Point}
 use Rattle.rules.specs.declared.Register.{Register}
 use Rattle.rules.specs.declared.Pending.the-variants.{Nothing}
-use Rattle.rules.specs.declared.Action.the-variants.{At}
+use Rattle.rules.specs.declared.Action.{Action}
+use Rattle.rules.specs.declared.Action.the-variants.{At, Day}
 use Rattle.rules.specs.declared.PointAction.the-variants.{AskSwitch, Cancel}
 use Rattle.rules.specs.Fields.{withPending}
+use Rattle.rules.specs.Answers.{isAccepted}
 use Rattle.rules.specs.Register.{register, applied}
 use Rattle.rules.specs.Questions.{holderAnswer, periodAnswer, advanceAnswer}
 use Rattle.rules.specs.Scenes.{on}
@@ -30,8 +33,12 @@ pub record SameAnswers (r r′ : Register) : Type 0 where
 abbrev pub PendingUnseen : Type 0
 PendingUnseen = (r r′ : Register) → withoutPending r ≡ withoutPending r′ → SameAnswers r r′
 
--- So a request on the register's day, accepted or not, changes no answer; nor does its cancel.
+-- The register that a call which does nothing else on its day would leave: brought up to that day where it is accepted, else as it was.
+abbrev pub onlyDay : Register → ℕ → Action → Register
+onlyDay r t a = cond (isAccepted (applied r (on t a) .answer)) (applied r (on t Day) .register) r
+
+-- So a request, on whatever day, changes no answer that the day itself does not change; nor does its cancel.
 pub record RequestUnseen : Type 0 where
-  pub request : (r
-      : Register) (p s k d : ℕ) → SameAnswers (applied r (on (r .day) (At p (AskSwitch s k d))) .register) r
-  pub cancel : (r : Register) (p s : ℕ) → SameAnswers (applied r (on (r .day) (At p (Cancel s))) .register) r
+  pub request : (r : Register) (t p s k d : ℕ)
+      → SameAnswers (applied r (on t (At p (AskSwitch s k d))) .register) (onlyDay r t (At p (AskSwitch s k d)))
+  pub cancel : (r : Register) (t p s : ℕ) → SameAnswers (applied r (on t (At p (Cancel s))) .register) (onlyDay r t (At p (Cancel s)))

@@ -2,3 +2,4 @@ pub mod Ends
 pub mod Sized
 pub mod Served
 pub mod Told
+pub mod Examples

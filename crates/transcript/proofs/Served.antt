@@ -1,5 +1,5 @@
 -- However an input is cut, what is handed on for writing is its transcript. The statement is specs/Transcript.antt.
-use Prim.Native.Nat.{ℕ, suc, _+_, _/_, _≤_}
+use Prim.Native.Nat.{ℕ, zero, suc, _+_, _/_, _≤_, _<_}
 use mathlib.Core.Path.{_≡_, refl, sym, ap, ap₂, _∙_}
 use mathlib.Core.Bool.{Bool, true, false, cond, false≢true}
 use mathlib.Core.List.{List, [], _∷_, _++_, append-assoc, append-nil}
@@ -20,19 +20,31 @@ use Rattle.message.specs.Lines.{kindOf}
 use Rattle.message.specs.Reading.{readLine}
 use Rattle.answer_lines.specs.Answers.{answerLine}
 use Rattle.input.specs.declared.Part.{Part}
-use Rattle.input.specs.Lines.{fitting, lastLine}
+use Rattle.input.specs.Lines.{fitting, lastLine, linesOf}
 use Rattle.input.specs.Part.{capped, kept, partOf}
 use Rattle.input.specs.Machine.{said, afterLines, transcript, Run, behind, run}
-use Rattle.input.proofs.Feeds.{fitting-all}
+use Rattle.input.proofs.Feeds.{fitting-all, fitting-le, fitting-some}
 use Rattle.input.proofs.Parts.{kept-partOf}
-use Rattle.input.proofs.Runs.{run-append, run-part-le, run-transcript, lastSaid, lastState}
+use Rattle.input.proofs.Runs.{run-append, run-part-le, run-lines, run-transcript, lastSaid, lastState}
 use Rattle.desk.specs.declared.Desk.{Desk}
 use Rattle.desk.specs.Desk.{answerOf, deskAfter}
 use Rattle.session.specs.declared.Session.{Session}
 use Rattle.session.specs.declared.Fed.{Fed}
 use Rattle.session.specs.Session.{nextDesk, sayLine, runOf, runFrom, takenOf, fedRun, fedAs, FedBy}
 use Rattle.transcript.specs.Ends.{startSession, missingFeed, closing, closingPiece, closedNext, ClosedFrom}
-use Rattle.transcript.specs.Transcript.{Closing, done, more, Served, fed, ended, TranscriptServed}
+use Rattle.transcript.specs.Transcript.{
+  Closing,
+  done,
+  more,
+  Through,
+  fed,
+  ended,
+  Served,
+  served,
+  TranscriptServed,
+  EveryFeedGoesOn,
+  lastDesk,
+}
 use Rattle.session.proofs.Capped.{read-capped}
 use Rattle.transcript.proofs.Sized.{Sized, run-sized}
 
@@ -84,16 +96,22 @@ closing-from-start d w s h = closing-all s (omega arith) h
 
 -- ---- the last line
 
--- a run over nothing but the line feed that is missing
-abbrev ends : Run Desk → List ℕ
-ends r = r .out ++ closing (r .state)
+-- what is said by the end of an input, and the state there
+abbrev saidBy : Desk → List ℕ → List ℕ → List ℕ
+saidBy d l input = lastSaid nextDesk sayLine (runOf d l input)
 
-last-line : (d : Desk) (l : List ℕ) →
-    ends (runOf d l (cond (eqb (length l) 0) [] (10 ∷ [])))
-    ≡ lastSaid nextDesk sayLine (runOf d l []) ++ closing (lastState nextDesk sayLine (runOf d l []))
+abbrev deskBy : Desk → List ℕ → List ℕ → Desk
+deskBy d l input = lastState nextDesk sayLine (runOf d l input)
+
+-- a run over nothing but the line feed that is missing
+abbrev missing : List ℕ → List ℕ
+missing l = cond (eqb (length l) 0) [] (10 ∷ [])
+
+last-line : (d : Desk) (l : List ℕ) → (runOf d l (missing l) .out ≡ saidBy d l []) × (runOf d l (missing l) .state ≡ deskBy d l [])
 unfolding run said afterLines
-last-line d [] = refl
-last-line d (b ∷ l) = rw (ne-eqb (length (b ∷ l)) 0 (λ e. not-suc-le-zero {n = length l} (omega arith)), append-nil)
+last-line d [] = (refl, refl)
+last-line d (b ∷ l) =
+    rw (ne-eqb (length (b ∷ l)) 0 (λ e. not-suc-le-zero {n = length l} (omega arith))) (refl, refl)
 
 -- ---- the whole input
 
@@ -104,32 +122,32 @@ module _ (s : Session) (l : List ℕ) (is : s .part ≡ partOf l) (short : lengt
   run-is : (input : List ℕ) → runFrom s input ≡ runOf (s .desk) l input
   run-is input = ap (λ (p : List ℕ). runOf (s .desk) p input) kept-is
 
-  missing-is : missingFeed s ≡ cond (eqb (length l) 0) [] (10 ∷ [])
+  missing-is : missingFeed s ≡ missing l
   unfolding partOf
   missing-is = ap (λ (p : Part). cond (eqb (p .len) 0) [] (10 ∷ [])) is
 
-abbrev wholly : Desk → List ℕ → List ℕ → List ℕ
-wholly d l input = lastSaid nextDesk sayLine (runOf d l input) ++ closing (lastState nextDesk sayLine (runOf d l input))
+-- an input goes on where its first part stopped
+said-append : (d : Desk) (l a rest : List ℕ) →
+    saidBy d l (a ++ rest) ≡ runOf d l a .out ++ saidBy (runOf d l a .state) (runOf d l a .part) rest
+said-append d l a rest = rw (run-append nextDesk sayLine d l a rest, append-assoc)
 
-four : (a x y z : List ℕ) → a ++ ((x ++ y) ++ z) ≡ ((a ++ x) ++ y) ++ z
-four a x y z = ap (λ (l : List ℕ). a ++ l) (append-assoc x y z) ∙ sym (append-assoc (a ++ x) y z ∙ append-assoc a x (y ++ z))
-
-wholly-append : (d : Desk) (l a rest : List ℕ) →
-    runOf d l a .out ++ wholly (runOf d l a .state) (runOf d l a .part) rest ≡ wholly d l (a ++ rest)
-wholly-append d l a rest =
-    let r = runOf d l a in
-    let x = runOf (r .state) (r .part) rest in
-    rw (run-append nextDesk sayLine d l a rest)
-    (four (r .out) (x .out) (said nextDesk sayLine (x .state) (lastLine (x .part))) (closing (lastState nextDesk sayLine x)))
+desk-append : (d : Desk) (l a rest : List ℕ) → deskBy d l (a ++ rest) ≡ deskBy (runOf d l a .state) (runOf d l a .part) rest
+desk-append d l a rest = rw (run-append nextDesk sayLine d l a rest)
 
 missing-short : (b : Bool) → length {A = ℕ} (cond b [] (10 ∷ [])) ≤ 1
 missing-short true = omega arith
 missing-short false = omega arith
 
-served : {s : Session} {input w : List ℕ} (l : List ℕ) → s .part ≡ partOf l → length l ≤ 97 → Sized (s .desk) → Served s input w →
-    w ≡ wholly (s .desk) l input
+-- what an input's run hands on, where it comes to, and that an open register there has 32 points
+pub record Runs (d : Desk) (l input w : List ℕ) (e : Desk) : Type 0 where
+  pub text : w ≡ saidBy d l input
+  pub desk : e ≡ deskBy d l input
+  pub sized : Sized e
+
+through : {s : Session} {input w : List ℕ} {e : Desk} (l : List ℕ) → s .part ≡ partOf l → length l ≤ 97 → Sized (s .desk) →
+    Through s input w e → Runs (s .desk) l input w e
 unfolding fedAs
-served {s} l is short sized (fed {piece = c} {rest = rest} {w = w} before after f h next) =
+through {s} l is short sized (fed {piece = c} {rest = rest} {w = w} before after f h next) =
     let r = fedRun s c before in
     let a = take (takenOf c before) c in
     let run = run-is s l is short a in
@@ -141,29 +159,33 @@ served {s} l is short sized (fed {piece = c} {rest = rest} {w = w} before after 
     let taken-is : take (f .taken) c ≡ a = ap (λ (y : Fed). take (y .taken) c) (h .result) in
     let part-le : length (r .part) ≤ 97 = ap-le run (run-part-le nextDesk sayLine (s .desk) l a short) in
     let sized′ : Sized (f .session .desk) = rw (desk-is, run) (run-sized (s .desk) l a sized) in
-    let tail : w ≡ wholly (r .state) (r .part) rest = rw desk-is at (served (r .part) part-is part-le sized′ next) in
-    rw (text, tail, taken-is, run) (wholly-append (s .desk) l a rest)
+    let tail = through (r .part) part-is part-le sized′ next in
+    record {
+      text = rw (text, tail .text, desk-is, taken-is, run) (sym (said-append (s .desk) l a rest));
+      desk = rw (tail .desk, desk-is, taken-is, run) (sym (desk-append (s .desk) l a rest));
+      sized = tail .sized;
+    }
   where
     ap-le : {x y : Run Desk} → x ≡ y → length (y .part) ≤ 97 → length (x .part) ≤ 97
     ap-le e k = rw e k
-served {s} l is short sized (ended {w = w} before after f h room close) =
+through {s} l is short sized (ended before after f h room) =
     let r = fedRun s (missingFeed s) before in
-    let m : List ℕ = cond (eqb (length l) 0) [] (10 ∷ []) in
-    let missing = missing-is s l is short in
     let enough : fitting (length before / 24) (missingFeed s) ≡ length (missingFeed s) =
     fitting-all (length before / 24) (missingFeed s) (omega (arith, missing-short (eqb (s .part .len) 0)))
     in
-    let all : take (takenOf (missingFeed s) before) (missingFeed s) ≡ m =
-    take-all (takenOf (missingFeed s) before) (missingFeed s) (omega (arith, enough)) ∙ missing
+    let all : take (takenOf (missingFeed s) before) (missingFeed s) ≡ missing l =
+    take-all (takenOf (missingFeed s) before) (missingFeed s) (omega (arith, enough)) ∙ missing-is s l is short
     in
-    let run : r ≡ runOf (s .desk) l m = ap (runFrom s) all ∙ run-is s l is short m in
+    let run : r ≡ runOf (s .desk) l (missing l) = ap (runFrom s) all ∙ run-is s l is short (missing l) in
     let text : take (f .written) after ≡ r .out =
     ap₂ (λ (k : ℕ) (o : List ℕ). take k o) (ap (λ (y : Fed). y .written) (h .result)) (h .bytes) ∙ put-start (r .out) before
     in
     let desk-is : f .session .desk ≡ r .state = ap (λ (y : Fed). y .session .desk) (h .result) in
-    let sized′ : Sized (f .session .desk) = rw (desk-is, run) (run-sized (s .desk) l m sized) in
-    let tail : w ≡ closing (r .state) = closing-from-start (f .session .desk) w sized′ close ∙ ap closing desk-is in
-    rw (text, tail, run) (last-line (s .desk) l)
+    record {
+      text = rw (text, run) (last-line (s .desk) l .0);
+      desk = rw (desk-is, run) (last-line (s .desk) l .1);
+      sized = rw (desk-is, run) (run-sized (s .desk) l (missing l) sized);
+    }
 
 -- a line says what its first 97 bytes say
 say-capped : (d : Desk) (l : List ℕ) → sayLine d (capped l) ≡ sayLine d l
@@ -172,8 +194,28 @@ say-capped d l = rw (read-capped l)
 next-capped : (d : Desk) (l : List ℕ) → nextDesk d (capped l) ≡ nextDesk d l
 next-capped d l = rw (read-capped l)
 
-pub transcript-served : TranscriptServed
+from-start : (input w : List ℕ) (e : Desk) → Through startSession input w e → Runs (startSession .desk) [] input w e
 unfolding startSession
-transcript-served input w h =
-    served [] refl (omega arith) (λ e. absurd (false≢true e)) h ∙
-    run-transcript nextDesk sayLine say-capped next-capped closing (startSession .desk) input
+from-start input w e h = through [] refl (omega arith) (λ q. absurd (false≢true q)) h
+
+pub transcript-served : TranscriptServed
+transcript-served input v (served {w = w} {c = c} {d = d} h close) =
+    let r = from-start input w d h in
+    let tail : c ≡ closing (deskBy (startSession .desk) [] input) =
+    closing-from-start d c (r .sized) close ∙ ap closing (r .desk) in
+    ap₂ (λ (x y : List ℕ). x ++ y) (r .text) tail
+    ∙ run-transcript nextDesk sayLine say-capped next-capped closing (startSession .desk) input
+
+-- the desk that an input comes to, line by line
+pub desk-reached : (input w : List ℕ) (d : Desk) → Through startSession input w d → d ≡ lastDesk input
+unfolding linesOf capped
+desk-reached input w d h =
+    from-start input w d h .desk ∙ run-lines nextDesk sayLine say-capped next-capped (startSession .desk) [] input .1
+
+pub every-feed-goes-on : EveryFeedGoesOn
+unfolding fedAs
+every-feed-goes-on s piece out =
+    record {
+      most = fitting-le (length out / 24) piece;
+      some = λ room any. fitting-some (length out / 24) piece (omega arith) any;
+    }

@@ -1,4 +1,5 @@
--- The answers printed are the day book's, and the closing lines list the register of demand 3. The statement is specs/Transcript.antt.
+-- The answers printed and the closing lines are the day book's, and so is what is asked at the end. The statements are
+-- specs/Transcript.antt.
 use Prim.Native.Nat.{ℕ}
 use mathlib.Core.Path.{_≡_, refl, sym, ap, ap₂, _∙_}
 use mathlib.Core.Bool.{Bool, true, false, cond}
@@ -23,9 +24,10 @@ use Rattle.message.specs.declared.Message.the-variants.{Open, Ask, Unreadable}
 use Rattle.message.specs.Lines.{kindOf}
 use Rattle.message.specs.Reading.{readLine}
 use Rattle.answer_lines.specs.Answers.{answerLine}
-use Rattle.listing.specs.Listing.{listing}
+use Rattle.questions.proofs.Asking.{asking}
+use Rattle.listing.proofs.ByBook.{listing-by-book}
 use Rattle.input.specs.Lines.{linesOf}
-use Rattle.input.specs.Machine.{said, afterLines}
+use Rattle.input.specs.Machine.{said, afterLines, transcript}
 use Rattle.desk.specs.declared.Desk.{Desk}
 use Rattle.desk.specs.Desk.{desk, answerOf, deskAfter}
 use Rattle.session.specs.Session.{nextDesk, sayLine}
@@ -43,9 +45,16 @@ use Rattle.transcript.specs.Transcript.{
   told,
   callsIn,
   storyOf,
+  lastDesk,
+  storyDesk,
+  bookClosing,
+  bookOutput,
   TranscriptTold,
   EveryInput,
+  EveryOutput,
+  EveryDesk,
 }
+use Rattle.transcript.proofs.Served.{transcript-served, desk-reached}
 
 -- ---- after the opening
 
@@ -114,7 +123,7 @@ closed-said r (x ∷ ls) = go (readLine x) (closed-said r ls)
 
 -- ---- the story
 
--- where a story leaves the desk
+-- where a story leaves a desk with this register behind it
 abbrev deskOf : Register → Story → Desk
 deskOf r untold = desk false r
 deskOf r (told o cs) = desk true (R.after (R.opened o) cs)
@@ -156,17 +165,36 @@ accepted-told : (s : Story) (o : Opening) (cs : List Call) → s ≡ told o cs �
 unfolding Accepted
 accepted-told s o cs e h = rw e at h
 
+story-desk : (s : Story) → deskOf (startSession .desk .register) s ≡ storyDesk s
+unfolding startSession
+story-desk untold = refl
+story-desk (told o cs) = refl
+
+-- the closing lines of the desk that a story comes to
+closing-told : (s : Story) → Accepted s → closing (storyDesk s) ≡ bookClosing s
+unfolding Accepted startSession
+closing-told untold h = refl
+closing-told (told o cs) h = listing-by-book o h cs
+
 pub every-input : EveryInput
 unfolding startSession
 every-input input =
     let ms = map readLine (linesOf input) in
     let r = startSession .desk .register in
-    let end = closed-after r (linesOf input) in
+    let end : lastDesk input ≡ storyDesk (storyOf ms) = closed-after r (linesOf input) ∙ story-desk (storyOf ms) in
     record {
       answers = closed-said r (linesOf input);
-      unopened = λ e. ap closing (end ∙ ap (deskOf r) e);
-      opened = λ o cs e. (
-        day-book-agrees o (accepted-told (storyOf ms) o cs e (story-accepted ms)) cs,
-        ap closing (end ∙ ap (deskOf r) e),
-      );
+      closing-lines = ap closing end ∙ closing-told (storyOf ms) (story-accepted ms);
+      desk = end;
+      opened = λ o cs e.
+          let ok = accepted-told (storyOf ms) o cs e (story-accepted ms) in (day-book-agrees o ok cs, asking .agree o ok cs);
     }
+
+pub every-output : EveryOutput
+unfolding bookOutput transcript
+every-output input w h =
+    let t = every-input input in
+    transcript-served input w h ∙ ap₂ (λ (x y : List ℕ). x ++ y) (t .answers) (t .closing-lines)
+
+pub every-desk : EveryDesk
+every-desk input w d h = desk-reached input w d h ∙ every-input input .desk

@@ -9,7 +9,7 @@ use Rattle.text.specs.Appending.{put}
 use Rattle.input.specs.Part.{partOf}
 use Rattle.desk.specs.declared.Desk.{Desk}
 use Rattle.desk.specs.Desk.{desk}
-use Rattle.register.specs.Calls.{newRegister}
+use Rattle.register.specs.Opens.{noRegister}
 use Rattle.listing.specs.declared.Listed.{Listed}
 use Rattle.listing.specs.Listing
 use Rattle.listing.specs.Listing.{listing, piece}
@@ -17,11 +17,7 @@ use Rattle.session.specs.declared.Session.{Session}
 
 -- Before any input: the register of a desk that is not ready is not looked at.
 unfoldable pub startSession : Session
-startSession =
-    record {
-      desk = desk false (newRegister (record { settings = record { w = 0; a = 0; b = 0; default = 0; resort = 0 }; day = 0 }));
-      part = partOf [];
-    }
+startSession = record { desk = desk false noRegister; part = partOf [] }
 
 -- The line feed that a last line lacks.
 abbrev pub missingFeed : Session → List ℕ

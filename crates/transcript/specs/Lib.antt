@@ -1,2 +1,3 @@
 pub mod Ends
 pub mod Transcript
+pub mod Examples

@@ -1,8 +1,8 @@
 -- A whole input: what the calls of `feed`, `finish` and `close` hand on for writing, in whatever pieces the input comes, and what that
 -- means. Definitions only: proofs/Served and proofs/Told prove them.
-use Prim.Native.Nat.{ℕ, _≤_}
+use Prim.Native.Nat.{ℕ, _≤_, _<_}
 use mathlib.Core.Path.{_≡_}
-use mathlib.Core.Bool.{cond}
+use mathlib.Core.Bool.{true, cond}
 use mathlib.Core.List.{List, [], _∷_, _++_, map}
 use lib.ListN.{length, take}
 use Rattle.rules.specs.declared.Opening.{Opening}
@@ -10,24 +10,24 @@ use Rattle.rules.specs.declared.Call.{Call}
 use Rattle.rules.specs.declared.Answer.{Answer}
 use Rattle.rules.specs.Answers.{isAccepted}
 use Rattle.rules.specs.Rejections.{openingAnswer}
-use Rattle.rules.specs.Register
 use Rattle.rules.specs.DayBook
 use Rattle.rules.specs.DayBook.{Book}
-use Rattle.rules.specs.Demand3.{Demand3}
+use Rattle.rules.specs.Demand3.{Demand3, register}
+use Rattle.questions.specs.Asking.{Asked}
 use Rattle.message.specs.declared.Message.{Message}
 use Rattle.message.specs.declared.Message.the-variants.{Open, Ask, Unreadable}
 use Rattle.message.specs.Lines.{kindOf}
 use Rattle.message.specs.Reading.{readLine}
 use Rattle.answer_lines.specs.Answers.{answerLine}
 use Rattle.listing.specs.declared.Listed.{Listed}
-use Rattle.listing.specs.Listing.{listing}
+use Rattle.listing.specs.ByBook.{bookListing}
 use Rattle.input.specs.Lines.{linesOf}
 use Rattle.input.specs.Machine.{said, afterLines, transcript}
 use Rattle.desk.specs.declared.Desk.{Desk}
-use Rattle.desk.specs.Desk.{unreadable}
+use Rattle.desk.specs.Desk.{desk, unreadable}
 use Rattle.session.specs.declared.Session.{Session}
 use Rattle.session.specs.declared.Fed.{Fed}
-use Rattle.session.specs.Session.{nextDesk, sayLine, FedBy}
+use Rattle.session.specs.Session.{nextDesk, sayLine, fedAs, FedBy}
 use Rattle.transcript.specs.Ends.{startSession, missingFeed, closing, ClosedFrom}
 
 -- ---- what is handed on for writing
@@ -38,17 +38,30 @@ pub data Closing : Desk → ℕ → List ℕ → Type 0 where
   more : {d : Desk} {from : ℕ} {w : List ℕ} (before after : List ℕ) (x : Listed) → ClosedFrom d from before after x →
       Closing d (x .next) w → Closing d from (take (x .written) after ++ w)
 
--- `feed` over pieces, each as far as it was taken; at the end `finish`, with room for one answer, and then `close`.
+-- `feed` over pieces, each as far as it was taken, and at the end `finish`, with room for one answer: what is handed on for the lines of an
+-- input, and the desk that it comes to.
+pub data Through : Session → List ℕ → List ℕ → Desk → Type 0 where
+  fed : {s : Session} {piece rest w : List ℕ} {d : Desk} (before after : List ℕ) (f : Fed) → FedBy s piece before after f →
+      Through (f .session) rest w d → Through s (take (f .taken) piece ++ rest) (take (f .written) after ++ w) d
+  ended : {s : Session} (before after : List ℕ) (f : Fed) → FedBy s (missingFeed s) before after f → 24 ≤ length before →
+      Through s [] (take (f .written) after) (f .session .desk)
+
+-- And then `close`.
 pub data Served : Session → List ℕ → List ℕ → Type 0 where
-  fed : {s : Session} {piece rest w : List ℕ} (before after : List ℕ) (f : Fed) → FedBy s piece before after f →
-      Served (f .session) rest w → Served s (take (f .taken) piece ++ rest) (take (f .written) after ++ w)
-  ended : {s : Session} {w : List ℕ} (before after : List ℕ) (f : Fed) → FedBy s (missingFeed s) before after f →
-      24 ≤ length before → Closing (f .session .desk) 0 w → Served s [] (take (f .written) after ++ w)
+  served : {s : Session} {input w c : List ℕ} {d : Desk} → Through s input w d → Closing d 0 c → Served s input (w ++ c)
 
 -- However an input is cut, what is handed on is the answers to its lines, in order, and then the closing lines.
 abbrev pub TranscriptServed : Type 0
 TranscriptServed = (input w : List ℕ) → Served startSession input w →
     w ≡ transcript nextDesk sayLine closing (startSession .desk) input
+
+-- `feed` takes no more than it is handed, and with room for one answer some of it: to hand in the rest again and again takes all.
+pub record FeedGoesOn (s : Session) (piece out : List ℕ) : Type 0 where
+  pub most : fedAs s piece out .taken ≤ length piece
+  pub some : 24 ≤ length out → 0 < length piece → 0 < fedAs s piece out .taken
+
+abbrev pub EveryFeedGoesOn : Type 0
+EveryFeedGoesOn = (s : Session) (piece out : List ℕ) → FeedGoesOn s piece out
 
 -- ---- what that means: the day book beside it
 
@@ -99,18 +112,39 @@ storyOf (Unreadable ∷ ms) = storyOf ms
 abbrev pub storyTold : List ℕ → Story
 storyTold input = storyOf (map readLine (linesOf input))
 
--- The desk at the end of an input.
+-- The desk at the end of an input, line by line; and by its story: the register after the calls that its lines read as.
 abbrev pub lastDesk : List ℕ → Desk
 lastDesk input = afterLines nextDesk sayLine (startSession .desk) (linesOf input)
+
+abbrev pub storyDesk : Story → Desk
+storyDesk untold = startSession .desk
+storyDesk (told o cs) = desk true (register o cs)
+
+-- The closing lines, by the day book and the list alone.
+abbrev pub bookClosing : Story → List ℕ
+bookClosing untold = []
+bookClosing (told o cs) = bookListing o cs
+
+-- All that an input gives, by the day book's definitions alone: the answers to its lines, and the closing lines.
+unfoldable pub bookOutput : List ℕ → List ℕ
+bookOutput input = said nextBook sayBook closed (linesOf input) ++ bookClosing (storyTold input)
 
 pub record TranscriptTold (input : List ℕ) : Type 0 where
   -- the answers printed are the day book's for the calls that the lines read as
   pub answers : said nextDesk sayLine (startSession .desk) (linesOf input) ≡ said nextBook sayBook closed (linesOf input)
-  -- where no opening was accepted there are no closing lines
-  pub unopened : storyTold input ≡ untold → closing (lastDesk input) ≡ []
-  -- else they list the register after those calls, of which demand 3 holds
-  pub opened : (o : Opening) (cs : List Call) → storyTold input ≡ told o cs →
-      Demand3 o cs × (closing (lastDesk input) ≡ listing (Register.after (Register.opened o) cs))
+  -- so are the closing lines; there are none where no opening was accepted
+  pub closing-lines : closing (lastDesk input) ≡ bookClosing (storyTold input)
+  -- the desk holds the register after those calls, of which demand 3 holds, and its questions are answered by the day book
+  pub desk : lastDesk input ≡ storyDesk (storyTold input)
+  pub opened : (o : Opening) (cs : List Call) → storyTold input ≡ told o cs → Demand3 o cs × Asked o cs
 
 abbrev pub EveryInput : Type 0
 EveryInput = (input : List ℕ) → TranscriptTold input
+
+-- What `registre` writes: however an input is cut, the whole of what is handed on is the day book's output.
+abbrev pub EveryOutput : Type 0
+EveryOutput = (input w : List ℕ) → Served startSession input w → w ≡ bookOutput input
+
+-- What `ask` asks: the desk that an input comes to, however it is cut.
+abbrev pub EveryDesk : Type 0
+EveryDesk = (input w : List ℕ) (d : Desk) → Through startSession input w d → d ≡ storyDesk (storyTold input)

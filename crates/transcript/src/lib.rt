@@ -3,9 +3,7 @@ use desk::Desk;
 use input::no_part;
 use listing::Listed;
 use listing::put_listing;
-use register::Start;
-use register::begin;
-use rules::Settings;
+use register::no_register;
 use session::Fed;
 use session::Session;
 use session::feed;
@@ -18,19 +16,9 @@ ghost use Rattle.transcript.specs.Ends.{startSession, missingFeed, Close
 pub fn start() -> Session
     ensures { λ r. ⌜ r ≡ startSession ⌝ }
 {
-    let settings = Settings {
-        w: 0,
-        a: 0,
-        b: 0,
-        default: 0,
-        resort: 0,
-    };
     let desk = Desk {
         ready: false,
-        register: begin(Start {
-            settings: settings,
-            day: 0,
-        }),
+        register: no_register(),
     };
     Session {
         desk: desk,

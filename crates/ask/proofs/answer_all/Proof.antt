@@ -8,10 +8,10 @@ use Rattle.ask.proofs.answer_all.Statement.{statement}
 use Rattle.ask.proofs.answer_all.Tie as tie
 
 abbrev Inv-loop : tie.InvT-loop
-Inv-loop r out₀ from₀ turns₀ out from turns = length out ≡ 65536
+Inv-loop r out₀ from₀ turns₀ left out from turns = length out ≡ 65536
 
 abbrev μ-loop : tie.MeasureT-loop
-μ-loop r out₀ from₀ turns₀ out from turns = turns
+μ-loop r out₀ from₀ turns₀ left out from turns = turns
 
 large-buffer-requires : tie.Need-large-buffer-requires Inv-loop μ-loop
 large-buffer-requires c κs = search needs
@@ -35,7 +35,7 @@ put-every-requires : tie.Need-put-every-requires Inv-loop μ-loop
 put-every-requires c κs = search needs
 
 array-share-prefix-out : tie.Need-array-share-prefix-out Inv-loop μ-loop
-array-share-prefix-out c = handed-within _ _ _ _ _ (c .before .put-every .ensures)
+array-share-prefix-out c = handed-within _ _ _ _ _ (c .before .before .put-every .ensures)
 
 slice-aggregate-write-out : tie.Need-slice-aggregate-write-out Inv-loop μ-loop
 slice-aggregate-write-out c = sym (length-take-le _ _ (array-share-prefix-out (c .before)))
@@ -51,6 +51,12 @@ loop-less c = search needs
 
 loop-again : tie.Need-loop-again Inv-loop μ-loop
 loop-again c = search needs
+
+slice-aggregate-write-all : tie.Need-slice-aggregate-write-all Inv-loop μ-loop
+slice-aggregate-write-all c = search needs
+
+write-all-requires : tie.Need-write-all-requires Inv-loop μ-loop
+write-all-requires c κs = search needs
 
 returns-3 : tie.Need-returns-3 Inv-loop μ-loop
 returns-3 c = search needs
@@ -74,4 +80,6 @@ answer-all-spec =
     returns-2
     loop-less
     loop-again
+    slice-aggregate-write-all
+    write-all-requires
     returns-3)

@@ -23,11 +23,11 @@ put-usage-requires c κs = search needs
 array-share-prefix-out : tie.Need-array-share-prefix-out
 array-share-prefix-out c = appended-within 0 usage _ _ _ (c .before .put-usage .ensures) (omega arith)
 
-slice-aggregate-write-out : tie.Need-slice-aggregate-write-out
-slice-aggregate-write-out c = sym (length-take-le _ _ (array-share-prefix-out (c .before)))
+slice-aggregate-write-all : tie.Need-slice-aggregate-write-all
+slice-aggregate-write-all c = sym (length-take-le _ _ (array-share-prefix-out (c .before)))
 
-write-out-requires : tie.Need-write-out-requires
-write-out-requires c κs = search needs
+write-all-requires : tie.Need-write-all-requires
+write-all-requires c κs = search needs
 
 returns : tie.Need-returns
 returns c = search needs
@@ -53,8 +53,8 @@ main-spec =
     slice-aggregate-put-usage
     put-usage-requires
     array-share-prefix-out
-    slice-aggregate-write-out
-    write-out-requires
+    slice-aggregate-write-all
+    write-all-requires
     returns
     read-all-requires
     returns-2

@@ -1,15 +1,19 @@
--- The pieces read stand within their buffer, and their answers have room.
+-- What is still to be taken stands within what was read, what was read within its buffer, and the answers have room.
+use Prim.Native.Nat.{_≤_}
 use mathlib.Core.Path.{_≡_}
 use lib.ListN.{length}
+use native.Mathlib.Omega.{arith}
+use Rattle.ask.proofs.Taken.{part-taken}
 use borrow.Author.Needs.{needs}
 use Rattle.ask.proofs.read_all.Statement.{statement}
 use Rattle.ask.proofs.read_all.Tie as tie
 
 abbrev Inv-loop : tie.InvT-loop
-Inv-loop input₀ out₀ s₀ turns₀ t10 input out s turns = (length input ≡ 4096) × (length out ≡ 98304)
+Inv-loop input₀ out₀ s₀ from₀ end₀ turns₀ t10 input out s from end turns =
+    (length input ≡ 4096) × (length out ≡ 98304) × (from ≤ end) × (end ≤ 4096)
 
 abbrev μ-loop : tie.MeasureT-loop
-μ-loop input₀ out₀ s₀ turns₀ t10 input out s turns = turns
+μ-loop input₀ out₀ s₀ from₀ end₀ turns₀ t10 input out s from end turns = turns
 
 buffer-requires : tie.Need-buffer-requires Inv-loop μ-loop
 buffer-requires c κs = search needs
@@ -41,23 +45,17 @@ fail-requires c κs = search needs
 returns : tie.Need-returns Inv-loop μ-loop
 returns c = search needs
 
+finished-requires : tie.Need-finished-requires Inv-loop μ-loop
+finished-requires c κs = search needs
+
+returns-2 : tie.Need-returns-2 Inv-loop μ-loop
+returns-2 c = search needs
+
 slice-aggregate-count : tie.Need-slice-aggregate-count Inv-loop μ-loop
 slice-aggregate-count c = search needs
 
 count-requires : tie.Need-count-requires Inv-loop μ-loop
 count-requires c κs = search needs
-
-array-share-prefix-input : tie.Need-array-share-prefix-input Inv-loop μ-loop
-array-share-prefix-input c = search needs
-
-slice-aggregate-feed : tie.Need-slice-aggregate-feed Inv-loop μ-loop
-slice-aggregate-feed c = search needs
-
-slice-aggregate-feed-2 : tie.Need-slice-aggregate-feed-2 Inv-loop μ-loop
-slice-aggregate-feed-2 c = search needs
-
-feed-requires : tie.Need-feed-requires Inv-loop μ-loop
-feed-requires c κs = search needs
 
 loop-less : tie.Need-loop-less Inv-loop μ-loop
 loop-less c = search needs
@@ -65,14 +63,43 @@ loop-less c = search needs
 loop-again : tie.Need-loop-again Inv-loop μ-loop
 loop-again c = search needs
 
-slice-aggregate-finish : tie.Need-slice-aggregate-finish Inv-loop μ-loop
-slice-aggregate-finish c = search needs
+sub-feed : tie.Need-sub-feed Inv-loop μ-loop
+sub-feed c = search needs
 
-finish-requires : tie.Need-finish-requires Inv-loop μ-loop
-finish-requires c κs = search needs
+part-feed-start : tie.Need-part-feed-start Inv-loop μ-loop
+part-feed-start c = search needs
 
-returns-2 : tie.Need-returns-2 Inv-loop μ-loop
-returns-2 c = search needs
+part-feed-end : tie.Need-part-feed-end Inv-loop μ-loop
+part-feed-end c = search needs
+
+slice-aggregate-feed : tie.Need-slice-aggregate-feed Inv-loop μ-loop
+slice-aggregate-feed c = search needs
+
+feed-requires : tie.Need-feed-requires Inv-loop μ-loop
+feed-requires c κs = search needs
+
+add-from : tie.Need-add-from Inv-loop μ-loop
+add-from c =
+    let c₃ = c .before .before .before in
+    let l = c₃ .before .before .before .before .before .before .loop in
+    let taken = part-taken _ (l .input) (l .from) (l .end) _ _ _ (c₃ .feed .ensures) in
+    omega arith
+
+loop-less-2 : tie.Need-loop-less-2 Inv-loop μ-loop
+loop-less-2 c = search needs
+
+loop-again-2 : tie.Need-loop-again-2 Inv-loop μ-loop
+loop-again-2 c =
+    let c₃ = c .before .before .before in
+    let l = c₃ .before .before .before .before .before .before .loop in
+    let taken = part-taken _ (l .input) (l .from) (l .end) _ _ _ (c₃ .feed .ensures) in
+    (search needs, search needs, omega arith, search needs)
+
+not-taken-requires : tie.Need-not-taken-requires Inv-loop μ-loop
+not-taken-requires c κs = search needs
+
+returns-3 : tie.Need-returns-3 Inv-loop μ-loop
+returns-3 c = search needs
 
 pub read-all-spec : {M : Type 1} → statement M
 read-all-spec =
@@ -90,14 +117,19 @@ read-all-spec =
     slice-aggregate-fail
     fail-requires
     returns
+    finished-requires
+    returns-2
     slice-aggregate-count
     count-requires
-    array-share-prefix-input
-    slice-aggregate-feed
-    slice-aggregate-feed-2
-    feed-requires
     loop-less
     loop-again
-    slice-aggregate-finish
-    finish-requires
-    returns-2)
+    sub-feed
+    part-feed-start
+    part-feed-end
+    slice-aggregate-feed
+    feed-requires
+    add-from
+    loop-less-2
+    loop-again-2
+    not-taken-requires
+    returns-3)

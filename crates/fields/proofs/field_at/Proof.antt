@@ -1,19 +1,24 @@
 -- `fields::field_at` meets its contract: a `;`, and then what the sort asks for.
-use mathlib.Core.Path.{_∙_}
 use Rattle.fields.specs.declared.Sort.the-variants.{Date, Number}
-use Rattle.fields.proofs.FieldSteps.{field-end, field-other, field-here}
+use Rattle.fields.proofs.FieldSteps.{field-end, field-other}
+use Rattle.fields.proofs.Handed.{step-none, field-step}
 use borrow.Author.Needs.{needs}
 use Rattle.fields.proofs.field_at.Statement.{statement}
 use Rattle.fields.proofs.field_at.Tie as tie
 
 returns : tie.Need-returns
-returns c = λ k. (field-end _ _ (c .if1 .taken) _, tt)
+returns c =
+    let a = c .before .before .args in
+    step-none (a .s .now) (a .at) _ (field-end _ _ (c .if1 .taken) (a .known) (a .sort))
 
 shared-slice-read-if2 : tie.Need-shared-slice-read-if2
 shared-slice-read-if2 c = search needs
 
 returns-2 : tie.Need-returns-2
-returns-2 c = λ k. (field-other _ _ (c .before .before .if1 .left) _ (c .if2 .taken), tt)
+returns-2 c =
+    let c₂ = c .before .before in
+    let a = c₂ .before .before .args in
+    step-none (a .s .now) (a .at) _ (field-other _ _ (c₂ .if1 .left) (a .known) (a .sort) (c .if2 .taken))
 
 enum-told : tie.Need-enum-told
 enum-told c = search needs
@@ -37,15 +42,17 @@ returns-3 : tie.Need-returns-3
 returns-3 c =
     let c₃ = c .before .before .before in
     let c₅ = c₃ .before .before in
-    λ k. let w = c .known-date-at .ensures k in
-    (rw (c .before .enum-told .given .1) (field-here _ _ (c₅ .if1 .left) Date (c₃ .if2 .left) ∙ w .0), w .1)
+    let a = c₅ .before .before .args in
+    rw (c .before .enum-told .given .1)
+    (field-step (a .s .now) (a .at) (a .known) Date _ (c₅ .if1 .left) (c₃ .if2 .left) (c .known-date-at .ensures))
 
 returns-4 : tie.Need-returns-4
 returns-4 c =
     let c₃ = c .before .before .before in
     let c₅ = c₃ .before .before in
-    λ k. let w = c .known-number-at .ensures k in
-    (rw (c .before .enum-told2 .given .1) (field-here _ _ (c₅ .if1 .left) Number (c₃ .if2 .left) ∙ w .0), w .1)
+    let a = c₅ .before .before .args in
+    rw (c .before .enum-told2 .given .1)
+    (field-step (a .s .now) (a .at) (a .known) Number _ (c₅ .if1 .left) (c₃ .if2 .left) (c .known-number-at .ensures))
 
 pub field-at-spec : {M : Type 1} → statement M
 field-at-spec =

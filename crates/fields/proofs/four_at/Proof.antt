@@ -66,12 +66,7 @@ returns c =
     let w₁ = c₄ .wide2 .ensures in
     let w₂ = c₂ .wide3 .ensures in
     let w₃ = c .wide4 .ensures in
-    rw (four-bytes _ _ (c₉ .pre)) (
-      omega arith,
-      (omega arith, (omega arith, (omega arith, (omega arith, tt)))),
-      omega
-          arith,
-    )
+    rw (four-bytes _ _ (c₉ .pre)) (omega arith, omega arith)
 
 pub four-at-spec : {M : Type 1} → statement M
 four-at-spec =

@@ -1,24 +1,30 @@
 -- `fields::known_date_at` meets its contract: the bytes are those of the known date, or a date is read.
-use Prim.Native.Nat.{_+_, _*_}
-use mathlib.Core.Path.{_≡_, ap, _∙_}
+use Prim.Native.Nat.{_+_, _*_, _^_, _<_}
+use mathlib.Core.Path.{_≡_, ap, sym, _∙_}
 use native.Mathlib.Omega.{arith}
 use lib.ListN.{take, drop, length-drop}
 use lib.Seq.{drop-drop}
-use Rattle.reading.specs.Numbers.{number, readIn}
+use Rattle.reading.specs.Days.{dayIn}
 use Rattle.fields.specs.Known.{packed}
-use Rattle.fields.proofs.KnownDates.{known-day, now-known, day-short, eight-packed}
+use Rattle.fields.specs.With.{value, stepAt}
+use Rattle.fields.proofs.KnownDates.{date-short, date-same, date-other, eight-packed, eight-bytes}
+use Rattle.fields.proofs.Handed.{step-value, step-none, date-step, date-none}
 use borrow.Author.Needs.{needs}
 use Rattle.fields.proofs.known_date_at.Statement.{statement}
 use Rattle.fields.proofs.known_date_at.Tie as tie
 
 returns : tie.Need-returns
-returns c = λ k. (day-short _ (rw length-drop (omega arith)), tt)
+returns c =
+    let a = c .before .before .args in
+    step-none (a .s .now) (a .at) _ (date-short (a .known) _ (rw length-drop (omega arith)))
 
 sub-if2 : tie.Need-sub-if2
 sub-if2 c = search needs
 
 returns-2 : tie.Need-returns-2
-returns-2 c = λ k. (day-short _ (rw length-drop (omega arith)), tt)
+returns-2 c =
+    let a = c .before .before .before .args in
+    step-none (a .s .now) (a .at) _ (date-short (a .known) _ (rw length-drop (omega arith)))
 
 four-at-requires : tie.Need-four-at-requires
 four-at-requires c κs = search needs
@@ -42,16 +48,17 @@ returns-3 : tie.Need-returns-3
 returns-3 c =
     let c₂ = c .before .before in
     let c₃ = c₂ .before in
-    let c₇ = c₃ .before .before .before .before in
+    let c₆ = c₃ .before .before .before in
+    let c₇ = c₆ .before in
     let a = c₇ .args in
-    let p = eight-packed (a .s .now) (a .at) (omega arith) (c₃ .four-at .ensures .1) (c₂ .four-at2 .ensures .1) in
+    let p = eight-packed (a .s .now) (a .at) (omega arith) in
     let e : packed (take 8 (drop (a .at) (a .s .now))) ≡ a .known .bytes = omega
-    (arith, p .0, c₃ .four-at .ensures .0, c₂ .four-at2 .ensures .0, c .if3 .taken) in
-    λ k. (
-      known-day (a .known) _ k (rw length-drop (omega arith)) (p .1) e ∙ ap (number (a .known .day))
-          (drop-drop 8 (a .at) (a .s .now)),
-      k,
-    )
+    (arith, p, c₃ .four-at .ensures .0, c₂ .four-at2 .ensures .0, c .if3 .taken) in
+    let b = eight-bytes (a .s .now) (a .at) (λ i. omega (arith, c₆ .shared-slice-known .given i)) in
+    step-value (a .s .now) (a .at) (a .at + 8) (a .known .day) (a .known) _
+    (date-same (a .known) (drop (a .at) (a .s .now)) (rw length-drop (omega arith)) b e ∙
+    ap (λ l. value (a .known .day) l (a .known)) (drop-drop 8 (a .at) (a .s .now)))
+    (record { from = omega arith; to = omega arith })
 
 date-at-requires : tie.Need-date-at-requires
 date-at-requires c κs = search needs
@@ -63,20 +70,38 @@ enum-told : tie.Need-enum-told
 enum-told c = search needs
 
 returns-4 : tie.Need-returns-4
-returns-4 c = λ k. (c .before .before .date-at .ensures ∙ ap (readIn _) (c .enum-told .given .1), tt)
+returns-4 c =
+    let c₂ = c .before .before in
+    let c₃ = c₂ .before in
+    let c₅ = c₃ .before .before in
+    let c₆ = c₅ .before in
+    let c₁₀ = c₆ .before .before .before .before in
+    let a = c₁₀ .args in
+    let l = drop (a .at) (a .s .now) in
+    let p = eight-packed (a .s .now) (a .at) (omega arith) in
+    let small : a .known .bytes < 256 ^ 8 = omega arith in
+    let other = date-other (a .known) l small
+    (λ e. omega (arith, p, c₆ .four-at .ensures .0, c₅ .four-at2 .ensures .0, c₃ .if3 .left)) in
+    date-none (a .at) l _ (packed (take 8 l)) (dayIn l) (c₂ .date-at .ensures) (c .enum-told .given .1) ∙
+    ap (stepAt (a .at) l) (sym other)
 
 returns-5 : tie.Need-returns-5
 returns-5 c =
     let c₃ = c .before .before .before in
-    let c₆ = c₃ .before .before .before in
+    let c₄ = c₃ .before in
+    let c₆ = c₄ .before .before in
     let c₇ = c₆ .before in
     let c₁₁ = c₇ .before .before .before .before in
     let a = c₁₁ .args in
-    let p = eight-packed (a .s .now) (a .at) (omega arith) (c₇ .four-at .ensures .1) (c₆ .four-at2 .ensures .1) in
-    let e = c₃ .date-at .ensures ∙ ap (readIn _) (c .before .day .given .1) in
-    let b : packed (take 8 (drop (a .at) (a .s .now))) ≡ c₇ .four-at .result + 4294967296 * c₆ .four-at2 .result =
-    omega (arith, p .0, c₇ .four-at .ensures .0, c₆ .four-at2 .ensures .0) in
-    λ k. (e, rw b at (now-known _ _ _ e))
+    let l = drop (a .at) (a .s .now) in
+    let p = eight-packed (a .s .now) (a .at) (omega arith) in
+    let b : packed (take 8 l) ≡ c₇ .four-at .result + 4294967296 * c₆ .four-at2 .result =
+    omega (arith, p, c₇ .four-at .ensures .0, c₆ .four-at2 .ensures .0) in
+    let small : a .known .bytes < 256 ^ 8 = omega arith in
+    let other = date-other (a .known) l small
+    (λ e. omega (arith, b, c₄ .if3 .left)) in
+    rw b at (date-step (a .at) l _ (packed (take 8 l)) _ _ (dayIn l) (c₃ .date-at .ensures) (c .before .day .given .1) ∙
+    ap (stepAt (a .at) l) (sym other))
 
 pub known-date-at-spec : {M : Type 1} → statement M
 known-date-at-spec =

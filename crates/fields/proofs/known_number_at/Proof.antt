@@ -1,6 +1,7 @@
 -- `fields::known_number_at` meets its contract: the number, and the date that was known.
-use mathlib.Core.Path.{ap, _∙_}
-use Rattle.reading.specs.Numbers.{readIn}
+use lib.ListN.{drop}
+use Rattle.reading.specs.Numbers.{numberOf}
+use Rattle.fields.proofs.Handed.{number-step, number-none}
 use borrow.Author.Needs.{needs}
 use Rattle.fields.proofs.known_number_at.Statement.{statement}
 use Rattle.fields.proofs.known_number_at.Tie as tie
@@ -15,12 +16,18 @@ enum-told : tie.Need-enum-told
 enum-told c = search needs
 
 returns : tie.Need-returns
-returns c = λ k. (c .before .before .number-at .ensures ∙ ap (readIn _) (c .enum-told .given .1), tt)
+returns c =
+    let c₂ = c .before .before in
+    let a = c₂ .before .before .args in
+    let l = drop (a .at) (a .s .now) in
+    number-none (a .at) l _ (a .known) (numberOf l) (c₂ .number-at .ensures) (c .enum-told .given .1)
 
 returns-2 : tie.Need-returns-2
 returns-2 c =
     let c₃ = c .before .before .before in
-    λ k. (c₃ .number-at .ensures ∙ ap (readIn _) (c .before .v .given .1), k)
+    let a = c₃ .before .before .args in
+    let l = drop (a .at) (a .s .now) in
+    number-step (a .at) l _ (a .known) _ _ (numberOf l) (c₃ .number-at .ensures) (c .before .v .given .1)
 
 pub known-number-at-spec : {M : Type 1} → statement M
 known-number-at-spec =

@@ -1,27 +1,32 @@
 -- `fields::read_row` meets its contract: the values so far, and what is read from here on, are what is read in all.
-use Prim.Native.Nat.{ℕ, _≤_, _<_, _-_}
-use mathlib.Core.Path.{_≡_, refl, _∙_, ap}
+use Prim.Native.Nat.{_≤_, _<_, _-_}
+use mathlib.Core.Path.{_≡_, refl, _∙_}
+use mathlib.Core.Bool.{true, false}
 use mathlib.Core.List.{[]}
 use native.Mathlib.Omega.{arith}
-use lib.ListN.{length, length-set, take, drop}
-use Rattle.fields.specs.Known.{IsKnown}
-use Rattle.fields.specs.Fields.{values as read, fieldsOf, sortsFrom, stepIn}
-use Rattle.fields.proofs.FieldSteps.{fields-bad, fields-on, fields-done, one-more, too-many, fields-are}
+use lib.ListN.{length, length-set, take, drop, replicate}
+use Rattle.reading.proofs.Places.{Within, within-self, within-on}
+use Rattle.fields.specs.With.{fieldsWith}
+use Rattle.fields.specs.Fields.{sortsFrom}
+use Rattle.fields.proofs.FieldSteps.{fields-bad, fields-on, fields-done, one-more, zeros-left, row-is}
+use Rattle.fields.proofs.Handed.{field-was, field-was-none, row-read, row-none}
 use borrow.Author.Needs.{needs}
 use Rattle.fields.proofs.read_row.Statement.{statement}
 use Rattle.fields.proofs.read_row.Tie as tie
 
 abbrev Inv-loop : tie.InvT-loop
 Inv-loop line from values₀ count second known₀ at₀ i₀ values known at i =
-    (i ≤ count) × (count ≤ 7) × (length values ≡ 7) × (IsKnown known₀ →
-    (fieldsOf (sortsFrom second 0 count) [] (drop from line) ≡
-    fieldsOf (sortsFrom second i (count - i)) (take i values) (drop at line)) × IsKnown known)
+    (i ≤ count) × (count ≤ 7) × (length values ≡ 7) × Within line from at × (drop i values ≡ replicate (7 - i) 0) ×
+    (fieldsWith known₀ (sortsFrom second 0 count) [] (drop from line) ≡
+    fieldsWith known (sortsFrom second i (count - i)) (take i values) (drop at line))
 
 abbrev μ-loop : tie.MeasureT-loop
 μ-loop line from values₀ count second known₀ at₀ i₀ values known at i = count - i
 
 returns : tie.Need-returns Inv-loop μ-loop
-returns c = λ k. (too-many _ _ (c .if1 .taken), k)
+returns c =
+    let a = c .before .before .args in
+    row-none (a .last) (a .shape) (a .from) (a .line .now) _ (c .if1 .taken)
 
 loop-holds : tie.Need-loop-holds Inv-loop μ-loop
 loop-holds c =
@@ -29,7 +34,7 @@ loop-holds c =
     let a = c₃ .args in
     let n = a .shape .count in
     let all : n - 0 ≡ n = omega arith in
-    (omega arith, omega arith, refl, λ k. (rw all, k))
+    (omega arith, omega arith, refl, within-self (a .line .now) (a .from), refl, rw all)
 
 sort-at-requires : tie.Need-sort-at-requires Inv-loop μ-loop
 sort-at-requires c κs = search needs
@@ -51,14 +56,12 @@ returns-2 c =
     let c₉ = c₅ .before .before .before .before in
     let a = c₉ .args in
     let l = c₅ .loop in
-    λ k.
-    let w = l .inv .3 k in
-    let f = c₂ .field-at .ensures (w .1) in
-    let e = rw (c₃ .sort-at .ensures) at (f .0) ∙ ap (stepIn (a .line .now)) (c .enum-told .given .1) in (
-      fields-are (a .shape) _ (omega arith) ∙ w .0 ∙ fields-bad (a .shape .second) (a .shape .count) (l .i)
-          (omega arith) _ _ e,
-      w .1,
-    )
+    let e = field-was-none (a .line .now) (l .at) (l .known) _ _ (rw (c₃ .sort-at .ensures) at (c₂ .field-at .ensures))
+    (c .enum-told .given .1) in
+    row-read (a .last) (a .shape) (a .from) (a .line .now) _ (l .values) (l .at) (l .i) false (l .known)
+    (row-is (a .last) (a .shape) _ (omega arith) ∙ l .inv .5 ∙
+    fields-bad (l .known) (a .shape .second) (a .shape .count) (l .i) (omega arith) _ _ e)
+    (l .inv .3) (omega arith) (omega arith) (l .inv .2) (l .inv .4)
 
 mul-values : tie.Need-mul-values Inv-loop μ-loop
 mul-values c = search needs
@@ -81,18 +84,16 @@ loop-again c =
     let a = c₁₀ .args in
     let l = c₆ .loop in
     let v = c .before .v .given .0 .0 in
-    let here : l .i < length (l .values) = omega arith in (
+    let here : l .i < length (l .values) = omega arith in
+    let f = field-was (a .line .now) (l .at) (l .known) _ _ (rw (c₄ .sort-at .ensures) at (c₃ .field-at .ensures))
+    _ _ _ (c .before .v .given .1) in (
       omega arith,
       omega arith,
       length-set (l .values) _ _ ∙ l .inv .2,
-      λ k.
-          let w = l .inv .3 k in
-          let f = c₃ .field-at .ensures (w .1) in
-          let e = rw (c₄ .sort-at .ensures) at (f .0) ∙ ap (stepIn (a .line .now)) (c .before .v .given .1) in (
-            rw (one-more (l .values) (l .i) v here) (w .0 ∙ fields-on (a .shape .second) (a .shape .count) (l .i)
-                (omega arith) _ _ _ _ e),
-            rw (c .before .v .given .1) at (f .1),
-          ),
+      within-on (a .line .now) (a .from) (l .at) _ (l .inv .3) (f .1),
+      zeros-left (l .values) (l .i) v here (l .inv .2) (l .inv .4),
+      rw (one-more (l .values) (l .i) v here) (l .inv .5 ∙
+          fields-on (l .known) (a .shape .second) (a .shape .count) (l .i) (omega arith) _ _ _ _ _ (f .0)),
     )
 
 returns-3 : tie.Need-returns-3 Inv-loop μ-loop
@@ -100,14 +101,10 @@ returns-3 c =
     let c₅ = c .before .before .before .before .before in
     let a = c₅ .args in
     let l = c .before .loop in
-    λ k.
-    let w = l .inv .3 k in
-    let all : l .i ≡ a .shape .count = omega arith in (
-      fields-are (a .shape) _ (omega arith) ∙ w .0 ∙
-          fields-done (a .shape .second) (a .shape .count) (l .i) _ _ (omega arith) ∙
-          ap (λ (n : ℕ). read (take n (l .values)) (drop (l .at) (a .line .now))) all,
-      w .1,
-    )
+    row-read (a .last) (a .shape) (a .from) (a .line .now) _ (l .values) (l .at) (l .i) true (l .known)
+    (row-is (a .last) (a .shape) _ (omega arith) ∙ l .inv .5 ∙
+    fields-done (l .known) (a .shape .second) (a .shape .count) (l .i) _ _ (omega arith))
+    (l .inv .3) (omega arith) (omega arith) (l .inv .2) (l .inv .4)
 
 pub read-row-spec : {M : Type 1} → statement M
 read-row-spec =

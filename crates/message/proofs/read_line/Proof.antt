@@ -2,6 +2,8 @@
 use mathlib.Core.Path.{sym, _∙_}
 use borrow.Author.Tests.{lt-leb, not-true, not-false}
 use lib.Seq.{length-take-le}
+use Rattle.fields.proofs.KnownStays.{first-is-known}
+use Rattle.fields.proofs.RowsRead.{row-fields}
 use Rattle.message.specs.Reading.{readLine}
 use Rattle.message.proofs.LineTexts.{line-with, with-more, with-all}
 use borrow.Author.Needs.{needs}
@@ -40,9 +42,9 @@ returns-2 c =
     let c₉ = c₈ .before in
     let c₁₁ = c₉ .before .before in
     let s = c₁₁ in
-    let read = c₂ .read-row .ensures (c₄ .first-known .ensures) in
+    let read = row-fields _ _ _ _ _ _ _ (c₂ .read-row .ensures) (first-is-known _ (c₄ .first-known .ensures)) in
     let with = line-with (s .args .line .now) _ _ _ _ (c₉ .if1 .left) (c₈ .word-end .ensures .0)
-    (c₆ .kind-named .ensures) (c₅ .shape-of .ensures) (read .0) in
+    (c₆ .kind-named .ensures) (c₅ .shape-of .ensures) read in
     sym (with ∙ rw (not-true (c₂ .read-row .result .ok) (c .if2 .taken)))
 
 returns-3 : tie.Need-returns-3
@@ -56,9 +58,9 @@ returns-3 c =
     let c₁₁ = c₁₀ .before in
     let c₁₃ = c₁₁ .before .before in
     let s = c₁₃ in
-    let read = c₄ .read-row .ensures (c₆ .first-known .ensures) in
+    let read = row-fields _ _ _ _ _ _ _ (c₄ .read-row .ensures) (first-is-known _ (c₆ .first-known .ensures)) in
     let with = line-with (s .args .line .now) _ _ _ _ (c₁₁ .if1 .left) (c₁₀ .word-end .ensures .0)
-    (c₈ .kind-named .ensures) (c₇ .shape-of .ensures) (read .0) in
+    (c₈ .kind-named .ensures) (c₇ .shape-of .ensures) read in
     sym (with ∙ rw (not-false (c₄ .read-row .result .ok) (c₂ .if2 .left))
     (with-more (c₈ .kind-named .result) _ (s .args .line .now) _ (c .if3 .taken)))
 
@@ -76,9 +78,9 @@ returns-4 c =
     let c₁₂ = c₁₁ .before in
     let c₁₄ = c₁₂ .before .before in
     let s = c₁₄ in
-    let read = c₅ .read-row .ensures (c₇ .first-known .ensures) in
+    let read = row-fields _ _ _ _ _ _ _ (c₅ .read-row .ensures) (first-is-known _ (c₇ .first-known .ensures)) in
     let with = line-with (s .args .line .now) _ _ _ _ (c₁₂ .if1 .left) (c₁₁ .word-end .ensures .0)
-    (c₉ .kind-named .ensures) (c₈ .shape-of .ensures) (read .0) in
+    (c₉ .kind-named .ensures) (c₈ .shape-of .ensures) read in
     c .message-of .ensures ∙ sym (with ∙ rw (not-false (c₅ .read-row .result .ok) (c₃ .if2 .left))
     (with-all (c₉ .kind-named .result) (c₈ .shape-of .result) _ (s .args .line .now) _ (c₈ .shape-of .ensures)
     (c .before .if3 .left)))

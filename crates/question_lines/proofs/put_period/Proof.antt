@@ -7,14 +7,14 @@ use Rattle.question_lines.proofs.put_period.Tie as tie
 enum-known-answer : tie.Need-enum-known-answer
 enum-known-answer c = search needs
 
-cast-put-ok-three : tie.Need-cast-put-ok-three
-cast-put-ok-three c = search needs
+cast-put-ok-period : tie.Need-cast-put-ok-period
+cast-put-ok-period c = search needs
 
-cast-put-ok-three-2 : tie.Need-cast-put-ok-three-2
-cast-put-ok-three-2 c = search needs
+cast-put-ok-period-2 : tie.Need-cast-put-ok-period-2
+cast-put-ok-period-2 c = search needs
 
-put-ok-three-requires : tie.Need-put-ok-three-requires
-put-ok-three-requires c κs = search needs
+put-ok-period-requires : tie.Need-put-ok-period-requires
+put-ok-period-requires c κs = search needs
 
 enum-told : tie.Need-enum-told
 enum-told c = search needs
@@ -30,7 +30,7 @@ unfolding periodReply
 returns c =
     let c₂ = c .before .before in
     let c₇ = c₂ .before .before .before .before .before in
-    rw (c₇ .answer .given .1) (c₂ .put-ok-three .ensures)
+    rw (c₇ .answer .given .1) (c₂ .put-ok-period .ensures)
 
 same-length-2 : tie.Need-same-length-2
 same-length-2 c = search needs
@@ -47,9 +47,9 @@ put-period-spec =
     tie.close
     (tie.spec
     enum-known-answer
-    cast-put-ok-three
-    cast-put-ok-three-2
-    put-ok-three-requires
+    cast-put-ok-period
+    cast-put-ok-period-2
+    put-ok-period-requires
     enum-told
     put-refusal-requires
     same-length

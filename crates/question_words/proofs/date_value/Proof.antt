@@ -1,6 +1,9 @@
 -- The value of a word that is a date.
-use mathlib.Core.Path.{sym, ap, _∙_}
-use Rattle.question_words.specs.Asked.{valueOf, dateValue}
+use mathlib.Core.Path.{ap, _∙_}
+use lib.ListN.{length}
+use Rattle.reading.specs.Days.{dayIn}
+use Rattle.reading.proofs.Places.{day-leaves}
+use Rattle.question_words.specs.Asked.{wholeOf, dateValue}
 use Rattle.question_words.proofs.Values.{whole-value}
 use borrow.Author.Needs.{needs}
 use Rattle.question_words.proofs.date_value.Statement.{statement}
@@ -16,8 +19,8 @@ returns : tie.Need-returns
 unfolding dateValue
 returns c =
     let c₃ = c .before .before .before in
-    c .whole .ensures ∙ whole-value (c₃ .args .word .now) (c .before .date-at .result) ∙ ap valueOf
-    (sym (c .before .date-at .ensures))
+    let w = c₃ .args .word .now in
+    c .whole .ensures ∙ ap (wholeOf (length w)) (c .before .date-at .ensures) ∙ whole-value w (dayIn w) (day-leaves w)
 
 pub date-value-spec : {M : Type 1} → statement M
 date-value-spec = tie.close (tie.spec date-at-requires whole-requires returns)

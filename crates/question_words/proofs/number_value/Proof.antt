@@ -1,6 +1,9 @@
 -- The value of a word that is a number.
-use mathlib.Core.Path.{sym, ap, _∙_}
-use Rattle.question_words.specs.Asked.{valueOf, numberValue}
+use mathlib.Core.Path.{ap, _∙_}
+use lib.ListN.{length}
+use Rattle.reading.specs.Numbers.{numberOf}
+use Rattle.reading.proofs.Places.{number-leaves}
+use Rattle.question_words.specs.Asked.{wholeOf, numberValue}
 use Rattle.question_words.proofs.Values.{whole-value}
 use borrow.Author.Needs.{needs}
 use Rattle.question_words.proofs.number_value.Statement.{statement}
@@ -16,8 +19,8 @@ returns : tie.Need-returns
 unfolding numberValue
 returns c =
     let c₃ = c .before .before .before in
-    c .whole .ensures ∙ whole-value (c₃ .args .word .now) (c .before .number-at .result) ∙ ap valueOf
-    (sym (c .before .number-at .ensures))
+    let w = c₃ .args .word .now in
+    c .whole .ensures ∙ ap (wholeOf (length w)) (c .before .number-at .ensures) ∙ whole-value w (numberOf w) (number-leaves w)
 
 pub number-value-spec : {M : Type 1} → statement M
 number-value-spec = tie.close (tie.spec number-at-requires whole-requires returns)

@@ -4,6 +4,7 @@ use mathlib.Core.Path.{_≡_, refl, _∙_}
 use native.Mathlib.Omega.{arith}
 use lib.ListN.{length, drop, length-drop}
 use Rattle.reading.specs.Numbers.{fixedOf}
+use Rattle.reading.proofs.Places.{field-value, field-bad}
 use Rattle.reading.proofs.Steps.{below-digit, above-digit, in-digit, fixed-none, fixed-on, fixed-few, fixed-end, fixed-small, fixed-grows}
 use borrow.Author.Needs.{needs}
 use Rattle.reading.proofs.fixed_at.Statement.{statement}
@@ -18,13 +19,15 @@ abbrev μ-loop : tie.MeasureT-loop
 μ-loop s at count end v₀ i₀ v i = end - i
 
 returns : tie.Need-returns Inv-loop μ-loop
-returns c = fixed-few _ 0 _ (rw length-drop (omega arith))
+returns c = let a = c .before .before .args in field-bad (a .s .now) (a .at) _ (fixed-few _ 0 _ (rw length-drop (omega arith)))
 
 sub-if2 : tie.Need-sub-if2 Inv-loop μ-loop
 sub-if2 c = search needs
 
 returns-2 : tie.Need-returns-2 Inv-loop μ-loop
-returns-2 c = fixed-few _ 0 _ (rw length-drop (omega arith))
+returns-2 c =
+    let a = c .before .before .before .args in
+    field-bad (a .s .now) (a .at) _ (fixed-few _ 0 _ (rw length-drop (omega arith)))
 
 add-end : tie.Need-add-end Inv-loop μ-loop
 add-end c = search needs
@@ -41,13 +44,19 @@ shared-slice-read-c c = search needs
 
 returns-3 : tie.Need-returns-3 Inv-loop μ-loop
 returns-3 c =
-    let l = c .before .before .before .loop in
-    l .inv .5 ∙ fixed-none _ (l .i) (omega arith) _ (l .v) (omega arith) (below-digit _ (c .if3 .taken))
+    let c₃ = c .before .before .before in
+    let a = c₃ .before .before .before .before .args in
+    let l = c₃ .loop in
+    field-bad (a .s .now) (a .at) _
+    (l .inv .5 ∙ fixed-none _ (l .i) (omega arith) _ (l .v) (omega arith) (below-digit _ (c .if3 .taken)))
 
 returns-4 : tie.Need-returns-4 Inv-loop μ-loop
 returns-4 c =
-    let l = c .before .before .before .before .loop in
-    l .inv .5 ∙ fixed-none _ (l .i) (omega arith) _ (l .v) (omega arith) (above-digit _ (c .if4 .taken))
+    let c₄ = c .before .before .before .before in
+    let a = c₄ .before .before .before .before .args in
+    let l = c₄ .loop in
+    field-bad (a .s .now) (a .at) _
+    (l .inv .5 ∙ fixed-none _ (l .i) (omega arith) _ (l .v) (omega arith) (above-digit _ (c .if4 .taken)))
 
 mul-v : tie.Need-mul-v Inv-loop μ-loop
 mul-v c =
@@ -82,8 +91,10 @@ loop-again c =
 
 returns-5 : tie.Need-returns-5 Inv-loop μ-loop
 returns-5 c =
+    let a = c .before .before .before .before .before .args in
     let l = c .before .loop in
-    l .inv .5 ∙ fixed-end _ (l .i) _ (l .v) (omega arith)
+    field-value (a .s .now) (a .at) (a .at + a .count) (l .v) _ (l .inv .5 ∙ fixed-end _ (l .i) _ (l .v) (omega arith))
+    (record { from = omega arith; to = omega arith })
 
 pub fixed-at-spec : {M : Type 1} → statement M
 fixed-at-spec =

@@ -1,31 +1,33 @@
-use Prim.Native.Nat.{ℕ, _≤_}
+-- What is still to be taken stands within what was read, what was read within its buffer, and the answers within theirs.
+use Prim.Native.Nat.{_≤_}
 use mathlib.Core.Path.{_≡_, sym}
-use lib.ListN.{length, take}
+use lib.ListN.{length}
 use lib.Seq.{length-take-le}
 use native.Mathlib.Omega.{arith}
+use Rattle.session.proofs.Within.{fed-within}
+use Rattle.registre.proofs.Taken.{part-taken}
 use borrow.Author.Needs.{needs}
 use Rattle.registre.proofs.main.Statement.{statement}
 use Rattle.registre.proofs.main.Tie as tie
-use Rattle.registre.proofs.main.Reads as reads
-use Rattle.registre.proofs.main.Lts as lts
-use Rattle.io.proofs.count.Reads as count-reads
-use Rattle.io.proofs.large_buffer.Reads as large-buffer-reads
-use Rattle.libc.proofs.read.Reads as read-reads
-use Rattle.os.proofs.fail.Reads as fail-reads
-use Rattle.registre.proofs.answer_buffer.Reads as answer-buffer-reads
-use Rattle.registre.proofs.write_out.Reads as write-out-reads
-use Rattle.transcript.proofs.close.Reads as close-reads
-use Rattle.session.proofs.feed.Reads as feed-reads
-use Rattle.transcript.proofs.finish.Reads as finish-reads
-use Rattle.transcript.proofs.start.Reads as start-reads
-use Rattle.session.proofs.Within.{fed-within}
-use Rattle.transcript.proofs.Ends.{closed-within}
 
 abbrev Inv-loop : tie.InvT-loop
-Inv-loop input₀ out₀ s₀ turns₀ t13 input out s turns = (length input ≡ 65536) × (length out ≡ 1572864)
+Inv-loop input₀ out₀ s₀ from₀ end₀ turns₀ t12 input out s from end turns =
+    (length input ≡ 65536) × (length out ≡ 1572864) × (from ≤ end) × (end ≤ 65536)
 
 abbrev μ-loop : tie.MeasureT-loop
-μ-loop input₀ out₀ s₀ turns₀ t13 input out s turns = turns
+μ-loop input₀ out₀ s₀ from₀ end₀ turns₀ t12 input out s from end turns = turns
+
+arg-count-requires : tie.Need-arg-count-requires Inv-loop μ-loop
+arg-count-requires c κs = search needs
+
+slice-aggregate-write-all : tie.Need-slice-aggregate-write-all Inv-loop μ-loop
+slice-aggregate-write-all c = search needs
+
+write-all-requires : tie.Need-write-all-requires Inv-loop μ-loop
+write-all-requires c κs = search needs
+
+returns : tie.Need-returns Inv-loop μ-loop
+returns c = search needs
 
 large-buffer-requires : tie.Need-large-buffer-requires Inv-loop μ-loop
 large-buffer-requires c κs = search needs
@@ -54,8 +56,14 @@ slice-aggregate-fail c = search needs
 fail-requires : tie.Need-fail-requires Inv-loop μ-loop
 fail-requires c κs = search needs
 
-returns : tie.Need-returns Inv-loop μ-loop
-returns c = search needs
+returns-2 : tie.Need-returns-2 Inv-loop μ-loop
+returns-2 c = search needs
+
+write-end-requires : tie.Need-write-end-requires Inv-loop μ-loop
+write-end-requires c κs = search needs
+
+returns-3 : tie.Need-returns-3 Inv-loop μ-loop
+returns-3 c = search needs
 
 slice-aggregate-count : tie.Need-slice-aggregate-count Inv-loop μ-loop
 slice-aggregate-count c = search needs
@@ -63,20 +71,29 @@ slice-aggregate-count c = search needs
 count-requires : tie.Need-count-requires Inv-loop μ-loop
 count-requires c κs = search needs
 
-array-share-prefix-input : tie.Need-array-share-prefix-input Inv-loop μ-loop
-array-share-prefix-input c = search needs
+loop-less : tie.Need-loop-less Inv-loop μ-loop
+loop-less c = search needs
+
+loop-again : tie.Need-loop-again Inv-loop μ-loop
+loop-again c = search needs
+
+sub-feed : tie.Need-sub-feed Inv-loop μ-loop
+sub-feed c = search needs
+
+part-feed-start : tie.Need-part-feed-start Inv-loop μ-loop
+part-feed-start c = search needs
+
+part-feed-end : tie.Need-part-feed-end Inv-loop μ-loop
+part-feed-end c = search needs
 
 slice-aggregate-feed : tie.Need-slice-aggregate-feed Inv-loop μ-loop
 slice-aggregate-feed c = search needs
-
-slice-aggregate-feed-2 : tie.Need-slice-aggregate-feed-2 Inv-loop μ-loop
-slice-aggregate-feed-2 c = search needs
 
 feed-requires : tie.Need-feed-requires Inv-loop μ-loop
 feed-requires c κs = search needs
 
 array-share-prefix-out : tie.Need-array-share-prefix-out Inv-loop μ-loop
-array-share-prefix-out c = fed-within _ _ _ _ _ ((c .before .before .feed) .ensures)
+array-share-prefix-out c = fed-within _ _ _ _ _ (c .before .before .feed .ensures)
 
 slice-aggregate-write-out : tie.Need-slice-aggregate-write-out Inv-loop μ-loop
 slice-aggregate-write-out c = sym (length-take-le _ _ (array-share-prefix-out (c .before)))
@@ -84,50 +101,31 @@ slice-aggregate-write-out c = sym (length-take-le _ _ (array-share-prefix-out (c
 write-out-requires : tie.Need-write-out-requires Inv-loop μ-loop
 write-out-requires c κs = search needs
 
-returns-2 : tie.Need-returns-2 Inv-loop μ-loop
-returns-2 c = search needs
-
-loop-less : tie.Need-loop-less Inv-loop μ-loop
-loop-less c = search needs
-
-loop-again : tie.Need-loop-again Inv-loop μ-loop
-loop-again c = search needs
-
-slice-aggregate-finish : tie.Need-slice-aggregate-finish Inv-loop μ-loop
-slice-aggregate-finish c = search needs
-
-finish-requires : tie.Need-finish-requires Inv-loop μ-loop
-finish-requires c κs = search needs
-
-array-share-prefix-out-2 : tie.Need-array-share-prefix-out-2 Inv-loop μ-loop
-array-share-prefix-out-2 c = fed-within _ _ _ _ _ ((c .before .finish) .ensures)
-
-slice-aggregate-write-out-2 : tie.Need-slice-aggregate-write-out-2 Inv-loop μ-loop
-slice-aggregate-write-out-2 c = sym (length-take-le _ _ (array-share-prefix-out-2 (c .before)))
-
-write-out-requires-2 : tie.Need-write-out-requires-2 Inv-loop μ-loop
-write-out-requires-2 c κs = search needs
-
-returns-3 : tie.Need-returns-3 Inv-loop μ-loop
-returns-3 c = search needs
-
-slice-aggregate-close : tie.Need-slice-aggregate-close Inv-loop μ-loop
-slice-aggregate-close c = search needs
-
-close-requires : tie.Need-close-requires Inv-loop μ-loop
-close-requires c κs = search needs
-
-array-share-prefix-out-3 : tie.Need-array-share-prefix-out-3 Inv-loop μ-loop
-array-share-prefix-out-3 c = closed-within _ _ _ _ _ ((c .before .close) .ensures)
-
-slice-aggregate-write-out-3 : tie.Need-slice-aggregate-write-out-3 Inv-loop μ-loop
-slice-aggregate-write-out-3 c = sym (length-take-le _ _ (array-share-prefix-out-3 (c .before)))
-
-write-out-requires-3 : tie.Need-write-out-requires-3 Inv-loop μ-loop
-write-out-requires-3 c κs = search needs
-
 returns-4 : tie.Need-returns-4 Inv-loop μ-loop
 returns-4 c = search needs
+
+add-from : tie.Need-add-from Inv-loop μ-loop
+add-from c =
+    let c₆ = c .before .before .before .before .before .before in
+    let l = c₆ .before .before .before .before .before .before .loop in
+    let taken = part-taken _ (l .input) (l .from) (l .end) _ _ _ (c₆ .feed .ensures) in
+    omega arith
+
+loop-less-2 : tie.Need-loop-less-2 Inv-loop μ-loop
+loop-less-2 c = search needs
+
+loop-again-2 : tie.Need-loop-again-2 Inv-loop μ-loop
+loop-again-2 c =
+    let c₆ = c .before .before .before .before .before .before in
+    let l = c₆ .before .before .before .before .before .before .loop in
+    let taken = part-taken _ (l .input) (l .from) (l .end) _ _ _ (c₆ .feed .ensures) in
+    (search needs, search needs, omega arith, search needs)
+
+say-not-taken-requires : tie.Need-say-not-taken-requires Inv-loop μ-loop
+say-not-taken-requires c κs = search needs
+
+returns-5 : tie.Need-returns-5 Inv-loop μ-loop
+returns-5 c = search needs
 
 pub main-spec : {M : Type 1} → statement M
 main-spec =
@@ -135,6 +133,10 @@ main-spec =
     (tie.spec
     Inv-loop
     μ-loop
+    arg-count-requires
+    slice-aggregate-write-all
+    write-all-requires
+    returns
     large-buffer-requires
     answer-buffer-requires
     start-requires
@@ -144,28 +146,24 @@ main-spec =
     read-requires
     slice-aggregate-fail
     fail-requires
-    returns
+    returns-2
+    write-end-requires
+    returns-3
     slice-aggregate-count
     count-requires
-    array-share-prefix-input
+    loop-less
+    loop-again
+    sub-feed
+    part-feed-start
+    part-feed-end
     slice-aggregate-feed
-    slice-aggregate-feed-2
     feed-requires
     array-share-prefix-out
     slice-aggregate-write-out
     write-out-requires
-    returns-2
-    loop-less
-    loop-again
-    slice-aggregate-finish
-    finish-requires
-    array-share-prefix-out-2
-    slice-aggregate-write-out-2
-    write-out-requires-2
-    returns-3
-    slice-aggregate-close
-    close-requires
-    array-share-prefix-out-3
-    slice-aggregate-write-out-3
-    write-out-requires-3
-    returns-4)
+    returns-4
+    add-from
+    loop-less-2
+    loop-again-2
+    say-not-taken-requires
+    returns-5)

@@ -5,6 +5,7 @@
 use mathlib.Core.Path.{_≡_, refl, _∙_, ap, ap₂}
 use mathlib.Core.Bool.{true, false}
 use mathlib.Core.List.{List, [], _∷_, map, reverse, reverseAux}
+use mathlib.Core.Option.{Option, some}
 use Prim.Native.Nat.{ℕ, suc, _+_, _-_, _≤_, _<_}
 use native.Mathlib.Omega.{arith}
 use native.Mathlib.Nat.{add-zero, sub-self}
@@ -37,8 +38,8 @@ starts ps = map (λ (q : Period). q .start) ps
 abbrev volumes : List Period → List ℕ
 volumes ps = map (λ (q : Period). q .volume) ps
 
-abbrev holders : List Period → List ℕ
-holders ps = map (λ (q : Period). q .holder) ps
+abbrev holders : List Period → List (Option ℕ)
+holders ps = map (λ (q : Period). some (q .holder)) ps
 
 first-start : (p : Period) (ps l : List Period) → take 1 (starts (reverseAux ps (p ∷ l))) ≡ oldest ps (p .start) ∷ []
 unfolding oldest
@@ -63,12 +64,12 @@ module _ (vol : ℕ → ℕ) where
   starts-tally (cell d h true ∷ cs) a l = starts-tally cs 0 (period d h (a + vol d) ∷ l)
   starts-tally (cell d h false ∷ cs) a l = starts-tally cs (a + vol d) l
 
-  sumDays-none : (d : ℕ) → 0 ≡ sumDays vol d (d - d)
+  pub sumDays-none : (d : ℕ) → 0 ≡ sumDays vol d (d - d)
   unfolding sumDays
   sumDays-none d = rw (sub-self d)
 
   -- a is what the days from e on to the day `end` give, and day d comes before them
-  sumDays-more : (d e end a : ℕ) → e ≡ suc d → e ≤ end → a ≡ sumDays vol e (end - e)
+  pub sumDays-more : (d e end a : ℕ) → e ≡ suc d → e ≤ end → a ≡ sumDays vol e (end - e)
       → a + vol d ≡ sumDays vol d (end - d)
   unfolding sumDays
   sumDays-more d e end a q le k =
@@ -107,7 +108,7 @@ module _ (d : ℕ) where
       ∙ rw (le-leb (q .start) d (omega arith), le-ltb d (p .start) le)
 
   covering-begun : (p : Period) (ps l : List Period) → p .start ≤ d → Desc (p .start) ps → Ahead d l
-      → holders (covering d (reverseAux ps (p ∷ l))) ≡ p .holder ∷ []
+      → holders (covering d (reverseAux ps (p ∷ l))) ≡ some (p .holder) ∷ []
   unfolding covering
   covering-begun p ps l le r k = rw (covering-older p ps l le r, le-leb (p .start) d le, k .0, k .1)
 
@@ -115,12 +116,12 @@ module _ (d : ℕ) where
     -- day d after the cells: the newest period goes on, to the day `end`
     held-after : (cs : List Cell) (e end a h : ℕ) (l : List Period) → Runs e cs → Held h cs → e ≤ d → d < end
         → oldest (tally vol cs a) end ≤ d → Ahead d l
-        → holders (covering d (reverseAux (tally vol cs a) l)) ≡ h ∷ []
+        → holders (covering d (reverseAux (tally vol cs a) l)) ≡ some h ∷ []
     unfolding tally oldest
     held-after [] e end a h l r k le lt o w = let z : ⊥ = omega arith in absurd z
     held-after (cell c j true ∷ cs) e end a h l r k le lt o w =
         covering-begun (period c j (a + vol c)) (tally vol cs 0) l (omega arith) (tally-desc vol cs c 0 (r .1)) w
-        ∙ ap (λ (n : ℕ). n ∷ []) (k .0)
+        ∙ ap (λ (n : ℕ). some n ∷ []) (k .0)
     held-after (cell c j false ∷ cs) e end a h l r k le lt o w =
         held-after cs c end (a + vol c) h l (r .1) (k .1) (omega arith) lt o w
 
@@ -174,7 +175,7 @@ module _ (g : Point) (sized : Sized (g .history)) where
           (volumes-tally vol t cs (suc t) 0 [] (live-runs t cs live) (omega arith) (sumDays-none vol (suc t)) refl)
 
       pub covered-read : (h : ℕ) → Held h cs → (d : ℕ) → ((x : ℕ) → oldest (listed (g .history)) x ≤ d) → d ≤ t
-          → map (λ (q : Period). q .holder) (covering d (periodsOf g)) ≡ holderOn d cs ∷ []
+          → map (λ (q : Period). some (q .holder)) (covering d (periodsOf g)) ≡ holderOn d cs ∷ []
       unfolding covering
       covered-read h held d o le =
           rw (periods-read, told)

@@ -1,40 +1,32 @@
--- `month::start` meets its contract: its formula is the sum of the months before.
-use borrow.Author.Tests.{lt-ltb, le-ltb}
+-- `month::start` meets its contract: the code's table is that of the sums of the lengths.
+use mathlib.Core.Path.{_≡_}
 use native.Mathlib.Omega.{arith}
-use Rattle.dates.proofs.Months.{start-is}
+use Rattle.dates.proofs.Months.{startAt, start-is}
 use borrow.Author.Needs.{needs}
 use Rattle.dates.proofs.month.start.Statement.{statement}
 use Rattle.dates.proofs.month.start.Tie as tie
 
-cast-days : tie.Need-cast-days
-cast-days c = search needs
+mul-n : tie.Need-mul-n
+mul-n c = search needs
 
-mul-days : tie.Need-mul-days
-mul-days c = search needs
+mul-n-2 : tie.Need-mul-n-2
+mul-n-2 c = search needs
 
-add-days : tie.Need-add-days
-add-days c = search needs
+index-1-n : tie.Need-index-1-n
+index-1-n c = search needs
+
+index-2-n : tie.Need-index-2-n
+index-2-n c = search needs
+
+wide-start-requires : tie.Need-wide-start-requires
+wide-start-requires c κs = search needs
 
 returns : tie.Need-returns
 returns c =
-    let a = c .before .args in
-    rw (lt-ltb (a .m) 2 (c .if1 .taken)) at (start-is (a .row) (a .m) (omega arith) (omega arith))
-
-cast-result : tie.Need-cast-result
-cast-result c = search needs
-
-add-result : tie.Need-add-result
-add-result c = search needs
-
-sub-result : tie.Need-sub-result
-sub-result c = search needs
-
-returns-2 : tie.Need-returns-2
-returns-2 c =
-    let a = c .before .args in
-    rw (le-ltb (a .m) 2 (c .if1 .left)) at (start-is (a .row) (a .m) (omega arith) (omega arith))
+    let a = c .before .before .args in
+    let e : c .wide-start .result ≡ startAt (a .row) (a .m) = c .wide-start .ensures in
+    let sum = start-is (a .row) (a .m) (omega arith) (omega arith) in
+    omega arith
 
 pub start-spec : {M : Type 1} → statement M
-start-spec =
-    tie.close
-    (tie.spec cast-days mul-days add-days returns cast-result add-result sub-result returns-2)
+start-spec = tie.close (tie.spec mul-n mul-n-2 index-1-n index-2-n wide-start-requires returns)

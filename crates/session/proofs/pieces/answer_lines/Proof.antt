@@ -4,6 +4,8 @@ use lib.ListN.{length, take, drop, getD, length-drop}
 use lib.Seq.{take-all}
 use native.Mathlib.Omega.{arith}
 use Rattle.fields.specs.Known.{IsKnown}
+use Rattle.fields.proofs.KnownStays.{first-is-known}
+use Rattle.next_line.proofs.NextLines.{next-right}
 use Rattle.input.specs.Lines.{untilFeed}
 use Rattle.input.specs.Part.{kept}
 use Rattle.desk.specs.Desk.{desk}
@@ -65,7 +67,7 @@ first-known-requires c κs = search needs
 loop-holds : tie.Need-loop-holds Inv-loop μ-loop
 loop-holds c =
     let s = (c .before .before .before .before .before .before .before .before .before .before .before .before .before) .args .s in
-    (tables-start s ((c .before .before .before .before .before .before .before .before .before .before .before .before .before) .args .piece .now) ((c .before .before .before .before .before .before .before .before .before .before .before .before .before) .args .out .now) ((c .before .before .before .before .fields-of) .result) ((c .before .before .before .counts-of) .result) ((c .before .before .slots-of) .result) ((c .before .before .before .before .fields-of) .ensures, (c .before .before .before .counts-of) .ensures, (c .before .before .slots-of) .ensures) ((c .before .first-due) .result) ((c .before .first-due) .ensures) ((c .before .before .before .before .before .before .before .before .before .before .before .before .before) .pre), (c .first-known) .ensures, (search needs, search needs, search needs))
+    (tables-start s ((c .before .before .before .before .before .before .before .before .before .before .before .before .before) .args .piece .now) ((c .before .before .before .before .before .before .before .before .before .before .before .before .before) .args .out .now) ((c .before .before .before .before .fields-of) .result) ((c .before .before .before .counts-of) .result) ((c .before .before .slots-of) .result) ((c .before .before .before .before .fields-of) .ensures, (c .before .before .before .counts-of) .ensures, (c .before .before .slots-of) .ensures) ((c .before .first-due) .result) ((c .before .first-due) .ensures) ((c .before .before .before .before .before .before .before .before .before .before .before .before .before) .pre), first-is-known _ ((c .first-known) .ensures), (search needs, search needs, search needs))
 
 next-line-requires : tie.Need-next-line-requires Inv-loop μ-loop
 next-line-requires c κs = search needs
@@ -92,13 +94,13 @@ returns : tie.Need-returns Inv-loop μ-loop
 returns c =
     let l = (c .before .before .before .before .before .before .loop) in
     let s = (c .before .before .before .before .before .before .before .before .before .before .before .before .before .before .before .before .before .before .before .before) .args in
-    tables-end (s .s) (s .piece .now) (s .out .now) ((c .before .before .before .before .before .before .before .before .before .before .before .fields-of) .result) ((c .before .before .before .before .before .before .before .before .before .before .counts-of) .result) ((c .before .before .before .before .before .before .before .before .before .slots-of) .result) ((c .before .before .before .before .before .before .before .before .before .before .before .fields-of) .ensures, (c .before .before .before .before .before .before .before .before .before .before .counts-of) .ensures, (c .before .before .before .before .before .before .before .before .before .slots-of) .ensures) (l .out) (l .part) (l .ready) (l .set) (l .day) (l .contracts) (l .fields) (l .counts) (l .slots) (l .quiet) (l .at) (l .written) (l .inv .0) (omega (arith, (c .before .before .before .before .next-line) .ensures (l .inv .1) .end, (c .before .before .before .if1) .taken)) ((c .before .before .register-of) .result) ((c .before .before .register-of) .ensures) ((c .at-end) .result) _ (take-all (length (s .piece .now) - l .at) (drop (l .at) (s .piece .now)) (omega (arith, length-drop (l .at) (s .piece .now)))) ((c .at-end) .ensures)
+    tables-end (s .s) (s .piece .now) (s .out .now) ((c .before .before .before .before .before .before .before .before .before .before .before .fields-of) .result) ((c .before .before .before .before .before .before .before .before .before .before .counts-of) .result) ((c .before .before .before .before .before .before .before .before .before .slots-of) .result) ((c .before .before .before .before .before .before .before .before .before .before .before .fields-of) .ensures, (c .before .before .before .before .before .before .before .before .before .before .counts-of) .ensures, (c .before .before .before .before .before .before .before .before .before .slots-of) .ensures) (l .out) (l .part) (l .ready) (l .set) (l .day) (l .contracts) (l .fields) (l .counts) (l .slots) (l .quiet) (l .at) (l .written) (l .inv .0) (omega (arith, next-right _ _ _ _ ((c .before .before .before .before .next-line) .ensures) (l .inv .1) .end, (c .before .before .before .if1) .taken)) ((c .before .before .register-of) .result) ((c .before .before .register-of) .ensures) ((c .at-end) .result) _ (take-all (length (s .piece .now) - l .at) (drop (l .at) (s .piece .now)) (omega (arith, length-drop (l .at) (s .piece .now)))) ((c .at-end) .ensures)
 
 sub-whole-message : tie.Need-sub-whole-message Inv-loop μ-loop
-sub-whole-message c = omega (arith, (c .before .next-line) .ensures ((c .before .before .before .loop) .inv .1) .end)
+sub-whole-message c = omega (arith, next-right _ _ _ _ ((c .before .next-line) .ensures) ((c .before .before .before .loop) .inv .1) .end)
 
 part-whole-message-start : tie.Need-part-whole-message-start Inv-loop μ-loop
-part-whole-message-start c = omega (arith, (c .before .next-line) .ensures ((c .before .before .before .loop) .inv .1) .end)
+part-whole-message-start c = omega (arith, next-right _ _ _ _ ((c .before .next-line) .ensures) ((c .before .before .before .loop) .inv .1) .end)
 
 part-whole-message-end : tie.Need-part-whole-message-end Inv-loop μ-loop
 part-whole-message-end c = omega (arith, (c .if1) .left)
@@ -173,15 +175,16 @@ put-answer-requires : tie.Need-put-answer-requires Inv-loop μ-loop
 put-answer-requires c κs = search needs
 
 loop-less : tie.Need-loop-less Inv-loop μ-loop
-loop-less c = omega (arith, (c .before .before .before .before .before .before .before .before .before .before .before .before .before .before .before .before .before .before .before .before .next-line) .ensures ((c .before .before .before .before .before .before .before .before .before .before .before .before .before .before .before .before .before .before .before .before .before .before .loop) .inv .1) .end, (c .before .before .before .before .before .before .before .before .before .before .before .before .before .before .before .before .before .before .before .if1) .left)
+loop-less c = omega (arith, next-right _ _ _ _ ((c .before .before .before .before .before .before .before .before .before .before .before .before .before .before .before .before .before .before .before .before .next-line) .ensures) ((c .before .before .before .before .before .before .before .before .before .before .before .before .before .before .before .before .before .before .before .before .before .before .loop) .inv .1) .end, (c .before .before .before .before .before .before .before .before .before .before .before .before .before .before .before .before .before .before .before .if1) .left)
 
 loop-again : tie.Need-loop-again Inv-loop μ-loop
 loop-again c =
     let l = (c .before .before .before .before .before .before .before .before .before .before .before .before .before .before .before .before .before .before .before .before .before .before .loop) in
     let line = (c .before .before .before .before .before .before .before .before .before .before .before .before .before .before .before .before .before .before .before .before .next-line) in
+    let read = next-right _ _ _ _ (line .ensures) (l .inv .1) in
     let m = (c .before .before .before .before .before .before .before .before .before .before .before .before .before .before .before .before .before .whole-message) in
     let piece = (c .before .before .before .before .before .before .before .before .before .before .before .before .before .before .before .before .before .before .before .before .before .before .before .before .before .before .before .before .before .before .before .before .before .before .before .before) .args .piece .now in
-    (daily-turn piece ((c .before .before .before .before .before .before .before .before .before .before .before .before .before .before .before .before .before .before .before .before .before .before .before .before .before .before .before .before .before .before .before .before .before .before .before .before) .args .out .now) _ _ (l .out) (l .part) (l .ready) (l .set) (l .day) (l .contracts) (l .fields) (l .counts) (l .slots) (l .quiet) (l .at) (l .written) (l .inv .0) (l .inv .2) (line .result .end) (line .ensures (l .inv .1) .end) ((c .before .before .before .before .before .before .before .before .before .before .before .before .before .before .before .before .before .before .before .if1) .left) (m .result) (m .ensures (line-read piece (l .at) (line .result .end) (line .result .message) (line .ensures (l .inv .1) .end) (line .ensures (l .inv .1) .message))) (sym ((c .before .before .before .before .before .before .before .before .before .before .before .before .before .before .before .is-quick) .ensures) ∙ (c .before .before .before .before .before .before .before .before .before .before .before .before .before .before .if2) .taken) ((c .before .before .before .before .before .before .before .before .before .before .before .before .before .place-of) .result) ((c .before .before .before .before .before .before .before .before .before .before .before .before .newest-place) .result) ((c .before .before .before .before .before .before .before .before .before .before .before .before .before .place-of) .ensures) ((c .before .before .before .before .before .before .before .before .before .before .before .before .newest-place) .ensures) _ ((c .before .before .before .before .before .before .before .before .before .daily-of) .result) ((c .before .before .before .before .before .before .before .before .before .daily-of) .ensures) ((c .before .before .before .before .before .before .before .before .if3) .taken) ((c .before .before .before .before .before .day-after) .result) ((c .before .before .before .before .before .day-after) .ensures) ((c .before .before .put-answer) .last .0) ((c .before .before .put-answer) .result) (rw (← ((c .before .before .before .kind-of) .ensures)) ((c .before .before .put-answer) .ensures)), line .ensures (l .inv .1) .known, tables-set-kept (l .fields) (l .counts) (l .slots) ((c .before .before .before .before .before .before .before .before .before .before .before .before .before .place-of) .result) _ _ (l .inv .2))
+    (daily-turn piece ((c .before .before .before .before .before .before .before .before .before .before .before .before .before .before .before .before .before .before .before .before .before .before .before .before .before .before .before .before .before .before .before .before .before .before .before .before) .args .out .now) _ _ (l .out) (l .part) (l .ready) (l .set) (l .day) (l .contracts) (l .fields) (l .counts) (l .slots) (l .quiet) (l .at) (l .written) (l .inv .0) (l .inv .2) (line .result .end) (read .end) ((c .before .before .before .before .before .before .before .before .before .before .before .before .before .before .before .before .before .before .before .if1) .left) (m .result) (m .ensures (line-read piece (l .at) (line .result .end) (line .result .message) (read .end) (read .message))) (sym ((c .before .before .before .before .before .before .before .before .before .before .before .before .before .before .before .is-quick) .ensures) ∙ (c .before .before .before .before .before .before .before .before .before .before .before .before .before .before .if2) .taken) ((c .before .before .before .before .before .before .before .before .before .before .before .before .before .place-of) .result) ((c .before .before .before .before .before .before .before .before .before .before .before .before .newest-place) .result) ((c .before .before .before .before .before .before .before .before .before .before .before .before .before .place-of) .ensures) ((c .before .before .before .before .before .before .before .before .before .before .before .before .newest-place) .ensures) _ ((c .before .before .before .before .before .before .before .before .before .daily-of) .result) ((c .before .before .before .before .before .before .before .before .before .daily-of) .ensures) ((c .before .before .before .before .before .before .before .before .if3) .taken) ((c .before .before .before .before .before .day-after) .result) ((c .before .before .before .before .before .day-after) .ensures) ((c .before .before .put-answer) .last .0) ((c .before .before .put-answer) .result) (rw (← ((c .before .before .before .kind-of) .ensures)) ((c .before .before .put-answer) .ensures)), read .known, tables-set-kept (l .fields) (l .counts) (l .slots) ((c .before .before .before .before .before .before .before .before .before .before .before .before .before .place-of) .result) _ _ (l .inv .2))
 
 supplier-of-requires : tie.Need-supplier-of-requires Inv-loop μ-loop
 supplier-of-requires c κs = search needs
@@ -238,15 +241,16 @@ put-answer-requires-2 : tie.Need-put-answer-requires-2 Inv-loop μ-loop
 put-answer-requires-2 c κs = search needs
 
 loop-less-2 : tie.Need-loop-less-2 Inv-loop μ-loop
-loop-less-2 c = omega (arith, (c .before .before .before .before .before .before .before .before .before .before .before .before .before .before .before .before .before .before .before .before .before .before .before .before .before .before .before .before .next-line) .ensures ((c .before .before .before .before .before .before .before .before .before .before .before .before .before .before .before .before .before .before .before .before .before .before .before .before .before .before .before .before .before .before .loop) .inv .1) .end, (c .before .before .before .before .before .before .before .before .before .before .before .before .before .before .before .before .before .before .before .before .before .before .before .before .before .before .before .if1) .left)
+loop-less-2 c = omega (arith, next-right _ _ _ _ ((c .before .before .before .before .before .before .before .before .before .before .before .before .before .before .before .before .before .before .before .before .before .before .before .before .before .before .before .before .next-line) .ensures) ((c .before .before .before .before .before .before .before .before .before .before .before .before .before .before .before .before .before .before .before .before .before .before .before .before .before .before .before .before .before .before .loop) .inv .1) .end, (c .before .before .before .before .before .before .before .before .before .before .before .before .before .before .before .before .before .before .before .before .before .before .before .before .before .before .before .if1) .left)
 
 loop-again-2 : tie.Need-loop-again-2 Inv-loop μ-loop
 loop-again-2 c =
     let l = (c .before .before .before .before .before .before .before .before .before .before .before .before .before .before .before .before .before .before .before .before .before .before .before .before .before .before .before .before .before .before .loop) in
     let line = (c .before .before .before .before .before .before .before .before .before .before .before .before .before .before .before .before .before .before .before .before .before .before .before .before .before .before .before .before .next-line) in
+    let read = next-right _ _ _ _ (line .ensures) (l .inv .1) in
     let m = (c .before .before .before .before .before .before .before .before .before .before .before .before .before .before .before .before .before .before .before .before .before .before .before .before .before .whole-message) in
     let piece = (c .before .before .before .before .before .before .before .before .before .before .before .before .before .before .before .before .before .before .before .before .before .before .before .before .before .before .before .before .before .before .before .before .before .before .before .before .before .before .before .before .before .before .before .before) .args .piece .now in
-    (point-turn piece ((c .before .before .before .before .before .before .before .before .before .before .before .before .before .before .before .before .before .before .before .before .before .before .before .before .before .before .before .before .before .before .before .before .before .before .before .before .before .before .before .before .before .before .before .before) .args .out .now) _ _ (l .out) (l .part) (l .ready) (l .set) (l .day) (l .contracts) (l .fields) (l .counts) (l .slots) (l .quiet) (l .at) (l .written) (l .inv .0) (l .inv .2) (line .result .end) (line .ensures (l .inv .1) .end) ((c .before .before .before .before .before .before .before .before .before .before .before .before .before .before .before .before .before .before .before .before .before .before .before .before .before .before .before .if1) .left) (m .result) (m .ensures (line-read piece (l .at) (line .result .end) (line .result .message) (line .ensures (l .inv .1) .end) (line .ensures (l .inv .1) .message))) (sym ((c .before .before .before .before .before .before .before .before .before .before .before .before .before .before .before .before .before .before .before .before .before .before .before .is-quick) .ensures) ∙ (c .before .before .before .before .before .before .before .before .before .before .before .before .before .before .before .before .before .before .before .before .before .before .if2) .taken) ((c .before .before .before .before .before .before .before .before .before .before .before .before .before .before .before .before .before .before .before .before .before .place-of) .result) ((c .before .before .before .before .before .before .before .before .before .before .before .before .before .before .before .supplier-of) .result) ((c .before .before .before .before .before .before .before .before .before .before .before .before .before .before .before .before .before .before .before .before .before .place-of) .ensures) ((c .before .before .before .before .before .before .before .before .before .before .before .before .before .before .before .supplier-of) .ensures) _ ((c .before .before .before .before .before .before .before .before .before .before .before .before .before .joined) .result) ((c .before .before .before .before .before .before .before .before .before .before .before .before .before .joined) .ensures) ((c .before .before .before .before .before .before .before .before .before .before .before .before .turn-of) .result) ((c .before .before .before .before .before .before .before .before .before .before .before .before .turn-of) .ensures) ((c .before .before .before .before .before .before .day-after2) .result) ((c .before .before .before .before .before .before .day-after2) .ensures) ((c .before .before .before .before .before .signed-after) .result) ((c .before .before .before .before .before .signed-after) .ensures) ((c .before .before .before .before .before .before .before .quiet-with) .result) ((c .before .before .before .before .before .before .before .quiet-with) .ensures) ((c .before .before .put-answer2) .last .0) ((c .before .before .put-answer2) .result) (rw (← ((c .before .before .before .kind-of2) .ensures)) ((c .before .before .put-answer2) .ensures)), line .ensures (l .inv .1) .known, tables-set (l .fields) (l .counts) (l .slots) ((c .before .before .before .before .before .before .before .before .before .before .before .before .before .before .before .before .before .before .before .before .before .place-of) .result) _ _ _ (l .inv .2))
+    (point-turn piece ((c .before .before .before .before .before .before .before .before .before .before .before .before .before .before .before .before .before .before .before .before .before .before .before .before .before .before .before .before .before .before .before .before .before .before .before .before .before .before .before .before .before .before .before .before) .args .out .now) _ _ (l .out) (l .part) (l .ready) (l .set) (l .day) (l .contracts) (l .fields) (l .counts) (l .slots) (l .quiet) (l .at) (l .written) (l .inv .0) (l .inv .2) (line .result .end) (read .end) ((c .before .before .before .before .before .before .before .before .before .before .before .before .before .before .before .before .before .before .before .before .before .before .before .before .before .before .before .if1) .left) (m .result) (m .ensures (line-read piece (l .at) (line .result .end) (line .result .message) (read .end) (read .message))) (sym ((c .before .before .before .before .before .before .before .before .before .before .before .before .before .before .before .before .before .before .before .before .before .before .before .is-quick) .ensures) ∙ (c .before .before .before .before .before .before .before .before .before .before .before .before .before .before .before .before .before .before .before .before .before .before .if2) .taken) ((c .before .before .before .before .before .before .before .before .before .before .before .before .before .before .before .before .before .before .before .before .before .place-of) .result) ((c .before .before .before .before .before .before .before .before .before .before .before .before .before .before .before .supplier-of) .result) ((c .before .before .before .before .before .before .before .before .before .before .before .before .before .before .before .before .before .before .before .before .before .place-of) .ensures) ((c .before .before .before .before .before .before .before .before .before .before .before .before .before .before .before .supplier-of) .ensures) _ ((c .before .before .before .before .before .before .before .before .before .before .before .before .before .joined) .result) ((c .before .before .before .before .before .before .before .before .before .before .before .before .before .joined) .ensures) ((c .before .before .before .before .before .before .before .before .before .before .before .before .turn-of) .result) ((c .before .before .before .before .before .before .before .before .before .before .before .before .turn-of) .ensures) ((c .before .before .before .before .before .before .day-after2) .result) ((c .before .before .before .before .before .before .day-after2) .ensures) ((c .before .before .before .before .before .signed-after) .result) ((c .before .before .before .before .before .signed-after) .ensures) ((c .before .before .before .before .before .before .before .quiet-with) .result) ((c .before .before .before .before .before .before .before .quiet-with) .ensures) ((c .before .before .put-answer2) .last .0) ((c .before .before .put-answer2) .result) (rw (← ((c .before .before .before .kind-of2) .ensures)) ((c .before .before .put-answer2) .ensures)), read .known, tables-set (l .fields) (l .counts) (l .slots) ((c .before .before .before .before .before .before .before .before .before .before .before .before .before .before .before .before .before .before .before .before .before .place-of) .result) _ _ _ (l .inv .2))
 
 register-of-requires-2 : tie.Need-register-of-requires-2 Inv-loop μ-loop
 register-of-requires-2 c κs = search needs
@@ -273,15 +277,16 @@ put-answer-requires-3 : tie.Need-put-answer-requires-3 Inv-loop μ-loop
 put-answer-requires-3 c κs = search needs
 
 loop-less-3 : tie.Need-loop-less-3 Inv-loop μ-loop
-loop-less-3 c = omega (arith, (c .before .before .before .before .before .before .before .before .before .before .before .before .before .before .before .before .before .before .before .before .before .before .next-line) .ensures ((c .before .before .before .before .before .before .before .before .before .before .before .before .before .before .before .before .before .before .before .before .before .before .before .before .loop) .inv .1) .end, (c .before .before .before .before .before .before .before .before .before .before .before .before .before .before .before .before .before .before .before .before .before .if1) .left)
+loop-less-3 c = omega (arith, next-right _ _ _ _ ((c .before .before .before .before .before .before .before .before .before .before .before .before .before .before .before .before .before .before .before .before .before .before .next-line) .ensures) ((c .before .before .before .before .before .before .before .before .before .before .before .before .before .before .before .before .before .before .before .before .before .before .before .before .loop) .inv .1) .end, (c .before .before .before .before .before .before .before .before .before .before .before .before .before .before .before .before .before .before .before .before .before .if1) .left)
 
 loop-again-3 : tie.Need-loop-again-3 Inv-loop μ-loop
 loop-again-3 c =
     let l = (c .before .before .before .before .before .before .before .before .before .before .before .before .before .before .before .before .before .before .before .before .before .before .before .before .loop) in
     let line = (c .before .before .before .before .before .before .before .before .before .before .before .before .before .before .before .before .before .before .before .before .before .before .next-line) in
+    let read = next-right _ _ _ _ (line .ensures) (l .inv .1) in
     let m = (c .before .before .before .before .before .before .before .before .before .before .before .before .before .before .before .before .before .before .before .whole-message) in
     let piece = (c .before .before .before .before .before .before .before .before .before .before .before .before .before .before .before .before .before .before .before .before .before .before .before .before .before .before .before .before .before .before .before .before .before .before .before .before .before .before) .args .piece .now in
-    (register-turn piece ((c .before .before .before .before .before .before .before .before .before .before .before .before .before .before .before .before .before .before .before .before .before .before .before .before .before .before .before .before .before .before .before .before .before .before .before .before .before .before) .args .out .now) _ _ (l .out) (l .part) (l .ready) (l .set) (l .day) (l .contracts) (l .fields) (l .counts) (l .slots) (l .quiet) (l .at) (l .written) (l .inv .0) (l .inv .2) (line .result .end) (line .ensures (l .inv .1) .end) ((c .before .before .before .before .before .before .before .before .before .before .before .before .before .before .before .before .before .before .before .before .before .if1) .left) (m .result) (m .ensures (line-read piece (l .at) (line .result .end) (line .result .message) (line .ensures (l .inv .1) .end) (line .ensures (l .inv .1) .message))) ((c .before .before .before .before .before .before .before .before .before .before .before .before .before .before .before .register-of2) .result) ((c .before .before .before .before .before .before .before .before .before .before .before .before .before .before .before .register-of2) .ensures) ((c .before .before .before .before .before .before .before .before .before .before .before .before .before .before .respond) .result) ((c .before .before .before .before .before .before .before .before .before .before .before .before .before .before .respond) .ensures) ((c .before .before .before .before .before .before .before .before .fields-of2) .result) ((c .before .before .before .before .before .before .before .counts-of2) .result) ((c .before .before .before .before .before .before .slots-of2) .result) ((c .before .before .before .before .before .before .before .before .fields-of2) .ensures, (c .before .before .before .before .before .before .before .counts-of2) .ensures, (c .before .before .before .before .before .before .slots-of2) .ensures) ((c .before .before .before .before .before .first-due2) .result) ((c .before .before .before .before .before .first-due2) .ensures) ((c .before .before .put-answer3) .last .0) ((c .before .before .put-answer3) .result) (rw (← ((c .before .before .before .kind-of3) .ensures)) ((c .before .before .put-answer3) .ensures)), line .ensures (l .inv .1) .known, (search needs, search needs, search needs))
+    (register-turn piece ((c .before .before .before .before .before .before .before .before .before .before .before .before .before .before .before .before .before .before .before .before .before .before .before .before .before .before .before .before .before .before .before .before .before .before .before .before .before .before) .args .out .now) _ _ (l .out) (l .part) (l .ready) (l .set) (l .day) (l .contracts) (l .fields) (l .counts) (l .slots) (l .quiet) (l .at) (l .written) (l .inv .0) (l .inv .2) (line .result .end) (read .end) ((c .before .before .before .before .before .before .before .before .before .before .before .before .before .before .before .before .before .before .before .before .before .if1) .left) (m .result) (m .ensures (line-read piece (l .at) (line .result .end) (line .result .message) (read .end) (read .message))) ((c .before .before .before .before .before .before .before .before .before .before .before .before .before .before .before .register-of2) .result) ((c .before .before .before .before .before .before .before .before .before .before .before .before .before .before .before .register-of2) .ensures) ((c .before .before .before .before .before .before .before .before .before .before .before .before .before .before .respond) .result) ((c .before .before .before .before .before .before .before .before .before .before .before .before .before .before .respond) .ensures) ((c .before .before .before .before .before .before .before .before .fields-of2) .result) ((c .before .before .before .before .before .before .before .counts-of2) .result) ((c .before .before .before .before .before .before .slots-of2) .result) ((c .before .before .before .before .before .before .before .before .fields-of2) .ensures, (c .before .before .before .before .before .before .before .counts-of2) .ensures, (c .before .before .before .before .before .before .slots-of2) .ensures) ((c .before .before .before .before .before .first-due2) .result) ((c .before .before .before .before .before .first-due2) .ensures) ((c .before .before .put-answer3) .last .0) ((c .before .before .put-answer3) .result) (rw (← ((c .before .before .before .kind-of3) .ensures)) ((c .before .before .put-answer3) .ensures)), read .known, (search needs, search needs, search needs))
 
 register-of-requires-3 : tie.Need-register-of-requires-3 Inv-loop μ-loop
 register-of-requires-3 c κs = search needs

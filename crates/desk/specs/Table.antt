@@ -5,10 +5,10 @@ use mathlib.Core.Bool.{Bool, true, false, cond, not, _&&_, _||_}
 use mathlib.Core.Option.{Option, none, some}
 use Prim.Native.Nat.{ℕ}
 use lib.Dec.{eqb, leb}
-use Rattle.rules.specs.declared.Answer.{Answer}
+use Rattle.rules.specs.declared.{Answer.Answer}
 use Rattle.rules.specs.Answers.{isAccepted, number, date}
-use Rattle.message.specs.declared.Message.{Message}
-use Rattle.desk.specs.declared.Desk.{Desk}
+use Rattle.message.specs.declared.{Message.Message}
+use Rattle.desk.specs.declared.{Desk.Desk}
 use Rattle.desk.specs.Desk.{answerOf}
 
 -- The numbers of "Rejection codes".

@@ -3,14 +3,13 @@
 use mathlib.Core.Bool.{Bool, true, false, cond, _&&_}
 use Prim.Native.Nat.{ℕ}
 use lib.Dec.{leb}
-use Rattle.rules.specs.declared.Fields.{Fields}
-use Rattle.rules.specs.declared.Period.{Period}
+use Rattle.rules.specs.declared.{Fields.Fields, Period.Period}
 use Rattle.rules.specs.Answers.{isAccepted}
 use Rattle.rules.specs.Fields.{reading, withReading}
 use Rattle.rules.specs.Register.{bookedPeriod}
 use Rattle.rules.specs.Volumes.{spanTo}
 use Rattle.answers.specs.Ruling.{readAnswer}
-use Rattle.point.specs.declared.Newest.{Newest}
+use Rattle.point.specs.declared.{Newest.Newest}
 
 abbrev pub leftNewest : Fields → Period → Newest
 leftNewest f q = record { is = false; fields = f; period = q }

@@ -1,13 +1,12 @@
 -- A point's periods are those that the day book's cells and the list's readings give.
 use mathlib.Core.Path.{_≡_, refl}
 use mathlib.Core.Bool.{true, false}
-use mathlib.Core.List.{List, [], _∷_, reverse, reverseAux}
-use mathlib.Core.Option.{Option, none, some}
+use mathlib.Core.List.{List, [], _∷_, reverseAux}
+use mathlib.Core.Option.{none, some}
 use Prim.Native.Nat.{ℕ, zero, suc, _+_, _-_, _≤_, _<_}
 use native.Mathlib.Omega.{arith}
 use lib.ListN.{length, getD, take}
-use Rattle.rules.specs.declared.Period.{Period}
-use Rattle.rules.specs.declared.Point.{Point}
+use Rattle.rules.specs.declared.{Period.Period, Point.Point}
 use Rattle.rules.specs.Register.{period, noPeriod}
 use Rattle.rules.specs.DayBook.{Cell, cell}
 use Rattle.rules.specs.Demand3.{periodsOf, sumDays}

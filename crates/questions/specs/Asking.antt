@@ -5,8 +5,7 @@ use mathlib.Core.Path.{_≡_}
 use mathlib.Core.Bool.{true}
 use mathlib.Core.List.{List, [], _∷_}
 use Prim.Native.Nat.{ℕ, _≤_}
-use Rattle.rules.specs.declared.Opening.{Opening}
-use Rattle.rules.specs.declared.Call.{Call}
+use Rattle.rules.specs.declared.{Opening.Opening, Call.Call}
 use Rattle.rules.specs.Answers.{
   isAccepted,
   holderNumber,

@@ -4,14 +4,12 @@
 -- bookPeriods   the periods of a point: its marked cells, each with the sum of its days' volumes
 -- bookHolder, bookPeriod, bookAdvance   what the three questions tell
 -- askedNumber   the number that goes with it
-use mathlib.Core.Bool.{Bool, true, false, cond, _&&_, _||_}
+use mathlib.Core.Bool.{true, false, cond, _&&_, _||_}
 use mathlib.Core.List.{List, [], _∷_}
 use mathlib.Core.Option.{Option, none, some}
 use Prim.Native.Nat.{ℕ, zero, suc, _-_}
 use lib.Dec.{eqb, leb}
-use Rattle.rules.specs.declared.Period.{Period}
-use Rattle.rules.specs.declared.Opening.{Opening}
-use Rattle.rules.specs.declared.Call.{Call}
+use Rattle.rules.specs.declared.{Period.Period, Opening.Opening, Call.Call}
 use Rattle.rules.specs.Volumes.{volume, registered}
 use Rattle.rules.specs.Rejections.{notPoint}
 use Rattle.rules.specs.Register.{period}

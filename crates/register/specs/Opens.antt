@@ -1,11 +1,9 @@
 -- 01, "What the register holds": the answer to an opening, and the register after it. Definitions only.
 use mathlib.Core.Bool.{false, cond}
-use Prim.Native.Nat.{ℕ, _≤_}
+use Prim.Native.Nat.{_≤_}
 use lib.ListN.{replicate}
 use Rattle.dates.specs.Dates.{lastDay}
-use Rattle.rules.specs.declared.Register.{Register}
-use Rattle.rules.specs.declared.Opening.{Opening}
-use Rattle.rules.specs.declared.Outcome.{Outcome}
+use Rattle.rules.specs.declared.{Register.Register, Opening.Opening, Outcome.Outcome}
 use Rattle.rules.specs.Answers.{isAccepted}
 use Rattle.rules.specs.Rejections.{openingAnswer}
 use Rattle.rules.specs.Register.{blankPoint, register, outcome, opened}

@@ -13,9 +13,7 @@ use lib.Dec.{eqb, leb, ltb}
 use lib.ListN.{length, getD, set, take, length-set}
 use lib.Seq.{getD-set-same, getD-set-other, set-comm, take-suc, append-snoc}
 use borrow.Author.Tests.{lt-ltb, le-leb, lt-leb}
-use Rattle.rules.specs.declared.Period.{Period}
-use Rattle.rules.specs.declared.History.{History}
-use Rattle.rules.specs.declared.Span.{Span}
+use Rattle.rules.specs.declared.{Period.Period, History.History, Span.Span}
 use Rattle.rules.specs.Volumes.{registered}
 use Rattle.rules.specs.Register.{
   period,

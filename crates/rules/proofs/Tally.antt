@@ -9,8 +9,7 @@ use native.Mathlib.Nat.{le-trans, zero-add, suc-add}
 use lib.Dec.{eqb}
 use lib.ListN.{length}
 use borrow.Author.Tests.{eq-eqb, ne-eqb, eqb-true}
-use Rattle.rules.specs.declared.Period.{Period}
-use Rattle.rules.specs.declared.Span.{Span}
+use Rattle.rules.specs.declared.{Period.Period, Span.Span}
 use Rattle.rules.specs.Volumes.{dayVolume, volume, registered}
 use Rattle.rules.specs.Register.{period}
 use Rattle.rules.specs.DayBook.{Cell, cell, overwritten, countMarks, isMarked}

@@ -7,13 +7,13 @@ use lib.Dec.{eqb}
 use lib.ListN.{length}
 use Rattle.text.specs.Appending.{put}
 use Rattle.input.specs.Part.{partOf}
-use Rattle.desk.specs.declared.Desk.{Desk}
+use Rattle.desk.specs.declared.{Desk.Desk}
 use Rattle.desk.specs.Desk.{desk}
 use Rattle.register.specs.Opens.{noRegister}
-use Rattle.listing.specs.declared.Listed.{Listed}
+use Rattle.listing.specs.declared.{Listed.Listed}
 use Rattle.listing.specs.Listing
 use Rattle.listing.specs.Listing.{listing, piece}
-use Rattle.session.specs.declared.Session.{Session}
+use Rattle.session.specs.declared.{Session.Session}
 
 -- Before any input: the register of a desk that is not ready is not looked at.
 unfoldable pub startSession : Session

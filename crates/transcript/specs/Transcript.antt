@@ -5,28 +5,24 @@ use mathlib.Core.Path.{_≡_}
 use mathlib.Core.Bool.{true, cond}
 use mathlib.Core.List.{List, [], _∷_, _++_, map}
 use lib.ListN.{length, take}
-use Rattle.rules.specs.declared.Opening.{Opening}
-use Rattle.rules.specs.declared.Call.{Call}
-use Rattle.rules.specs.declared.Answer.{Answer}
+use Rattle.rules.specs.declared.{Opening.Opening, Call.Call, Answer.Answer}
 use Rattle.rules.specs.Answers.{isAccepted}
 use Rattle.rules.specs.Rejections.{openingAnswer}
 use Rattle.rules.specs.DayBook
 use Rattle.rules.specs.DayBook.{Book}
 use Rattle.rules.specs.Demand3.{Demand3, register}
 use Rattle.questions.specs.Asking.{Asked}
-use Rattle.message.specs.declared.Message.{Message}
-use Rattle.message.specs.declared.Message.the-variants.{Open, Ask, Unreadable}
+use Rattle.message.specs.declared.{Message.Message}
 use Rattle.message.specs.Lines.{kindOf}
 use Rattle.message.specs.Reading.{readLine}
 use Rattle.answer_lines.specs.Answers.{answerLine}
-use Rattle.listing.specs.declared.Listed.{Listed}
+use Rattle.listing.specs.declared.{Listed.Listed}
 use Rattle.listing.specs.ByBook.{bookListing}
 use Rattle.input.specs.Lines.{linesOf}
 use Rattle.input.specs.Machine.{said, afterLines, transcript}
-use Rattle.desk.specs.declared.Desk.{Desk}
+use Rattle.desk.specs.declared.{Desk.Desk}
 use Rattle.desk.specs.Desk.{desk, unreadable}
-use Rattle.session.specs.declared.Session.{Session}
-use Rattle.session.specs.declared.Fed.{Fed}
+use Rattle.session.specs.declared.{Session.Session, Fed.Fed}
 use Rattle.session.specs.Session.{nextDesk, sayLine, fedAs, FedBy}
 use Rattle.transcript.specs.Ends.{startSession, missingFeed, closing, ClosedFrom}
 
@@ -71,20 +67,20 @@ pub data BookDesk : Type 0 where
   at : Book → BookDesk
 
 abbrev pub bookAnswer : BookDesk → Message → Answer
-bookAnswer closed (Open o) = openingAnswer o
-bookAnswer closed (Ask c) = unreadable
-bookAnswer closed Unreadable = unreadable
-bookAnswer (at b) (Open o) = unreadable
-bookAnswer (at b) (Ask c) = DayBook.says b c
-bookAnswer (at b) Unreadable = unreadable
+bookAnswer closed (Message.Open o) = openingAnswer o
+bookAnswer closed (Message.Ask c) = unreadable
+bookAnswer closed Message.Unreadable = unreadable
+bookAnswer (at b) (Message.Open o) = unreadable
+bookAnswer (at b) (Message.Ask c) = DayBook.says b c
+bookAnswer (at b) Message.Unreadable = unreadable
 
 abbrev pub bookAfter : BookDesk → Message → BookDesk
-bookAfter closed (Open o) = cond (isAccepted (openingAnswer o)) (at (DayBook.opened o)) closed
-bookAfter closed (Ask c) = closed
-bookAfter closed Unreadable = closed
-bookAfter (at b) (Open o) = at b
-bookAfter (at b) (Ask c) = at (DayBook.next b c)
-bookAfter (at b) Unreadable = at b
+bookAfter closed (Message.Open o) = cond (isAccepted (openingAnswer o)) (at (DayBook.opened o)) closed
+bookAfter closed (Message.Ask c) = closed
+bookAfter closed Message.Unreadable = closed
+bookAfter (at b) (Message.Open o) = at b
+bookAfter (at b) (Message.Ask c) = at (DayBook.next b c)
+bookAfter (at b) Message.Unreadable = at b
 
 abbrev pub nextBook : BookDesk → List ℕ → BookDesk
 nextBook b l = bookAfter b (readLine l)
@@ -99,15 +95,15 @@ pub data Story : Type 0 where
 
 unfoldable pub callsIn : List Message → List Call
 callsIn [] = []
-callsIn (Open o ∷ ms) = callsIn ms
-callsIn (Ask c ∷ ms) = c ∷ callsIn ms
-callsIn (Unreadable ∷ ms) = callsIn ms
+callsIn (Message.Open o ∷ ms) = callsIn ms
+callsIn (Message.Ask c ∷ ms) = c ∷ callsIn ms
+callsIn (Message.Unreadable ∷ ms) = callsIn ms
 
 unfoldable pub storyOf : List Message → Story
 storyOf [] = untold
-storyOf (Open o ∷ ms) = cond (isAccepted (openingAnswer o)) (told o (callsIn ms)) (storyOf ms)
-storyOf (Ask c ∷ ms) = storyOf ms
-storyOf (Unreadable ∷ ms) = storyOf ms
+storyOf (Message.Open o ∷ ms) = cond (isAccepted (openingAnswer o)) (told o (callsIn ms)) (storyOf ms)
+storyOf (Message.Ask c ∷ ms) = storyOf ms
+storyOf (Message.Unreadable ∷ ms) = storyOf ms
 
 abbrev pub storyTold : List ℕ → Story
 storyTold input = storyOf (map readLine (linesOf input))

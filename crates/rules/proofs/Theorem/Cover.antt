@@ -12,8 +12,7 @@ use native.Mathlib.Nat.{add-zero, sub-self}
 use native.Mathlib.Decide.{ℕ-discrete}
 use lib.ListN.{take}
 use borrow.Author.Tests.{eq-eqb, ne-eqb, le-leb, lt-leb, lt-ltb, le-ltb}
-use Rattle.rules.specs.declared.Period.{Period}
-use Rattle.rules.specs.declared.Point.{Point}
+use Rattle.rules.specs.declared.{Period.Period, Point.Point}
 use Rattle.rules.specs.DayBook.{Cell, cell}
 use Rattle.rules.specs.Demand3.{
   periodsOf,

@@ -12,18 +12,6 @@ use Rattle.point.proofs.NewestTurn.{read-passed}
 use borrow.Author.Needs.{needs}
 use Rattle.point.proofs.latest.read_newest.Statement.{statement}
 use Rattle.point.proofs.latest.read_newest.Tie as tie
-use Rattle.point.proofs.latest.read_newest.Reads as reads
-use Rattle.point.proofs.latest.read_newest.Lts as lts
-use Rattle.answers.proofs.read_answer.Reads as read-answer-reads
-use Rattle.checks.proofs.is_accepted.Reads as is-accepted-reads
-use Rattle.periods.proofs.book_newest.Reads as book-newest-reads
-use Rattle.point.proofs.meter.span_to.Reads as span-to-reads
-
-read-answer-requires : tie.Need-read-answer-requires
-read-answer-requires c κs = search needs
-
-is-accepted-requires : tie.Need-is-accepted-requires
-is-accepted-requires c κs = search needs
 
 returns : tie.Need-returns
 unfolding readNewest
@@ -54,9 +42,6 @@ cast-t15 c =
     let k = read-passed (s .day) (s .today) (s .p) (s .d) (s .x) (s .z) (s .f) _ ((c .before .before .before .before .before .before .before .read-answer) .ensures) _ ((c .before .before .before .before .before .before .is-accepted) .ensures) (not-false _ ((c .before .before .before .before .before .if1) .left)) in
     omega (arith, k .0)
 
-book-newest-requires : tie.Need-book-newest-requires
-book-newest-requires c κs = search needs
-
 returns-3 : tie.Need-returns-3
 unfolding readNewest spanTo
 returns-3 c =
@@ -73,14 +58,5 @@ returns-3 c =
 
 pub read-newest-spec : {M : Type 1} → statement M
 read-newest-spec =
-    tie.close
-    (tie.spec
-    read-answer-requires
-    is-accepted-requires
-    returns
-    returns-2
-    cast-span-to
-    span-to-requires
-    cast-t15
-    book-newest-requires
-    returns-3)
+    tie.close (tie.spec (λ c κs. search needs) (λ c κs. search needs) returns returns-2 cast-span-to span-to-requires
+    cast-t15 (λ c κs. search needs) returns-3)

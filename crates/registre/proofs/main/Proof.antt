@@ -5,7 +5,7 @@ use lib.ListN.{length}
 use lib.Seq.{length-take-le}
 use native.Mathlib.Omega.{arith}
 use Rattle.session.proofs.Within.{fed-within}
-use Rattle.registre.proofs.Taken.{part-taken}
+use Rattle.transcript.proofs.Taken.{part-taken}
 use borrow.Author.Needs.{needs}
 use Rattle.registre.proofs.main.Statement.{statement}
 use Rattle.registre.proofs.main.Tie as tie

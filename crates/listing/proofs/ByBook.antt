@@ -14,9 +14,9 @@ use Rattle.rules.specs.Answers.{isAccepted, advanceTold}
 use Rattle.rules.specs.Rejections.{openingAnswer}
 use Rattle.rules.specs.Register.{noPeriod, noPoint, pointAt}
 use Rattle.rules.specs.Questions.{advanceAnswer}
-use Rattle.rules.specs.Demand3.{periodsOf, register}
-use Rattle.rules.proofs.Slots.{Sized, used-count}
-use Rattle.rules.proofs.Run.{run-agrees}
+use Rattle.rules.specs.Periods.{periodsOf, register}
+use Rattle.agreement.proofs.Slots.{Sized, used-count}
+use Rattle.agreement.proofs.Run.{run-agrees}
 use Rattle.questions.specs.ByBook.{bookPeriods, bookAdvance}
 use Rattle.questions.proofs.Asking.{point-sized, periods-are, advance-is}
 use Rattle.answer_lines.specs.Answers.{periodLine}

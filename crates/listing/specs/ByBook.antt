@@ -9,7 +9,7 @@ use mathlib.Core.Option.{Option, none, some}
 use Rattle.rules.specs.declared.{Period.Period, Opening.Opening, Call.Call}
 use Rattle.rules.specs.Answers.{isAccepted}
 use Rattle.rules.specs.Rejections.{openingAnswer}
-use Rattle.rules.specs.Demand3.{register}
+use Rattle.rules.specs.Periods.{register}
 use Rattle.questions.specs.ByBook.{bookPeriods, bookAdvance}
 use Rattle.answer_lines.specs.Answers.{periodLine, totalLine}
 use Rattle.listing.specs.Listing.{listing}

@@ -21,12 +21,13 @@ use Rattle.rules.specs.Rejections.{openingAnswer, notPoint}
 use Rattle.rules.specs.Register.{used, pointAt}
 use Rattle.rules.specs.Questions.{holderAnswer, periodAnswer, advanceAnswer}
 use Rattle.rules.specs.DayBook.{opened, readings, enrolments, Page}
-use Rattle.rules.specs.Demand3.{PointAgrees, periodsOf, holderOn, book, register}
-use Rattle.rules.proofs.Tally.{tally-desc, live-runs, Desc}
-use Rattle.rules.proofs.Slots.{listed, Sized, used-count, take-listed}
-use Rattle.rules.proofs.Tied.{Tied, Since}
-use Rattle.rules.proofs.Run.{run-agrees}
-use Rattle.rules.proofs.Theorem.{day-book-agrees}
+use Rattle.rules.specs.Periods.{periodsOf, holderOn, book, register}
+use Rattle.agreement.specs.Demand3.{PointAgrees}
+use Rattle.agreement.proofs.Tally.{tally-desc, live-runs, Desc}
+use Rattle.agreement.proofs.Slots.{listed, Sized, used-count, take-listed}
+use Rattle.agreement.proofs.Tied.{Tied, Since}
+use Rattle.agreement.proofs.Run.{run-agrees}
+use Rattle.agreement.proofs.Theorem.{day-book-agrees}
 use Rattle.rules.proofs.Seen.{pending-unseen, request-unseen}
 use Rattle.questions.specs.ByBook.{
   periodsIn,

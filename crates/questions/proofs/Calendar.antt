@@ -11,7 +11,7 @@ use Rattle.rules.specs.Answers.{isAccepted}
 use Rattle.rules.specs.Rejections.{answer, openingAnswer}
 use Rattle.rules.specs.Register.{register, catchUp, advanced, says, done, applied, after, opened}
 use Rattle.rules.proofs.Accept.{pass}
-use Rattle.rules.proofs.Theorem.Answered.{passed}
+use Rattle.rules.proofs.Views.{passed}
 
 done-day : (t : ℕ) (a : Action) (r : Register) → done t a r .day ≡ r .day
 unfolding done

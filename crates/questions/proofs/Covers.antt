@@ -16,9 +16,9 @@ use Rattle.rules.specs.declared.HolderAnswer.the-variants as holder
 use Rattle.rules.specs.Answers.{holderNumber, holderTold}
 use Rattle.rules.specs.Register.{noPeriod}
 use Rattle.rules.specs.Questions.{holderAmong, sumOf}
-use Rattle.rules.specs.Demand3.{covering, isBeforeNext}
-use Rattle.rules.proofs.Tally.{sumVolumes, oldest, Desc, desc-up, oldest-le}
-use Rattle.rules.proofs.Slots.{recent}
+use Rattle.rules.specs.Periods.{covering, isBeforeNext}
+use Rattle.agreement.proofs.Tally.{sumVolumes, oldest, Desc, desc-up, oldest-le}
+use Rattle.agreement.proofs.Slots.{recent}
 
 abbrev holders : List Period → List (Option ℕ)
 holders ps = map (λ (q : Period). some (q .holder)) ps

@@ -18,7 +18,7 @@ use Rattle.rules.specs.Answers.{
 use Rattle.rules.specs.Rejections.{openingAnswer}
 use Rattle.rules.specs.Questions.{holderAnswer, periodAnswer, advanceAnswer}
 use Rattle.rules.specs.DayBook.{opened, enrolments}
-use Rattle.rules.specs.Demand3.{register}
+use Rattle.rules.specs.Periods.{register}
 use Rattle.rules.specs.Seen.{PendingUnseen, RequestUnseen}
 use Rattle.questions.specs.ByBook.{askedNumber, bookHolder, bookPeriod, bookAdvance}
 

@@ -14,7 +14,7 @@ use Rattle.rules.specs.Volumes.{volume, registered}
 use Rattle.rules.specs.Rejections.{notPoint}
 use Rattle.rules.specs.Register.{period}
 use Rattle.rules.specs.DayBook.{Cell, cell, opened, readings, enrolments}
-use Rattle.rules.specs.Demand3.{holderOn, sumDays, book}
+use Rattle.rules.specs.Periods.{holderOn, sumDays, book}
 
 -- "The register's periods are the marked cells: each starts at one and runs to the next, the last without end." The cells stand
 -- newest first; the next period starts on day `end`, and l are the later periods.

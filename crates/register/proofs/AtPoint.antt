@@ -15,7 +15,7 @@ use Rattle.rules.specs.declared.{PointAction.PointAction}
 use Rattle.rules.specs.Answers.{isAccepted}
 use Rattle.rules.specs.Rejections.{View, blankView, notPoint, shown, answerTo, answer}
 use Rattle.rules.specs.Register.{catchUp, startsOn, view, blankPoint, register, pointAt, advanced, says, acted, done, outcome, applied}
-use Rattle.rules.proofs.Theorem.Answered.{answer-off, answer-at, accepted-point}
+use Rattle.rules.proofs.Views.{answer-off, answer-at, accepted-point}
 use Rattle.point.specs.declared.{Ruling.Ruling}
 use Rattle.point.specs.Turn.{turned}
 use Rattle.register.specs.Calls.{callAt, advancedTo, pointOn}

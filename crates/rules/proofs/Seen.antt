@@ -18,7 +18,7 @@ use Rattle.rules.specs.Register.{noPoint, pointAt, view, advanced, says,
 use Rattle.rules.specs.Scenes.{on}
 use Rattle.rules.specs.Questions.{holderAnswer, periodAnswer, advanceAnswer}
 use Rattle.rules.specs.Seen.{notAsked, withoutPending, PendingUnseen, onlyDay, RequestUnseen}
-use Rattle.rules.proofs.Theorem.Answered.{passed}
+use Rattle.rules.proofs.Views.{passed}
 
 -- The point that stands for none has no request already.
 point-unseen : (p : ℕ) (ps : List Point) → pointAt p (map notAsked ps) ≡ notAsked (pointAt p ps)

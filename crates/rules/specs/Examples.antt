@@ -19,7 +19,7 @@ use Rattle.rules.specs.Volumes.{dayVolume}
 use Rattle.rules.specs.Opening.{settingsOf}
 use Rattle.rules.specs.Rejections.{openingAnswer, tooLate}
 use Rattle.rules.specs.Register.{period}
-use Rattle.rules.specs.Demand3.{sumDays}
+use Rattle.rules.specs.Periods.{sumDays}
 use Rattle.rules.specs.Scenes.{Line, _gives_, opening, on, Plays, Shows}
 
 -- W = 2, A = 30, B = 40; 1 is the default supplier, 2 the last-resort supplier.

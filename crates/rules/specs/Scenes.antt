@@ -18,7 +18,7 @@ use Rattle.rules.specs.Register.{pointAt}
 use Rattle.rules.specs.Questions.{advanceAnswer}
 use Rattle.rules.specs.DayBook
 use Rattle.rules.specs.DayBook.{Cell}
-use Rattle.rules.specs.Demand3.{periodsOf, markedDays, holderOn, dailySums, book, register}
+use Rattle.rules.specs.Periods.{periodsOf, markedDays, holderOn, dailySums, book, register}
 
 -- First day, W, A, B, the default and the last-resort supplier: the fields of a line `set`, in its order.
 abbrev pub opening : ℕ → ℕ → ℕ → ℕ → ℕ → ℕ → Opening

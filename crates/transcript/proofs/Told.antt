@@ -11,9 +11,9 @@ use Rattle.rules.specs.Register.{applied}
 use Rattle.rules.specs.Register as R
 use Rattle.rules.specs.DayBook.{Book}
 use Rattle.rules.specs.DayBook as D
-use Rattle.rules.proofs.Step.{Agree, says-agree, call-agree, readNow, enrolledNow}
-use Rattle.rules.proofs.Run.{run-agrees}
-use Rattle.rules.proofs.Theorem.{day-book-agrees}
+use Rattle.agreement.proofs.Step.{Agree, says-agree, call-agree, readNow, enrolledNow}
+use Rattle.agreement.proofs.Run.{run-agrees}
+use Rattle.agreement.proofs.Theorem.{day-book-agrees}
 use Rattle.message.specs.declared.{Message.Message}
 use Rattle.message.specs.Lines.{kindOf}
 use Rattle.message.specs.Reading.{readLine}

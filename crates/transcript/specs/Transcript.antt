@@ -10,7 +10,8 @@ use Rattle.rules.specs.Answers.{isAccepted}
 use Rattle.rules.specs.Rejections.{openingAnswer}
 use Rattle.rules.specs.DayBook
 use Rattle.rules.specs.DayBook.{Book}
-use Rattle.rules.specs.Demand3.{Demand3, register}
+use Rattle.rules.specs.Periods.{register}
+use Rattle.agreement.specs.Demand3.{Demand3}
 use Rattle.questions.specs.Asking.{Asked}
 use Rattle.message.specs.declared.{Message.Message}
 use Rattle.message.specs.Lines.{kindOf}

@@ -7,7 +7,7 @@ use Rattle.rules.specs.declared.{AdvanceAnswer.AdvanceAnswer}
 use Rattle.rules.specs.Answers.{holderNumber, periodNumber, advanceNumber}
 use Rattle.rules.specs.Register.{period}
 use Rattle.rules.specs.Questions.{holderAnswer, periodAnswer, advanceAnswer}
-use Rattle.rules.specs.Demand3.{register}
+use Rattle.rules.specs.Periods.{register}
 use Rattle.rules.specs.Scenes.{_gives_, on, calls}
 use Rattle.rules.specs.RowExamples.Scene.{opens, ready}
 

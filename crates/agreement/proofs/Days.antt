@@ -9,15 +9,15 @@ use lib.Dec.{eqb}
 use lib.ListN.{length, getD}
 use borrow.Author.Tests.{eqb-true}
 use Rattle.dates.specs.Dates.{lastDay}
 use Rattle.rules.specs.declared.{Fields.Fields, Point.Point, Register.Register, Settings.Settings, Span.Span}
 use Rattle.rules.specs.Effects.{Effect, event}
 use Rattle.rules.specs.Volumes.{volume}
 use Rattle.rules.specs.Register.{catchUp, register, pointAt, noPoint, advanced}
 use Rattle.rules.specs.DayBook.{cell, Page, Book, newDay, goOn, upToDay, look}
-use Rattle.rules.proofs.Tally.{live-runs, dawn}
-use Rattle.rules.proofs.Theorem.Jump.{Ahead, onDay, daily, daily-catchUp}
-use Rattle.rules.proofs.Theorem.Good.{Fine, event-good}
-use Rattle.rules.proofs.Tied.{Told, Tied, effect-tied}
+use Rattle.agreement.proofs.Tally.{live-runs, dawn}
+use Rattle.agreement.proofs.Jump.{Ahead, onDay, daily, daily-catchUp}
+use Rattle.agreement.proofs.Good.{Fine, event-good}
+use Rattle.agreement.proofs.Tied.{Told, Tied, effect-tied}
 
 module _ (S : Settings) (B : 0 < S .b) where
   -- one day on both sides

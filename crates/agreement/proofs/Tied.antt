@@ -11,14 +11,14 @@ use native.Mathlib.Nat.{add-zero, le-trans}
 use native.Mathlib.Numerals.{add-one}
 use lib.ListN.{length}
 use Rattle.dates.specs.Dates.{lastDay}
 use Rattle.rules.specs.declared.{Fields.Fields, History.History, Period.Period, Point.Point, Span.Span}
 use Rattle.rules.specs.Effects.{Effect, keep, name, fieldsOf}
 use Rattle.rules.specs.Volumes.{volume, registered}
 use Rattle.rules.specs.Rejections.{marksAfter}
 use Rattle.rules.specs.Register.{startsOn, named, entered, bookedAll, view}
 use Rattle.rules.specs.DayBook.{Cell, cell, Page, overwritten, written, countMarks, isMarked, look}
-use Rattle.rules.proofs.Shares.{All, all-map, volume-append, registered-append, volume-after}
-use Rattle.rules.proofs.Tally.{
+use Rattle.agreement.proofs.Shares.{All, all-map, volume-append, registered-append, volume-after}
+use Rattle.agreement.proofs.Tally.{
   begin,
   beganOn,
   bookTotals,
@@ -41,7 +41,7 @@ use Rattle.rules.proofs.Tally.{
   sum-bookTotals,
   oldest-bookTotals,
 }
-use Rattle.rules.proofs.Slots.{
+use Rattle.agreement.proofs.Slots.{
   listed,
   Sized,
   used-count,
@@ -52,7 +52,7 @@ use Rattle.rules.proofs.Slots.{
   bookedAll-listed,
   bookedAll-sized,
 }
-use Rattle.rules.proofs.Theorem.Good.{perDay, Fine, Names, Good}
+use Rattle.agreement.proofs.Good.{perDay, Fine, Names, Good}
 
 -- The oldest period starts on the one enrolment day, at or before the last reading.
 pub record Since (n : List ℕ) (ps : List Period) (d : ℕ) : Type 0 where

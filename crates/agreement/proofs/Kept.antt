@@ -41,10 +41,10 @@ use Rattle.rules.specs.Rejections.{
   acceptedAt,
   accepted,
 }
 use Rattle.rules.specs.DayBook.{enrolsAt, enrols}
 use Rattle.rules.proofs.Accept.{pass, neither}
-use Rattle.rules.proofs.Theorem.Jump.{PendingAhead}
-use Rattle.rules.proofs.Theorem.Good.{
+use Rattle.agreement.proofs.Jump.{PendingAhead}
+use Rattle.agreement.proofs.Good.{
   perDay,
   Wheels,
   Fine,

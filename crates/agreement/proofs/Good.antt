@@ -9,14 +9,14 @@ use Prim.Native.Nat.{ℕ, suc, _+_, _*_, _≤_, _<_}
 use native.Mathlib.Omega.{arith}
 use lib.Dec.{eqb}
 use borrow.Author.Tests.{eqb-false}
 use Rattle.rules.specs.declared.{Fields.Fields, Settings.Settings, Supply.Supply, SupplyKind.SupplyKind}
 use Rattle.rules.specs.declared.{Pending.Pending, Meter.Meter, Reading.Reading, Span.Span}
 use Rattle.rules.specs.Fields.{supply, fields, withSupply, unsupplied}
 use Rattle.rules.specs.Effects.{Effect, keep, name, fieldsOf, event, pendingEvent, deadlineEvent}
 use Rattle.rules.specs.Volumes.{registered}
 use Rattle.rules.specs.Rejections.{View, due, marksAfter}
-use Rattle.rules.proofs.Shares.{All}
-use Rattle.rules.proofs.Theorem.Jump.{Ahead, KindAhead, PendingAhead}
+use Rattle.agreement.proofs.Shares.{All}
+use Rattle.agreement.proofs.Jump.{Ahead, KindAhead, PendingAhead}
 
 -- No reading books more than this, and each takes a day.
 abbrev pub perDay : ℕ

@@ -30,10 +30,10 @@ use Rattle.rules.specs.Register.{
   done,
   applied,
 }
 use Rattle.rules.specs.DayBook
 use Rattle.rules.specs.DayBook.{Book, Page, upToDay, look, signed, written, next, enrols}
-use Rattle.rules.proofs.Theorem.Good.{Good}
-use Rattle.rules.proofs.Theorem.Answered.{
+use Rattle.agreement.proofs.Good.{Good}
+use Rattle.rules.proofs.Views.{
   shown-in,
   answer-ext,
   answer-off,
@@ -42,10 +42,10 @@ use Rattle.rules.proofs.Theorem.Answered.{
   passed,
   names-point,
 }
 use Rattle.rules.proofs.Accept.{neither}
-use Rattle.rules.proofs.Theorem.Kept.{call-good}
-use Rattle.rules.proofs.Tied.{Tied, views-agree, effect-tied}
-use Rattle.rules.proofs.Theorem.Days.{gone-on, point-map, caught}
+use Rattle.agreement.proofs.Kept.{call-good}
+use Rattle.agreement.proofs.Tied.{Tied, views-agree, effect-tied}
+use Rattle.agreement.proofs.Days.{gone-on, point-map, caught}
 
 -- The whole book beside the whole register, with the readings and enrolments of each point so far.
 pub record Agree (l : ℕ → List Span) (n : ℕ → List ℕ) (b : Book) (r : Register) : Type 0 where

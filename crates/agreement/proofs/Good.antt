@@ -185,7 +185,8 @@ module _ (S : Settings) (B : 0 < S .b) (t : ℕ) where
       deadline-good (SupplyKind.LastResort d) q f b a c = go (eqb d (suc t)) refl
         where
           go : (x : Bool) → eqb d (suc t) ≡ x
-              → Good (suc t) (seen (SupplyKind.LastResort d) q) (deadlineEvent S (suc t) (seen (SupplyKind.LastResort d) q .fields) (SupplyKind.LastResort d)) [] []
+              → Good (suc t) (seen (SupplyKind.LastResort d) q) (deadlineEvent S (suc t) (seen (SupplyKind.LastResort d) q .fields) (SupplyKind.LastResort d))
+              [] []
           go true z =
               rw z (spends (seen (SupplyKind.LastResort d) q) (omega arith) u f b unsupplied (record { kind = tt; pending = tt }) (omega arith))
           go false z = rw z (nothing (SupplyKind.LastResort d) q f b (later d a z) c)
@@ -200,7 +201,8 @@ module _ (S : Settings) (B : 0 < S .b) (t : ℕ) where
           go : (x : Bool) → eqb e (suc t) ≡ x
               → Good (suc t) (seen k (Pending.Request s e)) (pendingEvent S (suc t) (seen k (Pending.Request s e) .fields) (Pending.Request s e)) [] []
           go true z =
-              rw z (spends (seen k (Pending.Request s e)) (omega arith) u f b (supply s SupplyKind.Contract Pending.Nothing) (record { kind = tt; pending = tt })
+              rw z (spends (seen k (Pending.Request s e)) (omega arith) u f b (supply s SupplyKind.Contract Pending.Nothing)
+              (record { kind = tt; pending = tt })
               (omega arith))
           go false z = rw z (deadline-good k (Pending.Request s e) f b a (later e c z))
 

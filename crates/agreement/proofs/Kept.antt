@@ -120,7 +120,8 @@ module _ (S : Settings) (A : 0 < S .a) (B : 0 < S .b) (u : List Bool) (t : ℕ) 
     not-full e f = ltb-false 24 (marksAfter v e + due (fieldsOf e .supply)) f
 
     -- a pending request comes or goes
-    asks : v .fields .enrolled ≡ true → (q : Pending) → PendingAhead t q → marksAfter v (keep (withPending (v .fields) q)) + due (withPending (v .fields) q .supply) ≤ 24
+    asks : v .fields .enrolled ≡ true → (q : Pending) → PendingAhead t q →
+        marksAfter v (keep (withPending (v .fields) q)) + due (withPending (v .fields) q .supply) ≤ 24
         → Good t v (keep (withPending (v .fields) q)) [] []
     asks y q a f =
         unread t v h (keep (withPending (v .fields) q)) [] refl refl (record { kind = h .ahead .kind; pending = a }) refl (refl, refl) f

@@ -1,5 +1,6 @@
--- Demand 3: for every list of the twelve calls from a newly opened register, the register is what the day book says. 01: "Demand 3 is
--- one statement about the whole list, not one for each call." proofs/Theorem.antt proves it. Definitions only.
+-- Demand 3: for every list of the twelve calls from a newly opened register, the register is what the day book says.
+-- 01: "Demand 3 is one statement about the whole list, not one for each call." proofs/Theorem.antt proves it.
+-- Definitions only.
 use mathlib.Core.Path.{_≡_}
 use mathlib.Core.Bool.{true}
 use mathlib.Core.List.{List, [], _∷_, map}
@@ -28,23 +29,27 @@ use Rattle.rules.specs.Periods.{
   register,
 }
 
--- One point of the register beside its page, where the last day is `last`; the readings and the enrolments come from the list.
-pub record PointAgrees (last : ℕ) (readings : List Span) (enrolments : List ℕ) (page : Page) (point : Point) : Type 0 where
-  pub fields : point .fields ≡ page .fields
-  -- "The register's periods are the marked cells": they start at these and nowhere else
-  pub starts : startsOf point ≡ markedDays (page .cells) []
-  -- the first period starts on the enrolment day; no point is enrolled twice, and one that is not has no period
-  pub first : take 1 (startsOf point) ≡ enrolments
-  -- each gas day from enrolment to the register's day has a cell and lies in exactly one period, with the cell's holder
-  pub covered : (e d : ℕ) → enrolments ≡ e ∷ [] → e ≤ d → d ≤ last
-      → map (λ (q : Period). some (q .holder)) (covering d (periodsOf point)) ≡ holderOn d (page .cells) ∷ []
-  -- "A period's booked volume is the sum over its days", whose volumes are worked out from the list; so no volume has wrapped
-  pub volumes : volumesOf point ≡ dailySums (volume readings) last (startsOf point)
-  -- a point's volumes add up to its registered advance
-  pub advance : total (volumesOf point) ≡ registered readings
-  -- never more than 24 periods, those that are due included; and the full turn is 10^w
-  pub room : point .history .count + due (point .fields .supply) ≤ 24
-  pub turn : fullTurn (point .fields .meter) ≡ 10 ^ (point .fields .meter .before + point .fields .meter .after)
+-- One point of the register beside its page, where the last day is `last`; the readings and the enrolments come from
+-- the list.
+pub record PointAgrees (last : ℕ) (readings : List Span) (enrolments : List ℕ) (page : Page) (point : Point) : Type 0
+  where
+    pub fields : point .fields ≡ page .fields
+    -- "The register's periods are the marked cells": they start at these and nowhere else
+    pub starts : startsOf point ≡ markedDays (page .cells) []
+    -- the first period starts on the enrolment day; no point is enrolled twice, and one that is not has no period
+    pub first : take 1 (startsOf point) ≡ enrolments
+    -- each gas day from enrolment to the register's day has a cell and lies in exactly one period, with the cell's
+    -- holder
+    pub covered : (e d : ℕ) → enrolments ≡ e ∷ [] → e ≤ d → d ≤ last
+        → map (λ (q : Period). some (q .holder)) (covering d (periodsOf point)) ≡ holderOn d (page .cells) ∷ []
+    -- "A period's booked volume is the sum over its days", whose volumes are worked out from the list; so no volume has
+    -- wrapped
+    pub volumes : volumesOf point ≡ dailySums (volume readings) last (startsOf point)
+    -- a point's volumes add up to its registered advance
+    pub advance : total (volumesOf point) ≡ registered readings
+    -- never more than 24 periods, those that are due included; and the full turn is 10^w
+    pub room : point .history .count + due (point .fields .supply) ≤ 24
+    pub turn : fullTurn (point .fields .meter) ≡ 10 ^ (point .fields .meter .before + point .fields .meter .after)
 
 pub record Demand3 (o : Opening) (calls : List Call) : Type 0 where
   -- every answer is the day book's, "with the date it carries"
@@ -56,7 +61,8 @@ pub record Demand3 (o : Opening) (calls : List Call) : Type 0 where
   pub book-settings : book o calls .settings ≡ settingsOf o
   pub contracts : register o calls .contracts ≡ book o calls .contracts
   pub points : (p : ℕ) → 1 ≤ p → p ≤ 32
-      → PointAgrees (register o calls .day) (DayBook.readings (DayBook.opened o) calls p) (DayBook.enrolments (DayBook.opened o) calls p)
+      → PointAgrees (register o calls .day) (DayBook.readings (DayBook.opened o) calls p)
+      (DayBook.enrolments (DayBook.opened o) calls p)
       (book o calls .page p) (pointAt p (register o calls .points))
 
 -- The only hypothesis is that the opening is accepted.

@@ -47,7 +47,9 @@ abbrev pub enrolledQuestions : ℕ → Scope → List Question
 enrolledQuestions p s = each (Question.Period p) 0 (s .count + 2) ++ each (Question.Holder p) (dayBefore s) (days s)
 
 unfoldable pub questionsIn : ℕ → Scope → List Question
-questionsIn p s = Question.Advance p ∷ cond (s .enrolled) (enrolledQuestions p s) (Question.Holder p (s .day) ∷ Question.Period p 1 ∷ [])
+questionsIn p s =
+    Question.Advance p ∷ cond (s .enrolled) (enrolledQuestions p s)
+    (Question.Holder p (s .day) ∷ Question.Period p 1 ∷ [])
 
 abbrev pub questionsOf : Register → ℕ → List Question
 questionsOf r p = questionsIn p (scopeOf r p)

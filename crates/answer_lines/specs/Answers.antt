@@ -36,7 +36,8 @@ feed = 10 ∷ []
 -- 01: "Answer line: kind; 1 accepted or 0 rejected; number, 0 if accepted; a date".
 unfoldable pub answerLine : Kind → Answer → List ℕ
 answerLine k a =
-    word (shownKind k (number a)) ++ sep (verdict (isAccepted a) ∷ sep (decimal (number a) (sep (dateShown (date a) feed))))
+    word (shownKind k (number a)) ++ sep (verdict (isAccepted a) ∷
+    sep (decimal (number a) (sep (dateShown (date a) feed))))
 
 -- 01: "its periods (point; start; holder; volume)".
 unfoldable pub periodLine : ℕ → Period → List ℕ

@@ -21,8 +21,8 @@ bare f = record { fields = f; history = history 0 [] }
 abbrev pub noSettings : Settings
 noSettings = record { w = 0; a = 0; b = 0; default = 0; resort = 0 }
 
--- The same for a reading, by the point's fields alone: proofs/Readings has it that the settings, who is under contract and the periods
--- make no difference.
+-- The same for a reading, by the point's fields alone: proofs/Readings has it that the settings, who is under
+-- contract and the periods make no difference.
 abbrev pub readRuling : ℕ → ℕ → ℕ → ℕ → ℕ → Fields → Answer
 readRuling t p d x z f = rulingAt noSettings [] t p (PointAction.Read d x z) (bare f)
 

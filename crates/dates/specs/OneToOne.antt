@@ -13,7 +13,8 @@ pub record OneToOne : Type 0 where
   -- a day of the calendar has a real date
   pub date-is-real : (n : ℕ) → n ≤ lastDay → isReal (dateOf n .year) (dateOf n .month) (dateOf n .day) ≡ true
   -- and the day of that date is the day
-  pub day-date-day : (n : ℕ) → n ≤ lastDay → dayAnswer (dateOf n .year) (dateOf n .month) (dateOf n .day) ≡ DayAnswer.Day n
+  pub day-date-day : (n : ℕ) → n ≤ lastDay → dayAnswer (dateOf n .year) (dateOf n .month) (dateOf n .day) ≡
+      DayAnswer.Day n
   -- a number past the last day has no date
   pub no-other-day : (n : ℕ) → lastDay < n → dateAnswer n ≡ DateAnswer.OffCalendar
   -- a real date has a day of the calendar

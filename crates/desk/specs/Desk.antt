@@ -1,4 +1,5 @@
--- 01, Message lines: what a message is answered, and what it changes, before and after the register is opened. Definitions only.
+-- 01, Message lines: what a message is answered, and what it changes, before and after the register is opened.
+-- Definitions only.
 use mathlib.Core.Bool.{Bool, true, cond, not, _&&_}
 use Rattle.rules.specs.declared.{Register.Register, Answer.Answer}
 use Rattle.rules.specs.Answers.{isAccepted}

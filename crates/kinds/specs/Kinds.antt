@@ -46,7 +46,9 @@ paddedWord Kind.Unknown = padded (ascii "?       ") 1
 
 -- The kinds that a line can have.
 abbrev pub kinds : List Kind
-kinds = Kind.Set ∷ Kind.Ctr ∷ Kind.Def ∷ Kind.Enr ∷ Kind.Demmespc ∷ Kind.I ∷ Kind.Demcf ∷ Kind.Adc ∷ Kind.Ri ∷ Kind.Cdt ∷ Kind.Demmhs ∷ Kind.Sus ∷ Kind.Jour ∷ []
+kinds =
+    Kind.Set ∷ Kind.Ctr ∷ Kind.Def ∷ Kind.Enr ∷ Kind.Demmespc ∷ Kind.I ∷ Kind.Demcf ∷ Kind.Adc ∷ Kind.Ri ∷ Kind.Cdt ∷
+    Kind.Demmhs ∷ Kind.Sus ∷ Kind.Jour ∷ []
 
 -- Those of them whose word has three letters.
 abbrev pub threes : List Kind

@@ -11,7 +11,8 @@ use Rattle.message.specs.Lines.{ask, askAt}
 use Rattle.message.specs.Reading.{readLine}
 
 abbrev pub opening : ℕ → ℕ → ℕ → ℕ → ℕ → ℕ → Message
-opening d w a b default resort = Message.Open (record { day = d; w = w; a = a; b = b; default = default; resort = resort })
+opening d w a b default resort =
+    Message.Open (record { day = d; w = w; a = a; b = b; default = default; resort = resort })
 
 -- A line is read, or it is unreadable.
 abbrev pub Says : List ℕ → Message → Type 0
@@ -69,7 +70,8 @@ pub record LineExamples : Type 0 where
   pub demmhs-extra : Refused31 (ascii "demmhs;20210114;1;1")
   pub sus-extra : Refused31 (ascii "sus;20210114;1;0;1")
   pub jour-extra : Refused31 (ascii "jour;20210114;1")
-  -- 01: "dates aaaammjj as real dates of the calendar, other fields decimal, 1 to 12 digits, no leading zero except 0 itself"
+  -- 01: "dates aaaammjj as real dates of the calendar, other fields decimal, 1 to 12 digits, no leading zero except 0
+  -- itself"
   pub leading-zero : Refused31 (ascii "ctr;20210101;05")
   pub two-zeros : Refused31 (ascii "ctr;20210101;00")
   pub thirteen-digits : Refused31 (ascii "ctr;20210101;1000000000000")

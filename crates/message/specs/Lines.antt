@@ -18,7 +18,8 @@ num n l = fieldText Sort.Number n l
 
 -- The lines of the calls that name a point: t is today, p the point.
 abbrev pub pointLine : ℕ → ℕ → PointAction → List ℕ
-pointLine t p (PointAction.Enrol before after index) = word Kind.Enr ++ date t (num p (num before (num after (num index []))))
+pointLine t p (PointAction.Enrol before after index) =
+    word Kind.Enr ++ date t (num p (num before (num after (num index []))))
 pointLine t p (PointAction.IntoService s key) = word Kind.Demmespc ++ date t (num p (num s (num key [])))
 pointLine t p (PointAction.DefaultSupply key) = word Kind.I ++ date t (num p (num key []))
 pointLine t p (PointAction.AskSwitch s key r) = word Kind.Demcf ++ date t (num p (num s (num key (date r []))))
@@ -38,7 +39,8 @@ callLine t Action.Day = word Kind.Jour ++ date t []
 
 -- 01: "`set` opens (first day for today, W, A, B, default, last resort)".
 abbrev pub openLine : Opening → List ℕ
-openLine o = word Kind.Set ++ date (o .day) (num (o .w) (num (o .a) (num (o .b) (num (o .default) (num (o .resort) [])))))
+openLine o =
+    word Kind.Set ++ date (o .day) (num (o .w) (num (o .a) (num (o .b) (num (o .default) (num (o .resort) [])))))
 
 -- The line of a message.
 abbrev pub lineOf : Message → List ℕ
@@ -57,7 +59,8 @@ pointParts t p (PointAction.DefaultSupply key) = parts Kind.I (t ∷ p ∷ key �
 pointParts t p (PointAction.AskSwitch s key r) = parts Kind.Demcf (t ∷ p ∷ s ∷ key ∷ r ∷ 0 ∷ 0 ∷ [])
 pointParts t p (PointAction.Cancel s) = parts Kind.Adc (t ∷ p ∷ s ∷ 0 ∷ 0 ∷ 0 ∷ 0 ∷ [])
 pointParts t p (PointAction.Read d x z) = parts Kind.Ri (t ∷ p ∷ d ∷ x ∷ z ∷ 0 ∷ 0 ∷ [])
-pointParts t p (PointAction.ChangeMeter x z before after fresh) = parts Kind.Cdt (t ∷ p ∷ x ∷ z ∷ before ∷ after ∷ fresh ∷ [])
+pointParts t p (PointAction.ChangeMeter x z before after fresh) =
+    parts Kind.Cdt (t ∷ p ∷ x ∷ z ∷ before ∷ after ∷ fresh ∷ [])
 pointParts t p PointAction.OutOfService = parts Kind.Demmhs (t ∷ p ∷ 0 ∷ 0 ∷ 0 ∷ 0 ∷ 0 ∷ [])
 pointParts t p (PointAction.Suspend mark) = parts Kind.Sus (t ∷ p ∷ mark ∷ 0 ∷ 0 ∷ 0 ∷ 0 ∷ [])
 
@@ -105,7 +108,8 @@ messageOf Kind.Demcf v = askAt (getD v 0 0) (getD v 1 0) (PointAction.AskSwitch 
 messageOf Kind.Adc v = askAt (getD v 0 0) (getD v 1 0) (PointAction.Cancel (getD v 2 0))
 messageOf Kind.Ri v = askAt (getD v 0 0) (getD v 1 0) (PointAction.Read (getD v 2 0) (getD v 3 0) (getD v 4 0))
 messageOf Kind.Cdt v =
-    askAt (getD v 0 0) (getD v 1 0) (PointAction.ChangeMeter (getD v 2 0) (getD v 3 0) (getD v 4 0) (getD v 5 0) (getD v 6 0))
+    askAt (getD v 0 0) (getD v 1 0) (PointAction.ChangeMeter (getD v 2 0) (getD v 3 0) (getD v 4 0) (getD v 5 0)
+    (getD v 6 0))
 messageOf Kind.Demmhs v = askAt (getD v 0 0) (getD v 1 0) PointAction.OutOfService
 messageOf Kind.Sus v = askAt (getD v 0 0) (getD v 1 0) (PointAction.Suspend (getD v 2 0))
 messageOf Kind.Jour v = ask (getD v 0 0) Action.Day

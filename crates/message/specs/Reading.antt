@@ -26,4 +26,5 @@ messageAs k l = messageWith k (fieldsOf (sortsOf (shapeOf k)) [] l)
 
 -- 01: "A line has at most 96 bytes without its line feed".
 unfoldable pub readLine : List ℕ → Message
-readLine l = cond (leb (length l) 96) (messageAs (kindNamed (take (wordEnd l) l)) (drop (wordEnd l) l)) Message.Unreadable
+readLine l =
+    cond (leb (length l) 96) (messageAs (kindNamed (take (wordEnd l) l)) (drop (wordEnd l) l)) Message.Unreadable

@@ -55,7 +55,8 @@ module _ (S : Settings) (day : ℕ) (u : List Bool) (f : Fields) (h : History) w
   heard b m = dailyOf b day m (h .count) f (newest h)
 
   at-turn : (b : Bool) (t p : ℕ) (a : PointAction) → heard b (Message.Ask (record { today = t; action = Action.At p a })) .is ≡ true →
-      turnOf S day u b (Message.Ask (record { today = t; action = Action.At p a })) (whole f h) ≡ says (heard b (Message.Ask (record { today = t; action = Action.At p a })))
+      turnOf S day u b (Message.Ask (record { today = t; action = Action.At p a })) (whole f h) ≡
+      says (heard b (Message.Ask (record { today = t; action = Action.At p a })))
   unfolding dailyOf turnOf
   at-turn false t p a e = absurd (false≢true e)
   at-turn true t p (PointAction.Read d x z) e = read-turn t p d x z _ refl e

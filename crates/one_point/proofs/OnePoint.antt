@@ -109,7 +109,8 @@ module _ (r : Register) (quiet : ℕ) (h : quiet ≤ firstDue (r .points)) (t : 
   sign-supplier s e = go (notSupplier s) e
     where
       go : (x : Bool) →
-          isAccepted (cond x (Answer.Refused 22) (cond (ltb lastDay t) (Answer.Refused 20) (cond (ltb t (r .day)) (Answer.Refused 21) Answer.Accepted))) ≡ true →
+          isAccepted (cond x (Answer.Refused 22) (cond (ltb lastDay t) (Answer.Refused 20) (cond (ltb t (r .day)) (Answer.Refused 21) Answer.Accepted))) ≡
+          true →
           x ≡ false
       go true k = absurd (false≢true k)
       go false k = refl

@@ -1,5 +1,5 @@
--- A reading that is accepted and changes the newest period alone, as the daily readings do. How `replied` can then be had from the point's
--- fields and that period is proved in proofs/DailyReply. Definitions only.
+-- A reading that is accepted and changes the newest period alone, as the daily readings do. How `replied` can then be
+-- had from the point's fields and that period is proved in proofs/DailyReply. Definitions only.
 use mathlib.Core.Bool.{Bool, true, false, cond, _&&_}
 use Prim.Native.Nat.{ℕ}
 use lib.Dec.{ltb}

@@ -1,5 +1,5 @@
--- A reading that is accepted and whose days all lie in the newest period: it changes the point's fields and that period, and nothing
--- else of the point. Definitions only: proofs/Newest has it that this is the point's turn.
+-- A reading that is accepted and whose days all lie in the newest period: it changes the point's fields and that
+-- period, and nothing else of the point. Definitions only: proofs/Newest has it that this is the point's turn.
 use mathlib.Core.Bool.{Bool, true, false, cond, _&&_}
 use Prim.Native.Nat.{ℕ}
 use lib.Dec.{leb}

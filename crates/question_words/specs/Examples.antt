@@ -1,4 +1,5 @@
--- Words and what they ask for; refused ones beside accepted ones. Definitions only: `words-examples` of proofs/ proves them.
+-- Words and what they ask for; refused ones beside accepted ones. Definitions only: `words-examples` of proofs/
+-- proves them.
 use mathlib.Core.Path.{_≡_}
 use mathlib.Core.List.{[], _∷_, _++_}
 use Rattle.text.specs.Ascii.{ascii}
@@ -6,7 +7,8 @@ use Rattle.question_words.specs.declared.{Question.Question, Asked.Asked
 use Rattle.question_words.specs.Asked.{askedBy, usage}
 
 pub record WordsExamples : Type 0 where
-  pub holder-on-4-january : askedBy 3 (ascii "holder") (ascii "1") (ascii "20210104") ≡ Asked.One (Question.Holder 1 7674)
+  pub holder-on-4-january : askedBy 3 (ascii "holder") (ascii "1") (ascii "20210104") ≡
+      Asked.One (Question.Holder 1 7674)
   pub holder-on-29-february : askedBy 3 (ascii "holder") (ascii "1") (ascii "20210229") ≡ Asked.Unknown
   pub holder-without-a-date : askedBy 2 (ascii "holder") (ascii "1") [] ≡ Asked.Unknown
   pub period-2 : askedBy 3 (ascii "period") (ascii "32") (ascii "2") ≡ Asked.One (Question.Period 32 2)

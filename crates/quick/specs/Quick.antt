@@ -1,5 +1,6 @@
--- Messages that concern one point at the most, on a day on which nothing has fallen due anywhere: they need no look at the other points.
--- How `replied` can then be had from that point alone is proved in crate `one_point`. Definitions only.
+-- Messages that concern one point at the most, on a day on which nothing has fallen due anywhere: they need no look
+-- at the other points. How `replied` can then be had from that point alone is proved in crate `one_point`.
+-- Definitions only.
 use mathlib.Core.Bool.{Bool, true, false, cond, not, _&&_, _||_}
 use mathlib.Core.List.{List, [], _∷_}
 use Prim.Native.Nat.{ℕ, _-_, min}

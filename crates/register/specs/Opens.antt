@@ -14,7 +14,9 @@ openedOver r o = outcome (openingAnswer o) (cond (isAccepted (openingAnswer o)) 
 
 -- What stands where no register is open: nobody is under contract, no point is enrolled, and nothing looks at it.
 unfoldable pub noRegister : Register
-noRegister = register (record { w = 0; a = 0; b = 0; default = 0; resort = 0 }) 0 (replicate 100 false) (replicate 32 blankPoint)
+noRegister =
+    register (record { w = 0; a = 0; b = 0; default = 0; resort = 0 }) 0 (replicate 100 false)
+    (replicate 32 blankPoint)
 
 -- The numbers of an opening fit the fields that keep them.
 pub record InRange (o : Opening) : Type 0 where

@@ -28,8 +28,8 @@ date (Answer.AcceptedOn e) = some e
 date (Answer.Refused n) = none
 date (Answer.RefusedUntil d) = some d
 
--- The answers to questions: "A question off its range, or on a point not enrolled, gives 22." The number, 0 where the question is
--- answered, and what is told then: the holder; the period's start, holder and volume; the advance.
+-- The answers to questions: "A question off its range, or on a point not enrolled, gives 22." The number, 0 where the
+-- question is answered, and what is told then: the holder; the period's start, holder and volume; the advance.
 abbrev pub holderNumber : HolderAnswer → ℕ
 holderNumber (holder.Holder h) = 0
 holderNumber holder.OffRange = 22

@@ -1,4 +1,5 @@
--- Document 01, "The day book": what an event of a gas day and an accepted call do to a point's fields. Definitions only.
+-- Document 01, "The day book": what an event of a gas day and an accepted call do to a point's fields. Definitions
+-- only.
 --
 -- Effect   what becomes of the fields: `keep` where no holder is named, `name` where one is (the fields' holder)
 -- event    the event of a gas day, if one falls on it
@@ -29,20 +30,23 @@ abbrev pub fieldsOf : Effect → Fields
 fieldsOf (keep f) = f
 fieldsOf (name f) = f
 
--- "if the deadline falls on this day, default becomes last resort (holder: the last-resort supplier, deadline this day + B), and last
--- resort becomes holder 0, kind none, pending dropped"
+-- "if the deadline falls on this day, default becomes last resort (holder: the last-resort supplier, deadline this
+-- day + B), and last resort becomes holder 0, kind none, pending dropped"
 unfoldable pub deadlineEvent : Settings → ℕ → Fields → SupplyKind → Effect
 deadlineEvent S t f SupplyKind.None = keep f
 deadlineEvent S t f SupplyKind.Contract = keep f
 deadlineEvent S t f (SupplyKind.Default d) =
-    cond (eqb d t) (name (withSupply f (supply (S .resort) (SupplyKind.LastResort (t + S .b)) (f .supply .pending)))) (keep f)
+    cond (eqb d t) (name (withSupply f (supply (S .resort) (SupplyKind.LastResort (t + S .b)) (f .supply .pending))))
+    (keep f)
 deadlineEvent S t f (SupplyKind.LastResort d) = cond (eqb d t) (name (withSupply f unsupplied)) (keep f)
 
--- "if a pending request falls on this day, its supplier becomes holder, kind contract, pending cleared. Otherwise, if the deadline .."
+-- "if a pending request falls on this day, its supplier becomes holder, kind contract, pending cleared. Otherwise, if
+-- the deadline .."
 unfoldable pub pendingEvent : Settings → ℕ → Fields → Pending → Effect
 pendingEvent S t f Pending.Nothing = deadlineEvent S t f (f .supply .kind)
 pendingEvent S t f (Pending.Request s e) =
-    cond (eqb e t) (name (withSupply f (supply s SupplyKind.Contract Pending.Nothing))) (deadlineEvent S t f (f .supply .kind))
+    cond (eqb e t) (name (withSupply f (supply s SupplyKind.Contract Pending.Nothing)))
+    (deadlineEvent S t f (f .supply .kind))
 
 unfoldable pub event : Settings → ℕ → Fields → Effect
 event S t f = pendingEvent S t f (f .supply .pending)
@@ -55,13 +59,14 @@ unfoldable pub effectiveDay : ℕ → ℕ → ℕ
 effectiveDay t r = max r (t + notice)
 
 -- The calls that name a point, on day t, in the paper's order:
--- 3 "holder 0, kind none, nothing pending, key 0, mark 0, last reading is today's"; 4 "holder s, kind contract, key stored";
--- 5 "holder the default supplier, kind default, deadline today + A, key stored"; 6 "pending (s, e)"; 7 "pending dropped";
--- 8 "(d, x) becomes the last reading"; 9 "a reading today of the old meter, then the new meter with its index as last reading";
--- 10 "holder 0, kind none, pending dropped"; 11 "the suspension mark becomes it".
+-- 3 "holder 0, kind none, nothing pending, key 0, mark 0, last reading is today's"; 4 "holder s, kind contract, key
+-- stored"; 5 "holder the default supplier, kind default, deadline today + A, key stored"; 6 "pending (s, e)"; 7
+-- "pending dropped"; 8 "(d, x) becomes the last reading"; 9 "a reading today of the old meter, then the new meter
+-- with its index as last reading"; 10 "holder 0, kind none, pending dropped"; 11 "the suspension mark becomes it".
 unfoldable pub effectOf : Settings → ℕ → PointAction → Fields → Effect
 effectOf S t (PointAction.Enrol b a x) f = name (fields true unsupplied 0 0 (meter b a) (reading t x))
-effectOf S t (PointAction.IntoService s k) f = name (withKey (withSupply f (supply s SupplyKind.Contract (f .supply .pending))) k)
+effectOf S t (PointAction.IntoService s k) f =
+    name (withKey (withSupply f (supply s SupplyKind.Contract (f .supply .pending))) k)
 effectOf S t (PointAction.DefaultSupply k) f =
     name (withKey (withSupply f (supply (S .default) (SupplyKind.Default (t + S .a)) (f .supply .pending))) k)
 effectOf S t (PointAction.AskSwitch s k r) f = keep (withPending f (Pending.Request s (effectiveDay t r)))
@@ -76,8 +81,8 @@ abbrev pub dropped : ℕ → Pending → Pending
 dropped s Pending.Nothing = Pending.Nothing
 dropped s (Pending.Request q e) = cond (eqb q s) Pending.Nothing (Pending.Request q e)
 
--- 2: "s loses its contract, its pending requests are dropped, each point it holds gets the last-resort supplier, kind last resort,
--- deadline today + B"
+-- 2: "s loses its contract, its pending requests are dropped, each point it holds gets the last-resort supplier, kind
+-- last resort, deadline today + B"
 unfoldable pub failed : Settings → ℕ → ℕ → Fields → Effect
 failed S t s f =
     cond (eqb (f .supply .holder) s)

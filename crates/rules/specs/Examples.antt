@@ -47,7 +47,8 @@ cancelledOn t a = asked ++ (on t (Action.At 1 (PointAction.Cancel 6)) gives a �
 -- Point 1, enrolled and taken over by the default supplier on day 8,000.
 abbrev defaulted : List Line
 defaulted =
-    on 8000 (Action.SignContract 5) gives Answer.Accepted ∷ on 8000 (Action.At 1 (PointAction.Enrol 3 0 990)) gives Answer.Accepted ∷
+    on 8000 (Action.SignContract 5) gives Answer.Accepted ∷
+    on 8000 (Action.At 1 (PointAction.Enrol 3 0 990)) gives Answer.Accepted ∷
     on 8000 (Action.At 1 (PointAction.DefaultSupply 77)) gives Answer.Accepted ∷ []
 
 -- What follows the default on 8,000: a day, or a request of supplier 5.
@@ -60,8 +61,10 @@ thenRequest t a = defaulted ++ (on t (Action.At 1 (PointAction.AskSwitch 5 77 t)
 -- A meter with three wheels after the comma, so that U = 1; 7 units in 10 days, and a new holder on the day k = 3.
 abbrev sevenInTen : List Line
 sevenInTen =
-    on 8000 (Action.SignContract 5) gives Answer.Accepted ∷ on 8000 (Action.At 1 (PointAction.Enrol 4 3 100)) gives Answer.Accepted ∷
-    on 8003 (Action.At 1 (PointAction.IntoService 5 77)) gives Answer.Accepted ∷ on 8010 (Action.At 1 (PointAction.Read 8010 107 0)) gives Answer.Accepted ∷ []
+    on 8000 (Action.SignContract 5) gives Answer.Accepted ∷
+    on 8000 (Action.At 1 (PointAction.Enrol 4 3 100)) gives Answer.Accepted ∷
+    on 8003 (Action.At 1 (PointAction.IntoService 5 77)) gives Answer.Accepted ∷
+    on 8010 (Action.At 1 (PointAction.Read 8010 107 0)) gives Answer.Accepted ∷ []
 
 abbrev sevenSpan : Span
 sevenSpan = record { from = 8000; to = 8010; advance = 7; unit = 1 }
@@ -69,8 +72,10 @@ sevenSpan = record { from = 8000; to = 8010; advance = 7; unit = 1 }
 -- The sample input, from its second line on.
 abbrev sample : List Line
 sample =
-    on 7671 (Action.SignContract 5) gives Answer.Accepted ∷ on 7671 (Action.At 1 (PointAction.Enrol 3 0 990)) gives Answer.Accepted ∷
-    on 7674 (Action.At 1 (PointAction.IntoService 5 77)) gives Answer.Accepted ∷ on 7674 (Action.At 1 (PointAction.DefaultSupply 77)) gives Answer.Refused 24 ∷
+    on 7671 (Action.SignContract 5) gives Answer.Accepted ∷
+    on 7671 (Action.At 1 (PointAction.Enrol 3 0 990)) gives Answer.Accepted ∷
+    on 7674 (Action.At 1 (PointAction.IntoService 5 77)) gives Answer.Accepted ∷
+    on 7674 (Action.At 1 (PointAction.DefaultSupply 77)) gives Answer.Refused 24 ∷
     on 7684 (Action.At 1 (PointAction.Read 7684 10 1)) gives Answer.Accepted ∷ []
 
 pub record PExamples : Type 0 where
@@ -144,6 +149,7 @@ pub record PExamples : Type 0 where
   -- "a period of no days left by two holders on one day": there is one period for each day on which a holder was named.
   pub two-holders-on-one-day : Shows (opens 7820)
       (served 7820 ++
-      (on 7825 (Action.At 1 PointAction.OutOfService) gives Answer.Accepted ∷ on 7825 (Action.At 1 (PointAction.IntoService 6 77)) gives Answer.Accepted ∷
+      (on 7825 (Action.At 1 PointAction.OutOfService) gives Answer.Accepted ∷
+      on 7825 (Action.At 1 (PointAction.IntoService 6 77)) gives Answer.Accepted ∷
       on 7830 action.Day gives Answer.Accepted ∷ [])) 1
       (period 7820 5 0 ∷ period 7825 6 0 ∷ []) 0

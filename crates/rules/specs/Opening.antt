@@ -1,4 +1,5 @@
--- Document 01, "What the register holds": what an accepted opening sets up, in the register and in the day book. Definitions only.
+-- Document 01, "What the register holds": what an accepted opening sets up, in the register and in the day book.
+-- Definitions only.
 use mathlib.Core.Bool.{Bool, true, false}
 use mathlib.Core.List.{List}
 use lib.ListN.{set, replicate}

@@ -1,5 +1,5 @@
--- Document 01, "The register's periods are the marked cells": a point's periods, and what the day book's cells and the list say of
--- them. Definitions only.
+-- Document 01, "The register's periods are the marked cells": a point's periods, and what the day book's cells and
+-- the list say of them. Definitions only.
 --
 -- periodsOf    a point's periods, oldest first
 -- markedDays   the days of the marked cells, oldest first
@@ -51,7 +51,8 @@ unfoldable pub sumDays : (ℕ → ℕ) → ℕ → ℕ → ℕ
 sumDays vol d zero = 0
 sumDays vol d (suc n) = vol d + sumDays vol (suc d) n
 
--- "A period's booked volume is the sum over its days": from its start to the next one's, the last one's to the day `last`.
+-- "A period's booked volume is the sum over its days": from its start to the next one's, the last one's to the day
+-- `last`.
 abbrev pub dayAfter : ℕ → List ℕ → ℕ
 dayAfter last [] = suc last
 dayAfter last (s ∷ ss) = s

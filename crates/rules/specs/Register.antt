@@ -1,6 +1,7 @@
--- Document 01, "What the register holds" and the twelve calls, as the register does them: periods in slots, caught up from event to event.
--- Total for every value of the types: a count past 24 counts as 24, a volume wraps at 2^64; on every register that calls reach neither
--- happens (Demand3). Slots beyond the count keep what they hold. Definitions only.
+-- Document 01, "What the register holds" and the twelve calls, as the register does them: periods in slots, caught up
+-- from event to event. Total for every value of the types: a count past 24 counts as 24, a volume wraps at 2^64; on
+-- every register that calls reach neither happens (Demand3). Slots beyond the count keep what they hold. Definitions
+-- only.
 --
 -- named     a holder is named on a day: a new period, or the newest replaced where it starts on that day
 -- catchUp   a point brought up to a day by the events that fell due
@@ -62,7 +63,8 @@ entered d (name f) h = record { fields = f; history = named d (f .supply .holder
 unfoldable pub expiryBy : Settings → ℕ → SupplyKind → Due
 expiryBy S t SupplyKind.None = event.Nothing
 expiryBy S t SupplyKind.Contract = event.Nothing
-expiryBy S t (SupplyKind.Default d) = cond (leb d t) (event.Fallback d (S .resort) (SupplyKind.LastResort (d + S .b))) event.Nothing
+expiryBy S t (SupplyKind.Default d) =
+    cond (leb d t) (event.Fallback d (S .resort) (SupplyKind.LastResort (d + S .b))) event.Nothing
 expiryBy S t (SupplyKind.LastResort d) = cond (leb d t) (event.End d 0 SupplyKind.None) event.Nothing
 
 -- A supply kind ends before day e.
@@ -88,7 +90,8 @@ happened (event.End d h k) g = entered d (name (withSupply (g .fields) (supply h
 unfoldable pub nextEvent : Settings → ℕ → Point → Point
 nextEvent S t g = happened (dueBy S t (g .fields .supply .kind) (g .fields .supply .pending)) g
 
--- A switch and the end of last resort leave nothing due, and default supply goes over to last resort: two events at the most.
+-- A switch and the end of last resort leave nothing due, and default supply goes over to last resort: two events at
+-- the most.
 unfoldable pub catchUp : Settings → ℕ → Point → Point
 catchUp S t g = nextEvent S t (nextEvent S t g)
 
@@ -101,7 +104,8 @@ unfoldable pub bookedPeriod : Span → ℕ → Period → Period
 bookedPeriod s e q =
     period (q .start) (q .holder) ((q .volume + (sharesBefore s e - sharesBefore s (q .start)) * s .unit) % 2 ^ 64)
 
--- The first n slots, the newest first; done with the period that holds the reading's first day. e is where the n-th ends.
+-- The first n slots, the newest first; done with the period that holds the reading's first day. e is where the n-th
+-- ends.
 unfoldable pub bookedSlots : Span → ℕ → ℕ → List Period → List Period
 bookedSlots s e zero ps = ps
 bookedSlots s e (suc n) ps =

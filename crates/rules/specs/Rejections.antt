@@ -1,4 +1,5 @@
--- Document 01, "Rejection codes": for each call the rows of the table that it has, and the answer that they give. Definitions only.
+-- Document 01, "Rejection codes": for each call the rows of the table that it has, and the answer that they give.
+-- Definitions only.
 --
 -- View      what the checks may look at of a point: its fields, its marks, whether today's cell is marked
 -- _⇒_       a row: where the condition holds, the number is given
@@ -48,7 +49,8 @@ firstOf (r ∷ rs) a = cond (r .applies) (r .gives) (firstOf rs a)
 abbrev pub outside : ℕ → ℕ → ℕ → Bool
 outside lo hi n = ltb n lo || ltb hi n
 
--- "Suppliers are 1 to 99", "a customer key, 1 to 999,999,999", "wheels before the comma 1 to 8, after it 0 to 3", "Points are 1 to 32"
+-- "Suppliers are 1 to 99", "a customer key, 1 to 999,999,999", "wheels before the comma 1 to 8, after it 0 to 3",
+-- "Points are 1 to 32"
 abbrev pub notSupplier : ℕ → Bool
 notSupplier s = outside 1 99 s
 
@@ -83,8 +85,8 @@ outOfRange (Action.Failure s) = notSupplier s
 outOfRange (Action.At p a) = outOfRangeAt a
 outOfRange Action.Day = false
 
--- 20: "a day given is past 73,048; default: today + A + B is; failure: today + B is"; r of a request and d of a reading are given beside
--- today.
+-- 20: "a day given is past 73,048; default: today + A + B is; failure: today + B is"; r of a request and d of a
+-- reading are given beside today.
 unfoldable pub offCalendarAt : Settings → ℕ → PointAction → Bool
 offCalendarAt S t (PointAction.Enrol b a x) = false
 offCalendarAt S t (PointAction.IntoService s k) = false
@@ -143,10 +145,11 @@ outOfTime t d f = leb d (f .reading .day) || ltb t d
 -- 28: "an index at or past 10^w; z = 0 and x below the last index; z = 1 and x not below it"
 abbrev pub indexDisagrees : Fields → ℕ → ℕ → Bool
 indexDisagrees f x z =
-    leb (fullTurn (f .meter)) x || (eqb z 0 && ltb x (f .reading .index)) || (eqb z 1 && not (ltb x (f .reading .index)))
+    leb (fullTurn (f .meter)) x || (eqb z 0 && ltb x (f .reading .index))
+    || (eqb z 1 && not (ltb x (f .reading .index)))
 
--- 30: "after the call a point's marks and those due exceed 24 (due: pending 1, default 2, last resort 1)"; a second holder on one day
--- replaces the first, so today's mark counts once.
+-- 30: "after the call a point's marks and those due exceed 24 (due: pending 1, default 2, last resort 1)"; a second
+-- holder on one day replaces the first, so today's mark counts once.
 abbrev pub kindDue : SupplyKind → ℕ
 kindDue SupplyKind.None = 0
 kindDue SupplyKind.Contract = 0
@@ -188,10 +191,12 @@ rowsAt S u t p (PointAction.DefaultSupply k) v =
     ∷ (isFull v (effectOf S t (PointAction.DefaultSupply k) (v .fields)) ⇒ 30) ∷ []
 rowsAt S u t p (PointAction.AskSwitch s k r) v =
     (noContract u s ⇒ 1) ∷ (notEnrolled p v ⇒ 2) ∷ (badDay t r ⇒ 3) ∷ (not (eqb k (v .fields .key)) ⇒ 4)
-    ∷ (isPending (v .fields .supply .pending) ⇒ 5) ∷ (eqb (v .fields .supply .holder) 0 ⇒ 6) ∷ (eqb (v .fields .mark) 1 ⇒ 7)
-    ∷ lastResortNear t (v .fields .supply .kind) ∷ (isFull v (effectOf S t (PointAction.AskSwitch s k r) (v .fields)) ⇒ 30) ∷ []
+    ∷ (isPending (v .fields .supply .pending) ⇒ 5) ∷ (eqb (v .fields .supply .holder) 0 ⇒ 6)
+    ∷ (eqb (v .fields .mark) 1 ⇒ 7) ∷ lastResortNear t (v .fields .supply .kind)
+    ∷ (isFull v (effectOf S t (PointAction.AskSwitch s k r) (v .fields)) ⇒ 30) ∷ []
 rowsAt S u t p (PointAction.Cancel s) v =
-    (notEnrolled p v ⇒ 2) ∷ (not (isBy s (v .fields .supply .pending)) ⇒ 25) ∷ (tooLate S t (v .fields .supply .pending) ⇒ 26) ∷ []
+    (notEnrolled p v ⇒ 2) ∷ (not (isBy s (v .fields .supply .pending)) ⇒ 25)
+    ∷ (tooLate S t (v .fields .supply .pending) ⇒ 26) ∷ []
 rowsAt S u t p (PointAction.Read d x z) v =
     (notEnrolled p v ⇒ 2) ∷ (outOfTime t d (v .fields) ⇒ 27) ∷ (indexDisagrees (v .fields) x z ⇒ 28) ∷ []
 rowsAt S u t p (PointAction.ChangeMeter x z b a y) v =
@@ -243,11 +248,13 @@ shown v p = cond (notPoint p) blankView (v p)
 unfoldable pub answer : Settings → ℕ → List Bool → Call → (ℕ → View) → Answer
 answer S day u c v = answerTo S day u (c .today) (c .action) (shown v)
 
--- "W (0 to 10 working days to cancel), A and B (1 to 400 calendar days ..), and the default and last-resort suppliers, two different
--- ones"; 22: "a setting outside its range, equal suppliers at opening"; 20: the first day is a day given.
+-- "W (0 to 10 working days to cancel), A and B (1 to 400 calendar days ..), and the default and last-resort
+-- suppliers, two different ones"; 22: "a setting outside its range, equal suppliers at opening"; 20: the first day is
+-- a day given.
 unfoldable pub openingAnswer : Opening → Answer
 openingAnswer o =
     firstOf
-    ((outside 0 10 (o .w) ⇒ 22) ∷ (outside 1 400 (o .a) ⇒ 22) ∷ (outside 1 400 (o .b) ⇒ 22) ∷ (notSupplier (o .default) ⇒ 22)
+    ((outside 0 10 (o .w) ⇒ 22) ∷ (outside 1 400 (o .a) ⇒ 22) ∷ (outside 1 400 (o .b) ⇒ 22)
+    ∷ (notSupplier (o .default) ⇒ 22)
     ∷ (notSupplier (o .resort) ⇒ 22) ∷ (eqb (o .default) (o .resort) ⇒ 22) ∷ (ltb lastDay (o .day) ⇒ 20) ∷ [])
     Answer.Accepted

@@ -29,12 +29,16 @@ pub record SameAnswers (r r′ : Register) : Type 0 where
 abbrev pub PendingUnseen : Type 0
 PendingUnseen = (r r′ : Register) → withoutPending r ≡ withoutPending r′ → SameAnswers r r′
 
--- The register that a call which does nothing else on its day would leave: brought up to that day where it is accepted, else as it was.
+-- The register that a call which does nothing else on its day would leave: brought up to that day where it is
+-- accepted, else as it was.
 abbrev pub onlyDay : Register → ℕ → Action → Register
 onlyDay r t a = cond (isAccepted (applied r (on t a) .answer)) (applied r (on t Action.Day) .register) r
 
 -- So a request, on whatever day, changes no answer that the day itself does not change; nor does its cancel.
 pub record RequestUnseen : Type 0 where
   pub request : (r : Register) (t p s k d : ℕ)
-      → SameAnswers (applied r (on t (Action.At p (PointAction.AskSwitch s k d))) .register) (onlyDay r t (Action.At p (PointAction.AskSwitch s k d)))
-  pub cancel : (r : Register) (t p s : ℕ) → SameAnswers (applied r (on t (Action.At p (PointAction.Cancel s))) .register) (onlyDay r t (Action.At p (PointAction.Cancel s)))
+      → SameAnswers (applied r (on t (Action.At p (PointAction.AskSwitch s k d))) .register)
+      (onlyDay r t (Action.At p (PointAction.AskSwitch s k d)))
+  pub cancel : (r : Register) (t p s : ℕ) → SameAnswers
+      (applied r (on t (Action.At p (PointAction.Cancel s))) .register)
+      (onlyDay r t (Action.At p (PointAction.Cancel s)))

@@ -1,4 +1,5 @@
--- Document 01, "Volumes": what a reading advances, the shares of its days, and the volumes that a list of readings gives. Definitions only.
+-- Document 01, "Volumes": what a reading advances, the shares of its days, and the volumes that a list of readings
+-- gives. Definitions only.
 --
 -- Span        a reading from the day of the last one to its own: V and U with the two days
 -- dayVolume   the volume of one gas day by one reading; `volume`: by all readings of a list
@@ -9,7 +10,8 @@ use Prim.Native.Nat.{ℕ, suc, _+_, _-_, _*_, _/_, _^_, min}
 use lib.Dec.{eqb, leb, ltb}
 use Rattle.rules.specs.declared.{Fields.Fields, Meter.Meter, Span.Span, Action.Action, PointAction.PointAction}
 
--- 10^w, "w their sum". No accepted meter has more than 8 + 3 wheels; past that the turn stays 10^11, so that it is small for any value.
+-- 10^w, "w their sum". No accepted meter has more than 8 + 3 wheels; past that the turn stays 10^11, so that it is
+-- small for any value.
 unfoldable pub fullTurn : Meter → ℕ
 fullTurn m = 10 ^ min (m .before + m .after) 11
 

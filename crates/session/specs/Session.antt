@@ -1,4 +1,5 @@
--- 01, Message lines: what is written for the lines of an input, and what a piece of it does to a session. Definitions only.
+-- 01, Message lines: what is written for the lines of an input, and what a piece of it does to a session. Definitions
+-- only.
 use Prim.Native.Nat.{ℕ, _/_}
 use mathlib.Core.Path.{_≡_}
 use mathlib.Core.List.{List, _++_}

@@ -36,4 +36,8 @@ closedNext d from room = cond (d .ready) (from + Listing.taken from room) 32
 
 pub record ClosedFrom (d : Desk) (from : ℕ) (before after : List ℕ) (x : Listed) : Type 0 where
   pub bytes : after ≡ put 0 (closingPiece d from (length before)) before
-  pub answer : x ≡ record { next = closedNext d from (length before); written = length (closingPiece d from (length before)) }
+  pub answer : x ≡ record {
+    next = closedNext d from (length before);
+    written =
+        length (closingPiece d from (length before));
+  }

@@ -1,5 +1,5 @@
--- A whole input: what the calls of `feed`, `finish` and `close` hand on for writing, in whatever pieces the input comes, and what that
--- means. Definitions only: proofs/Served and proofs/Told prove them.
+-- A whole input: what the calls of `feed`, `finish` and `close` hand on for writing, in whatever pieces the input
+-- comes, and what that means. Definitions only: proofs/Served and proofs/Told prove them.
 use Prim.Native.Nat.{ℕ, _≤_, _<_}
 use mathlib.Core.Path.{_≡_}
 use mathlib.Core.Bool.{true, cond}
@@ -35,12 +35,14 @@ pub data Closing : Desk → ℕ → List ℕ → Type 0 where
   more : {d : Desk} {from : ℕ} {w : List ℕ} (before after : List ℕ) (x : Listed) → ClosedFrom d from before after x →
       Closing d (x .next) w → Closing d from (take (x .written) after ++ w)
 
--- `feed` over pieces, each as far as it was taken, and at the end `finish`, with room for one answer: what is handed on for the lines of an
--- input, and the desk that it comes to.
+-- `feed` over pieces, each as far as it was taken, and at the end `finish`, with room for one answer: what is handed
+-- on for the lines of an input, and the desk that it comes to.
 pub data Through : Session → List ℕ → List ℕ → Desk → Type 0 where
-  fed : {s : Session} {piece rest w : List ℕ} {d : Desk} (before after : List ℕ) (f : Fed) → FedBy s piece before after f →
+  fed : {s : Session} {piece rest w : List ℕ} {d : Desk} (before after : List ℕ) (f : Fed) →
+      FedBy s piece before after f →
       Through (f .session) rest w d → Through s (take (f .taken) piece ++ rest) (take (f .written) after ++ w) d
-  ended : {s : Session} (before after : List ℕ) (f : Fed) → FedBy s (missingFeed s) before after f → 24 ≤ length before →
+  ended : {s : Session} (before after : List ℕ) (f : Fed) → FedBy s (missingFeed s) before after f →
+      24 ≤ length before →
       Through s [] (take (f .written) after) (f .session .desk)
 
 -- And then `close`.
@@ -52,7 +54,8 @@ abbrev pub TranscriptServed : Type 0
 TranscriptServed = (input w : List ℕ) → Served startSession input w →
     w ≡ transcript nextDesk sayLine closing (startSession .desk) input
 
--- `feed` takes no more than it is handed, and with room for one answer some of it: to hand in the rest again and again takes all.
+-- `feed` takes no more than it is handed, and with room for one answer some of it: to hand in the rest again and
+-- again takes all.
 pub record FeedGoesOn (s : Session) (piece out : List ℕ) : Type 0 where
   pub most : fedAs s piece out .taken ≤ length piece
   pub some : 24 ≤ length out → 0 < length piece → 0 < fedAs s piece out .taken
@@ -128,10 +131,12 @@ bookOutput input = said nextBook sayBook closed (linesOf input) ++ bookClosing (
 
 pub record TranscriptTold (input : List ℕ) : Type 0 where
   -- the answers printed are the day book's for the calls that the lines read as
-  pub answers : said nextDesk sayLine (startSession .desk) (linesOf input) ≡ said nextBook sayBook closed (linesOf input)
+  pub answers : said nextDesk sayLine (startSession .desk) (linesOf input) ≡
+      said nextBook sayBook closed (linesOf input)
   -- so are the closing lines; there are none where no opening was accepted
   pub closing-lines : closing (lastDesk input) ≡ bookClosing (storyTold input)
-  -- the desk holds the register after those calls, of which demand 3 holds, and its questions are answered by the day book
+  -- the desk holds the register after those calls, of which demand 3 holds, and its questions are answered by the day
+  -- book
   pub desk : lastDesk input ≡ storyDesk (storyTold input)
   pub opened : (o : Opening) (cs : List Call) → storyTold input ≡ told o cs → Demand3 o cs × Asked o cs
 

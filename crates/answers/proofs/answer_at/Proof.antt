@@ -41,8 +41,11 @@ returns-4 c =
     )
 
 ruling-at-requires : tie.Need-ruling-at-requires
-ruling-at-requires c κs = let s = c .before .before .before .before .before .before .args in
-    (omega arith, in-range (s .set) (s .today) (s .a) (sym (c .before .before .before .before .before .out-of-range-at .ensures) ∙ c .before .before .before .before .if1 .left) (sym (c .before .before .off-calendar-at .ensures) ∙ c .before .if3 .left))
+ruling-at-requires c κs = let s = c .before .before .before .before .before .before .args in (
+  omega arith,
+  in-range (s .set) (s .today) (s .a) (sym (c .before .before .before .before .before .out-of-range-at .ensures) ∙
+      c .before .before .before .before .if1 .left) (sym (c .before .before .off-calendar-at .ensures) ∙ c .before .if3 .left),
+)
 
 returns-5 : tie.Need-returns-5
 unfolding answerTo outOfRange offCalendar rows accepted firstOf rulingAt

@@ -20,15 +20,31 @@ returns-2 c = rw (← ((c .before .before .outside) .ensures), (c .before .if1) 
 
 returns-3 : tie.Need-returns-3
 unfolding readAnswer answerTo outOfRange outOfRangeAt offCalendar offCalendarAt rows accepted firstOf
-returns-3 c = rw (← ((c .before .before .before .outside) .ensures), (c .before .before .if1) .left, le-ltb _ _ ((c .before .if2) .left), lt-ltb _ _ ((c .if3) .taken))
+returns-3 c =
+    rw (← ((c .before .before .before .outside) .ensures), (c .before .before .if1) .left, le-ltb _ _ ((c .before .if2) .left), lt-ltb _ _ ((c .if3) .taken))
 
 returns-4 : tie.Need-returns-4
 unfolding readAnswer answerTo outOfRange outOfRangeAt offCalendar offCalendarAt rows accepted firstOf
-returns-4 c = rw (← ((c .before .before .before .before .outside) .ensures), (c .before .before .before .if1) .left, le-ltb _ _ ((c .before .before .if2) .left), le-ltb _ _ ((c .before .if3) .left), lt-ltb _ _ ((c .if4) .taken))
+returns-4 c =
+    rw (
+      ← ((c .before .before .before .before .outside) .ensures),
+      (c .before .before .before .if1) .left,
+      le-ltb _ _ ((c .before .before .if2) .left),
+      le-ltb _ _ ((c .before .if3) .left),
+      lt-ltb _ _ ((c .if4) .taken),
+    )
 
 returns-5 : tie.Need-returns-5
 unfolding readAnswer answerTo outOfRange outOfRangeAt offCalendar offCalendarAt rows accepted firstOf rulingAt
-returns-5 c = rw (← ((c .before .before .before .before .before .outside) .ensures), (c .before .before .before .before .if1) .left, le-ltb _ _ ((c .before .before .before .if2) .left), le-ltb _ _ ((c .before .before .if3) .left), le-ltb _ _ ((c .before .if4) .left)) ((c .read-rows) .ensures)
+returns-5 c =
+    rw (
+      ← ((c .before .before .before .before .before .outside) .ensures),
+      (c .before .before .before .before .if1) .left,
+      le-ltb _ _ ((c .before .before .before .if2) .left),
+      le-ltb _ _ ((c .before .before .if3) .left),
+      le-ltb _ _ ((c .before .if4) .left),
+    )
+    ((c .read-rows) .ensures)
 
 pub read-answer-spec : {M : Type 1} → statement M
 read-answer-spec =

@@ -11,11 +11,23 @@ returns-2 c = rw (← ((c .before .before .is-out-of-range) .ensures), (c .befor
 
 returns-3 : tie.Need-returns-3
 unfolding plainAnswer firstOf
-returns-3 c = rw (← ((c .before .before .before .is-out-of-range) .ensures), (c .before .before .if1) .left, le-ltb _ _ ((c .before .if2) .left), lt-ltb _ _ ((c .if3) .taken))
+returns-3 c =
+    rw (
+      ← ((c .before .before .before .is-out-of-range) .ensures),
+      (c .before .before .if1) .left,
+      le-ltb _ _ ((c .before .if2) .left),
+      lt-ltb _ _ ((c .if3) .taken),
+    )
 
 returns-4 : tie.Need-returns-4
 unfolding plainAnswer firstOf
-returns-4 c = rw (← ((c .before .before .before .is-out-of-range) .ensures), (c .before .before .if1) .left, le-ltb _ _ ((c .before .if2) .left), le-ltb _ _ ((c .if3) .left))
+returns-4 c =
+    rw (
+      ← ((c .before .before .before .is-out-of-range) .ensures),
+      (c .before .before .if1) .left,
+      le-ltb _ _ ((c .before .if2) .left),
+      le-ltb _ _ ((c .if3) .left),
+    )
 
 pub plain-answer-spec : {M : Type 1} → statement M
 plain-answer-spec =

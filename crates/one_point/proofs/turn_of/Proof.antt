@@ -7,10 +7,18 @@ use Rattle.one_point.specs.Turns.{leaves}
 use Rattle.one_point.proofs.OnePoint.{turn-named, turn-beside}
 
 returns : tie.Need-returns
-returns c = (c .turn) .ensures ∙ turn-named ((c .before .before .before) .args .set) ((c .before .before .before) .args .day) ((c .before .before .before) .args .contracts) ((c .before .before .before) .args .g) ((c .before .before .before) .args .ready) ((c .before .before .before) .args .m) ((c .before .before .named-in) .result) ((c .before .before .named-in) .ensures) ((c .before .if1) .taken)
+returns c =
+    (c .turn) .ensures ∙ turn-named ((c .before .before .before) .args .set) ((c .before .before .before) .args .day)
+    ((c .before .before .before) .args .contracts) ((c .before .before .before) .args .g) ((c .before .before .before) .args .ready)
+    ((c .before .before .before) .args .m) ((c .before .before .named-in) .result) ((c .before .before .named-in) .ensures) ((c .before .if1) .taken)
 
 returns-2 : tie.Need-returns-2
-returns-2 c = (c .leave) .ensures ∙ ap (λ (a : Answer). leaves ((c .before .before .before .before) .args .g) a) ((c .before .answer-beside) .ensures) ∙ turn-beside ((c .before .before .before .before) .args .set) ((c .before .before .before .before) .args .day) ((c .before .before .before .before) .args .contracts) ((c .before .before .before .before) .args .g) ((c .before .before .before .before) .args .ready) ((c .before .before .before .before) .args .m) ((c .before .before .before .named-in) .result) ((c .before .before .before .named-in) .ensures) ((c .before .before .if1) .left)
+returns-2 c =
+    (c .leave) .ensures ∙ ap (λ (a : Answer). leaves ((c .before .before .before .before) .args .g) a) ((c .before .answer-beside) .ensures) ∙
+    turn-beside ((c .before .before .before .before) .args .set) ((c .before .before .before .before) .args .day)
+    ((c .before .before .before .before) .args .contracts) ((c .before .before .before .before) .args .g) ((c .before .before .before .before) .args .ready)
+    ((c .before .before .before .before) .args .m) ((c .before .before .before .named-in) .result) ((c .before .before .before .named-in) .ensures)
+    ((c .before .before .if1) .left)
 
 pub turn-of-spec : {M : Type 1} → statement M
 turn-of-spec =

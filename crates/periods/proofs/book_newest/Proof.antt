@@ -13,7 +13,8 @@ returns c = rw (← ((c .before .is-fair) .ensures), not-true ((c .before .is-fa
 
 returns-2 : tie.Need-returns-2
 unfolding bookedNewest
-returns-2 c = rw (← ((c .before .before .is-fair) .ensures), not-false ((c .before .before .is-fair) .result) ((c .before .if1) .left), (c .booked-period) .ensures)
+returns-2 c =
+    rw (← ((c .before .before .is-fair) .ensures), not-false ((c .before .before .is-fair) .result) ((c .before .if1) .left), (c .booked-period) .ensures)
 
 pub book-newest-spec : {M : Type 1} → statement M
 book-newest-spec =

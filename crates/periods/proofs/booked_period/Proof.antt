@@ -13,7 +13,13 @@ mul-gas c = let k : c .before .less .result ≤ 200000000000 = omega (arith, c .
 
 returns : tie.Need-returns
 unfolding bookedPeriod
-returns c = rw (c .wrapping-add-u64 .ensures, c .before .before .less .ensures, c .before .before .before .shares-before2 .ensures .0, c .before .before .before .before .shares-before .ensures .0)
+returns c =
+    rw (
+      c .wrapping-add-u64 .ensures,
+      c .before .before .less .ensures,
+      c .before .before .before .shares-before2 .ensures .0,
+      c .before .before .before .before .shares-before .ensures .0,
+    )
 
 pub booked-period-spec : {M : Type 1} → statement M
 booked-period-spec =

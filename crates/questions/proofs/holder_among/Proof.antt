@@ -15,14 +15,21 @@ abbrev μ-loop : tie.MeasureT-loop
 μ-loop d n ps i₀ i = i
 
 returns : tie.Need-returns Inv-loop μ-loop
-returns c = sym (among-found (c .before .before .before .before .before .args .d) (c .before .before .before .before .before .args .t3) (c .before .before .before .before .loop .i) (omega arith) (c .if1 .taken)) ∙ c .before .before .before .before .loop .inv .1
+returns c =
+    sym (among-found (c .before .before .before .before .before .args .d) (c .before .before .before .before .before .args .t3)
+    (c .before .before .before .before .loop .i) (omega arith) (c .if1 .taken)) ∙ c .before .before .before .before .loop .inv .1
 
 loop-again : tie.Need-loop-again Inv-loop μ-loop
-loop-again c = (search needs, sym (among-passed (c .before .before .before .before .before .args .d) (c .before .before .before .before .before .args .t3) (c .before .before .before .before .loop .i) (omega arith) (c .if1 .left)) ∙ c .before .before .before .before .loop .inv .1)
+loop-again c = (
+  search needs,
+  sym (among-passed (c .before .before .before .before .before .args .d) (c .before .before .before .before .before .args .t3)
+      (c .before .before .before .before .loop .i) (omega arith) (c .if1 .left)) ∙ c .before .before .before .before .loop .inv .1,
+)
 
 returns-2 : tie.Need-returns-2 Inv-loop μ-loop
 returns-2 c = let z : c .before .loop .i ≡ 0 = omega arith in
-    sym (among-none (c .before .before .args .d) (c .before .before .args .t3)) ∙ ap (λ (k : ℕ). holderAmong (c .before .before .args .d) k (c .before .before .args .t3)) (sym z) ∙ c .before .loop .inv .1
+    sym (among-none (c .before .before .args .d) (c .before .before .args .t3)) ∙
+    ap (λ (k : ℕ). holderAmong (c .before .before .args .d) k (c .before .before .args .t3)) (sym z) ∙ c .before .loop .inv .1
 
 pub holder-among-spec : {M : Type 1} → statement M
 holder-among-spec =

@@ -17,7 +17,9 @@ returns-2 c =
     )
 
 history-of-requires : tie.Need-history-of-requires
-history-of-requires c κs = asked-in (c .before .before .before .before .args .r) (c .before .before .before .before .args .p) (sym (c .before .before .before .is-unasked .ensures) ∙ c .before .before .if1 .left)
+history-of-requires c κs =
+    asked-in (c .before .before .before .before .args .r) (c .before .before .before .before .args .p)
+    (sym (c .before .before .before .is-unasked .ensures) ∙ c .before .before .if1 .left)
 
 returns-3 : tie.Need-returns-3
 unfolding holderAnswer

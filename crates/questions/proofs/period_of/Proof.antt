@@ -11,7 +11,12 @@ history-of-requires : tie.Need-history-of-requires
 history-of-requires c κs = asked-in (c .before .before .args .r) (c .before .before .args .p) (sym (c .before .is-unasked .ensures) ∙ c .if1 .left)
 
 sub-i : tie.Need-sub-i
-sub-i c = omega (arith, range-in 1 (c .before .before .marks .result) (c .before .before .before .before .before .before .args .n) (sym (c .before .outside .ensures) ∙ c .if2 .left) .0)
+sub-i c =
+    omega (
+      arith,
+      range-in 1 (c .before .before .marks .result) (c .before .before .before .before .before .before .args .n)
+          (sym (c .before .outside .ensures) ∙ c .if2 .left) .0,
+    )
 
 returns-2 : tie.Need-returns-2
 unfolding periodAnswer
@@ -26,10 +31,14 @@ returns-2 c =
     )
 
 mul-q : tie.Need-mul-q
-mul-q c = let k = range-in 1 (c .before .before .marks .result) (c .before .before .before .before .before .before .args .n) (sym (c .before .outside .ensures) ∙ c .if2 .left) in omega (arith, k .0, k .1, c .before .before .marks .ensures)
+mul-q c =
+    let k = range-in 1 (c .before .before .marks .result) (c .before .before .before .before .before .before .args .n)
+    (sym (c .before .outside .ensures) ∙ c .if2 .left) in omega (arith, k .0, k .1, c .before .before .marks .ensures)
 
 element-copy-out-q : tie.Need-element-copy-out-q
-element-copy-out-q c = let k = range-in 1 (c .before .before .marks .result) (c .before .before .before .before .before .before .args .n) (sym (c .before .outside .ensures) ∙ c .if2 .left) in omega (arith, k .0, k .1, c .before .before .marks .ensures)
+element-copy-out-q c =
+    let k = range-in 1 (c .before .before .marks .result) (c .before .before .before .before .before .before .args .n)
+    (sym (c .before .outside .ensures) ∙ c .if2 .left) in omega (arith, k .0, k .1, c .before .before .marks .ensures)
 
 returns-3 : tie.Need-returns-3
 unfolding periodAnswer

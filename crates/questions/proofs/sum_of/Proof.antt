@@ -15,10 +15,17 @@ abbrev μ-loop : tie.MeasureT-loop
 μ-loop n ps sum₀ i₀ sum i = n - i
 
 loop-again : tie.Need-loop-again Inv-loop μ-loop
-loop-again c = (search needs, rw (sum-next (c .before .before .before .loop .i) (c .before .before .before .before .args .t2), ← (c .before .before .before .loop .inv .1)) (c .wrapping-add-u64 .ensures))
+loop-again c = (
+  search needs,
+  rw (
+    sum-next (c .before .before .before .loop .i) (c .before .before .before .before .args .t2),
+    ← (c .before .before .before .loop .inv .1),
+  ) (c .wrapping-add-u64 .ensures),
+)
 
 returns : tie.Need-returns Inv-loop μ-loop
-returns c = let z : c .before .loop .i ≡ c .before .before .args .n = omega arith in c .before .loop .inv .1 ∙ ap (λ (k : ℕ). sumOf k (c .before .before .args .t2)) z
+returns c =
+    let z : c .before .loop .i ≡ c .before .before .args .n = omega arith in c .before .loop .inv .1 ∙ ap (λ (k : ℕ). sumOf k (c .before .before .args .t2)) z
 
 pub sum-of-spec : {M : Type 1} → statement M
 sum-of-spec =

@@ -15,7 +15,12 @@ abbrev μ-loop : tie.MeasureT-loop
 μ-loop ps first₀ i₀ first i = i
 
 loop-again : tie.Need-loop-again Inv-loop μ-loop
-loop-again c = (omega arith, (c .before .before .before .before .before .before .loop) .inv .1, first-step ((c .before .before .before .before .before .before .before) .args .t1) ((c .before .before .before .before .before .before .loop) .i) _ _ _ (omega arith) (omega arith) ((c .before .before .before .before .before .before .loop) .inv .2) ((c .before .due-day) .ensures) ((c .earlier) .ensures))
+loop-again c = (
+  omega arith,
+  (c .before .before .before .before .before .before .loop) .inv .1,
+  first-step ((c .before .before .before .before .before .before .before) .args .t1) ((c .before .before .before .before .before .before .loop) .i) _ _ _
+      (omega arith) (omega arith) ((c .before .before .before .before .before .before .loop) .inv .2) ((c .before .due-day) .ensures) ((c .earlier) .ensures),
+)
 
 returns : tie.Need-returns Inv-loop μ-loop
 returns c = first-start ((c .before .before) .args .t1) ((c .before .loop) .i) _ (omega arith) ((c .before .loop) .inv .2)

@@ -10,11 +10,25 @@ returns c = rw ((c .before .before .m) .given .1, not-true ((c .before .before .
 
 returns-2 : tie.Need-returns-2
 unfolding isQuick
-returns-2 c = rw ((c .before .before .before .before .before .m) .given .1, not-false ((c .before .before .before .before .before .before .before) .args .ready) ((c .before .before .before .if1) .left), ← ((c .before .before .is-small) .ensures), (c .before .if2) .taken)
+returns-2 c =
+    rw (
+      (c .before .before .before .before .before .m) .given .1,
+      not-false ((c .before .before .before .before .before .before .before) .args .ready)
+          ((c .before .before .before .if1) .left),
+      ← ((c .before .before .is-small) .ensures),
+      (c .before .if2) .taken,
+    )
 
 returns-4 : tie.Need-returns-4
 unfolding isQuick
-returns-4 c = rw ((c .before .before .before .before .m) .given .1, not-false ((c .before .before .before .before .before .before) .args .ready) ((c .before .before .if1) .left), ← ((c .before .is-small) .ensures), (c .if2) .left)
+returns-4 c =
+    rw (
+      (c .before .before .before .before .m) .given .1,
+      not-false ((c .before .before .before .before .before .before) .args .ready)
+          ((c .before .before .if1) .left),
+      ← ((c .before .is-small) .ensures),
+      (c .if2) .left,
+    )
 
 pub is-quick-spec : {M : Type 1} → statement M
 is-quick-spec =

@@ -12,7 +12,9 @@ use Rattle.register.proofs.fail.Statement.{statement}
 use Rattle.register.proofs.fail.Tie as tie
 
 fail-under-contract-requires : tie.Need-fail-under-contract-requires
-fail-under-contract-requires c κs = let k = supplier-in (c .before .before .before .before .before .before .before .before .before .args .s) (sym (c .before .before .before .before .before .before .before .outside .ensures) ∙ c .before .before .before .before .before .before .if1 .left) in
+fail-under-contract-requires c κs =
+    let k = supplier-in (c .before .before .before .before .before .before .before .before .before .args .s)
+    (sym (c .before .before .before .before .before .before .before .outside .ensures) ∙ c .before .before .before .before .before .before .if1 .left) in
     record { least = k .0; most = k .1; calendar = omega arith; on = omega arith; signed = not-false _ (c .if5 .left) }
 
 returns : tie.Need-returns
@@ -53,15 +55,34 @@ returns-4 c =
     (c .refused4 .ensures)
 
 element-copy-out-if5 : tie.Need-element-copy-out-if5
-element-copy-out-if5 c = omega (arith, supplier-in (c .before .before .before .before .before .before .before .args .s) (sym (c .before .before .before .before .before .outside .ensures) ∙ c .before .before .before .before .if1 .left) .1)
+element-copy-out-if5 c =
+    omega (
+      arith,
+      supplier-in (c .before .before .before .before .before .before .before .args .s)
+          (sym (c .before .before .before .before .before .outside .ensures) ∙ c .before .before .before .before .if1 .left) .1,
+    )
 
 returns-5 : tie.Need-returns-5
 unfolding applied says answer answerTo outOfRange offCalendar rows accepted firstOf
-returns-5 c = let k : getD (c .before .before .before .before .before .before .before .before .before .before .args .t1 .contracts) (c .before .before .before .before .before .before .before .before .before .before .args .s) false ≡ false = not-true _ (c .before .if5 .taken) in
-    rw (← (c .before .before .before .before .before .before .before .before .outside .ensures), c .before .before .before .before .before .before .before .if1 .left, le-ltb _ _ (c .before .before .before .before .before .before .if2 .left), le-ltb _ _ (c .before .before .before .before .if3 .left), le-ltb _ _ (c .before .before .before .if4 .left), k) (c .refused5 .ensures)
+returns-5 c =
+    let k : getD (c .before .before .before .before .before .before .before .before .before .before .args .t1 .contracts)
+    (c .before .before .before .before .before .before .before .before .before .before .args .s) false ≡ false = not-true _ (c .before .if5 .taken) in
+    rw (
+      ← (c .before .before .before .before .before .before .before .before .outside .ensures),
+      c .before .before .before .before .before .before .before .if1 .left,
+      le-ltb _ _ (c .before .before .before .before .before .before .if2 .left),
+      le-ltb _ _ (c .before .before .before .before .if3 .left),
+      le-ltb _ _ (c .before .before .before .if4 .left),
+      k,
+    ) (c .refused5 .ensures)
 
 cast-fail-under-contract : tie.Need-cast-fail-under-contract
-cast-fail-under-contract c = omega (arith, supplier-in (c .before .before .before .before .before .before .before .before .before .args .s) (sym (c .before .before .before .before .before .before .before .outside .ensures) ∙ c .before .before .before .before .before .before .if1 .left) .1)
+cast-fail-under-contract c =
+    omega (
+      arith,
+      supplier-in (c .before .before .before .before .before .before .before .before .before .args .s)
+          (sym (c .before .before .before .before .before .before .before .outside .ensures) ∙ c .before .before .before .before .before .before .if1 .left) .1,
+    )
 
 pub fail-spec : {M : Type 1} → statement M
 fail-spec =

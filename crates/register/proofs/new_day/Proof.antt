@@ -23,7 +23,13 @@ returns-2 c =
 
 returns-3 : tie.Need-returns-3
 unfolding applied says answer answerTo outOfRange offCalendar rows accepted firstOf done
-returns-3 c = rw (le-ltb _ _ (c .before .before .before .before .if1 .left), le-ltb _ _ (c .before .before .if2 .left), ← (advanced-on (c .before .before .before .before .before .args .today) (c .before .before .before .before .before .args .r) (omega arith)), ← (c .before .advance .ensures)) (c .accepted .ensures)
+returns-3 c =
+    rw (
+      le-ltb _ _ (c .before .before .before .before .if1 .left),
+      le-ltb _ _ (c .before .before .if2 .left),
+      ← (advanced-on (c .before .before .before .before .before .args .today) (c .before .before .before .before .before .args .r) (omega arith)),
+      ← (c .before .advance .ensures),
+    ) (c .accepted .ensures)
 
 pub new-day-spec : {M : Type 1} → statement M
 new-day-spec =

@@ -36,11 +36,25 @@ returns-3 c =
     (c .refused3 .ensures)
 
 element-write-next : tie.Need-element-write-next
-element-write-next c = omega (arith, at-most 1 99 (c .before .before .before .before .before .before .args .s) (sym (c .before .before .before .before .before .outside .ensures) ∙ c .before .before .before .before .if1 .left))
+element-write-next c =
+    omega (
+      arith,
+      at-most 1 99 (c .before .before .before .before .before .before .args .s)
+          (sym (c .before .before .before .before .before .outside .ensures) ∙ c .before .before .before .before .if1 .left),
+    )
 
 returns-4 : tie.Need-returns-4
 unfolding applied says answer answerTo outOfRange offCalendar rows accepted firstOf done
-returns-4 c = rw (← (c .before .before .before .before .before .before .outside .ensures), c .before .before .before .before .before .if1 .left, le-ltb _ _ (c .before .before .before .before .if2 .left), le-ltb _ _ (c .before .before .if3 .left), ← (advanced-on (c .before .before .before .before .before .before .before .args .today) (c .before .before .before .before .before .before .before .args .r) (omega arith)), ← (c .before .advance .ensures)) (c .accepted .ensures)
+returns-4 c =
+    rw (
+      ← (c .before .before .before .before .before .before .outside .ensures),
+      c .before .before .before .before .before .if1 .left,
+      le-ltb _ _ (c .before .before .before .before .if2 .left),
+      le-ltb _ _ (c .before .before .if3 .left),
+      ← (advanced-on (c .before .before .before .before .before .before .before .args .today)
+          (c .before .before .before .before .before .before .before .args .r) (omega arith)),
+      ← (c .before .advance .ensures),
+    ) (c .accepted .ensures)
 
 pub sign-contract-spec : {M : Type 1} → statement M
 sign-contract-spec =

@@ -8,7 +8,9 @@ use Rattle.rules.specs.Scenes.{Line, _gives_, opening, on, Plays}
 
 -- Point 1 is served by supplier 1 from day d on.
 abbrev served : ℕ → List Line
-served d = on d (Action.At 1 (PointAction.Enrol 3 0 990)) gives Answer.Accepted ∷ on d (Action.At 1 (PointAction.IntoService 1 77)) gives Answer.Accepted ∷ []
+served d =
+    on d (Action.At 1 (PointAction.Enrol 3 0 990)) gives Answer.Accepted ∷
+    on d (Action.At 1 (PointAction.IntoService 1 77)) gives Answer.Accepted ∷ []
 
 -- A request of supplier 2 on day t for day r, the point being served from day t on.
 abbrev requestOn : ℕ → ℕ → Answer → List Line

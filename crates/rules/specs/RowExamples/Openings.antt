@@ -27,6 +27,9 @@ pub record OpeningExamples : Type 0 where
   pub first-day-73049 : openingAnswer (opening 73049 10 400 400 99 98) ≡ Answer.Refused 20
   -- "under contract from the start": suppliers 1 and 2 are, and no other
   pub first-contracts : Plays (opening 10 2 30 40 1 2)
-      (on 10 (Action.At 1 (PointAction.Enrol 3 0 0)) gives Answer.Accepted ∷ on 10 (Action.At 2 (PointAction.Enrol 3 0 0)) gives Answer.Accepted ∷
-      on 10 (Action.At 1 (PointAction.IntoService 3 77)) gives Answer.Refused 1 ∷ on 10 (Action.At 1 (PointAction.IntoService 99 77)) gives Answer.Refused 1 ∷
-      on 10 (Action.At 1 (PointAction.IntoService 1 77)) gives Answer.Accepted ∷ on 10 (Action.At 2 (PointAction.IntoService 2 77)) gives Answer.Accepted ∷ [])
+      (on 10 (Action.At 1 (PointAction.Enrol 3 0 0)) gives Answer.Accepted ∷
+      on 10 (Action.At 2 (PointAction.Enrol 3 0 0)) gives Answer.Accepted ∷
+      on 10 (Action.At 1 (PointAction.IntoService 3 77)) gives Answer.Refused 1 ∷
+      on 10 (Action.At 1 (PointAction.IntoService 99 77)) gives Answer.Refused 1 ∷
+      on 10 (Action.At 1 (PointAction.IntoService 1 77)) gives Answer.Accepted ∷
+      on 10 (Action.At 2 (PointAction.IntoService 2 77)) gives Answer.Accepted ∷ [])

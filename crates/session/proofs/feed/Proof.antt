@@ -10,13 +10,27 @@ use Rattle.input.proofs.Feeds.{fitting-le}
 use Rattle.session.proofs.Turns.{taken-room, piece-fed}
 
 slice-aggregate-answer-lines : tie.Need-slice-aggregate-answer-lines
-slice-aggregate-answer-lines c = sym (length-take-le ((c .before .fitting) .result) ((c .before .before .before .before) .args .piece .now) (omega (arith, (c .before .fitting) .ensures, fitting-le (length ((c .before .before .before .before) .args .out .now) / 24) ((c .before .before .before .before) .args .piece .now))))
+slice-aggregate-answer-lines c =
+    sym (length-take-le ((c .before .fitting) .result) ((c .before .before .before .before) .args .piece .now)
+    (omega (
+      arith,
+      (c .before .fitting) .ensures,
+      fitting-le (length ((c .before .before .before .before) .args .out .now) / 24)
+          ((c .before .before .before .before) .args .piece .now),
+    )))
 
 answer-lines-requires : tie.Need-answer-lines-requires
-answer-lines-requires c κs = taken-room ((c .before .before .before .before .before) .args .piece .now) ((c .before .before .before .before .before) .args .out .now) ((c .before .before .fitting) .result) ((c .before .before .fitting) .ensures)
+answer-lines-requires c κs =
+    taken-room ((c .before .before .before .before .before) .args .piece .now) ((c .before .before .before .before .before) .args .out .now)
+    ((c .before .before .fitting) .result) ((c .before .before .fitting) .ensures)
 
 returns : tie.Need-returns
-returns c = piece-fed ((c .before .before .before .before .before .before .before .before .before) .args .s) ((c .before .before .before .before .before .before .before .before .before) .args .piece .now) ((c .before .before .before .before .before .before .before .before .before) .args .out .now) _ ((c .before .before .before .before .before .before .fitting) .result) ((c .before .before .before .answer-lines) .result) ((c .before .before .before .before .before .before .fitting) .ensures) ((c .before .before .before .answer-lines) .ensures)
+returns c =
+    piece-fed ((c .before .before .before .before .before .before .before .before .before) .args .s)
+    ((c .before .before .before .before .before .before .before .before .before) .args .piece .now)
+    ((c .before .before .before .before .before .before .before .before .before) .args .out .now) _
+    ((c .before .before .before .before .before .before .fitting) .result) ((c .before .before .before .answer-lines) .result)
+    ((c .before .before .before .before .before .before .fitting) .ensures) ((c .before .before .before .answer-lines) .ensures)
 
 pub feed-spec : {M : Type 1} → statement M
 feed-spec =

@@ -76,11 +76,39 @@ returns-6 c =
 
 returns-7 : tie.Need-returns-7
 unfolding openingAnswer firstOf
-returns-7 c = rw (← (c .before .before .before .before .before .before .before .before .before .before .before .before .before .outside .ensures), c .before .before .before .before .before .before .before .before .before .before .before .before .if1 .left, ← (c .before .before .before .before .before .before .before .before .before .before .before .outside2 .ensures), c .before .before .before .before .before .before .before .before .before .before .if2 .left, ← (c .before .before .before .before .before .before .before .before .before .outside3 .ensures), c .before .before .before .before .before .before .before .before .if3 .left, ← (c .before .before .before .before .before .before .before .outside4 .ensures), c .before .before .before .before .before .before .if4 .left, ← (c .before .before .before .before .before .outside5 .ensures), c .before .before .before .before .if5 .left, ne-eqb _ _ (c .before .before .if6 .left), lt-ltb _ _ (c .if7 .taken))
+returns-7 c =
+    rw (
+      ← (c .before .before .before .before .before .before .before .before .before .before .before .before .before .outside .ensures),
+      c .before .before .before .before .before .before .before .before .before .before .before .before .if1 .left,
+      ← (c .before .before .before .before .before .before .before .before .before .before .before .outside2 .ensures),
+      c .before .before .before .before .before .before .before .before .before .before .if2 .left,
+      ← (c .before .before .before .before .before .before .before .before .before .outside3 .ensures),
+      c .before .before .before .before .before .before .before .before .if3 .left,
+      ← (c .before .before .before .before .before .before .before .outside4 .ensures),
+      c .before .before .before .before .before .before .if4 .left,
+      ← (c .before .before .before .before .before .outside5 .ensures),
+      c .before .before .before .before .if5 .left,
+      ne-eqb _ _ (c .before .before .if6 .left),
+      lt-ltb _ _ (c .if7 .taken),
+    )
 
 returns-8 : tie.Need-returns-8
 unfolding openingAnswer firstOf
-returns-8 c = rw (← (c .before .before .before .before .before .before .before .before .before .before .before .before .before .outside .ensures), c .before .before .before .before .before .before .before .before .before .before .before .before .if1 .left, ← (c .before .before .before .before .before .before .before .before .before .before .before .outside2 .ensures), c .before .before .before .before .before .before .before .before .before .before .if2 .left, ← (c .before .before .before .before .before .before .before .before .before .outside3 .ensures), c .before .before .before .before .before .before .before .before .if3 .left, ← (c .before .before .before .before .before .before .before .outside4 .ensures), c .before .before .before .before .before .before .if4 .left, ← (c .before .before .before .before .before .outside5 .ensures), c .before .before .before .before .if5 .left, ne-eqb _ _ (c .before .before .if6 .left), le-ltb _ _ (c .if7 .left))
+returns-8 c =
+    rw (
+      ← (c .before .before .before .before .before .before .before .before .before .before .before .before .before .outside .ensures),
+      c .before .before .before .before .before .before .before .before .before .before .before .before .if1 .left,
+      ← (c .before .before .before .before .before .before .before .before .before .before .before .outside2 .ensures),
+      c .before .before .before .before .before .before .before .before .before .before .if2 .left,
+      ← (c .before .before .before .before .before .before .before .before .before .outside3 .ensures),
+      c .before .before .before .before .before .before .before .before .if3 .left,
+      ← (c .before .before .before .before .before .before .before .outside4 .ensures),
+      c .before .before .before .before .before .before .if4 .left,
+      ← (c .before .before .before .before .before .outside5 .ensures),
+      c .before .before .before .before .if5 .left,
+      ne-eqb _ _ (c .before .before .if6 .left),
+      le-ltb _ _ (c .if7 .left),
+    )
 
 pub opening-answer-spec : {M : Type 1} → statement M
 opening-answer-spec =

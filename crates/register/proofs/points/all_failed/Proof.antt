@@ -14,7 +14,11 @@ abbrev μ-loop : tie.MeasureT-loop
 μ-loop set t s out₀ i₀ out i = 32 - i
 
 loop-again : tie.Need-loop-again Inv-loop μ-loop
-loop-again c = (search needs, rw (c .failed .ensures, c .before .before .before .loop .inv .1) (swept-more _ (c .before .before .before .before .args .ps) (c .before .before .before .loop .n) _ (search needs)))
+loop-again c = (
+  search needs,
+  rw (c .failed .ensures, c .before .before .before .loop .inv .1)
+      (swept-more _ (c .before .before .before .before .args .ps) (c .before .before .before .loop .n) _ (search needs)),
+)
 
 pub all-failed-spec : {M : Type 1} → statement M
 all-failed-spec =

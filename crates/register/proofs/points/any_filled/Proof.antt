@@ -13,7 +13,8 @@ use Rattle.register.proofs.points.any_filled.Statement.{statement}
 use Rattle.register.proofs.points.any_filled.Tie as tie
 
 abbrev Inv-loop : tie.InvT-loop
-Inv-loop set t s ps i₀ i = (i ≤ 32) × (anyPoint 1 32 (λ p. failureFills set t s (pointAt p ps)) ≡ anyPoint (i + 1) (32 - i) (λ p. failureFills set t s (pointAt p ps)))
+Inv-loop set t s ps i₀ i =
+    (i ≤ 32) × (anyPoint 1 32 (λ p. failureFills set t s (pointAt p ps)) ≡ anyPoint (i + 1) (32 - i) (λ p. failureFills set t s (pointAt p ps)))
 
 abbrev μ-loop : tie.MeasureT-loop
 μ-loop set t s ps i₀ i = 32 - i
@@ -21,12 +22,16 @@ abbrev μ-loop : tie.MeasureT-loop
 returns : tie.Need-returns Inv-loop μ-loop
 returns c = let a = c .before .before .before .before .before .args in let i = c .before .before .before .before .loop .k in
     let f : ℕ → Bool = λ p. failureFills (a .set) (a .t) (a .s) (pointAt p (a .t4)) in
-    sym (c .before .before .before .before .loop .inv .1 ∙ any-found f (i + 1) (32 - i) (omega arith) (rw (point-next (a .t4) i) (sym (c .before .failure-fills .ensures) ∙ c .if1 .taken)))
+    sym (c .before .before .before .before .loop .inv .1 ∙ any-found f (i + 1) (32 - i) (omega arith)
+    (rw (point-next (a .t4) i) (sym (c .before .failure-fills .ensures) ∙ c .if1 .taken)))
 
 loop-again : tie.Need-loop-again Inv-loop μ-loop
 loop-again c = let a = c .before .before .before .before .before .args in let i = c .before .before .before .before .loop .k in
-    let f : ℕ → Bool = λ p. failureFills (a .set) (a .t) (a .s) (pointAt p (a .t4)) in
-    (search needs, c .before .before .before .before .loop .inv .1 ∙ any-passed f i (omega arith) (rw (point-next (a .t4) i) (sym (c .before .failure-fills .ensures) ∙ c .if1 .left)))
+    let f : ℕ → Bool = λ p. failureFills (a .set) (a .t) (a .s) (pointAt p (a .t4)) in (
+      search needs,
+      c .before .before .before .before .loop .inv .1 ∙ any-passed f i (omega arith)
+          (rw (point-next (a .t4) i) (sym (c .before .failure-fills .ensures) ∙ c .if1 .left)),
+    )
 
 returns-2 : tie.Need-returns-2 Inv-loop μ-loop
 returns-2 c = let a = c .before .before .args in let i = c .before .loop .k in

@@ -22,15 +22,33 @@ returns-2 c =
 
 returns-3 : tie.Need-returns-3
 unfolding pointOn
-returns-3 c = rw (le-ltb (c .before .before .before .before .args .p) 1 (c .before .before .before .if1 .left), le-ltb 32 (c .before .before .before .before .args .p) (c .before .before .if2 .left), advanced-off (c .before .before .before .before .args .today) (c .before .before .before .before .args .t3) (c .if3 .taken))
+returns-3 c =
+    rw (
+      le-ltb (c .before .before .before .before .args .p) 1 (c .before .before .before .if1 .left),
+      le-ltb 32 (c .before .before .before .before .args .p) (c .before .before .if2 .left),
+      advanced-off (c .before .before .before .before .args .today) (c .before .before .before .before .args .t3) (c .if3 .taken),
+    )
 
 returns-4 : tie.Need-returns-4
 unfolding pointOn
-returns-4 c = rw (le-ltb (c .before .before .before .before .before .args .p) 1 (c .before .before .before .before .if1 .left), le-ltb 32 (c .before .before .before .before .before .args .p) (c .before .before .before .if2 .left), advanced-same (c .before .before .before .before .before .args .today) (c .before .before .before .before .before .args .t3) (omega arith) (c .if4 .taken))
+returns-4 c =
+    rw (
+      le-ltb (c .before .before .before .before .before .args .p) 1 (c .before .before .before .before .if1 .left),
+      le-ltb 32 (c .before .before .before .before .before .args .p) (c .before .before .before .if2 .left),
+      advanced-same (c .before .before .before .before .before .args .today) (c .before .before .before .before .before .args .t3) (omega arith)
+          (c .if4 .taken),
+    )
 
 returns-5 : tie.Need-returns-5
 unfolding pointOn
-returns-5 c = rw (le-ltb (c .before .before .before .before .before .before .before .args .p) 1 (c .before .before .before .before .before .before .if1 .left), le-ltb 32 (c .before .before .before .before .before .before .before .args .p) (c .before .before .before .before .before .if2 .left), advanced-new (c .before .before .before .before .before .before .before .args .today) (c .before .before .before .before .before .before .before .args .t3) (omega arith) (c .before .before .if4 .left), point-caughtUp) (c .catch-up .ensures)
+returns-5 c =
+    rw (
+      le-ltb (c .before .before .before .before .before .before .before .args .p) 1 (c .before .before .before .before .before .before .if1 .left),
+      le-ltb 32 (c .before .before .before .before .before .before .before .args .p) (c .before .before .before .before .before .if2 .left),
+      advanced-new (c .before .before .before .before .before .before .before .args .today)
+          (c .before .before .before .before .before .before .before .args .t3) (omega arith) (c .before .before .if4 .left),
+      point-caughtUp,
+    ) (c .catch-up .ensures)
 
 pub point-on-spec : {M : Type 1} → statement M
 point-on-spec =

@@ -4,10 +4,14 @@ use Rattle.session.proofs.pieces.line_message.Tie as tie
 use Rattle.session.proofs.Capped.{read-whole, read-joined}
 
 returns : tie.Need-returns
-returns c = read-whole ((c .before .before .before .before) .args .part) ((c .before .before .before .before) .args .line .now) _ ((c .before .if1) .taken) ((c .read-line) .ensures)
+returns c =
+    read-whole ((c .before .before .before .before) .args .part) ((c .before .before .before .before) .args .line .now) _ ((c .before .if1) .taken)
+    ((c .read-line) .ensures)
 
 returns-2 : tie.Need-returns-2
-returns-2 c = read-joined ((c .before .before .before .before .before .before) .args .part) ((c .before .before .before .before .before .before) .args .line .now) ((c .before .before .append) .result) _ ((c .before .before .append) .ensures) ((c .read-first) .ensures)
+returns-2 c =
+    read-joined ((c .before .before .before .before .before .before) .args .part) ((c .before .before .before .before .before .before) .args .line .now)
+    ((c .before .before .append) .result) _ ((c .before .before .append) .ensures) ((c .read-first) .ensures)
 
 pub line-message-spec : {M : Type 1} → statement M
 line-message-spec =

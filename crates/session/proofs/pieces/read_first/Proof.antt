@@ -9,10 +9,14 @@ use native.Mathlib.Omega.{arith}
 use Rattle.message.specs.Reading.{readLine}
 
 returns : tie.Need-returns
-returns c = let e : min ((c .before .before .before) .args .n) 97 ≡ (c .before .before .before) .args .n = omega (arith, (c .before .before .if1) .taken) in rw e ((c .read-line) .ensures)
+returns c =
+    let e : min ((c .before .before .before) .args .n) 97 ≡ (c .before .before .before) .args .n = omega (arith, (c .before .before .if1) .taken) in
+    rw e ((c .read-line) .ensures)
 
 returns-2 : tie.Need-returns-2
-returns-2 c = let e : min ((c .before .before .before) .args .n) 97 ≡ 97 = omega (arith, (c .before .before .if1) .left) in (c .read-line2) .ensures ∙ ap readLine (sym (ap (λ (k : ℕ). take k ((c .before .before .before) .args .t1)) e ∙ take-all 97 ((c .before .before .before) .args .t1) (omega arith)))
+returns-2 c =
+    let e : min ((c .before .before .before) .args .n) 97 ≡ 97 = omega (arith, (c .before .before .if1) .left) in (c .read-line2) .ensures ∙
+    ap readLine (sym (ap (λ (k : ℕ). take k ((c .before .before .before) .args .t1)) e ∙ take-all 97 ((c .before .before .before) .args .t1) (omega arith)))
 
 pub read-first-spec : {M : Type 1} → statement M
 read-first-spec =

@@ -7,28 +7,13 @@ use native.Mathlib.Numerals.{add-one}
 use borrow.Author.Tests.{le-leb, lt-leb}
 use lib.ListN.{length, take, drop, getD, length-append}
 use Rattle.text.specs.Appending.{put}
-use Rattle.rules.specs.declared.Register.{Register}
+use Rattle.rules.specs.declared.{Register.Register}
 use Rattle.listing.proofs.Growing.{within-length}
 use Rattle.text.proofs.Appends.{room-put, put-none}
-use Rattle.question_words.specs.declared.Question.{Question}
-use Rattle.all_questions.specs.declared.Scope.{Scope}
-use Rattle.all_questions.specs.declared.Place.{Place}
-use Rattle.all_questions.specs.declared.Handed.{Handed}
+use Rattle.question_words.specs.declared.{Question.Question}
+use Rattle.all_questions.specs.declared.{Scope.Scope, Place.Place, Handed.Handed}
 use Rattle.question_lines.specs.Lines.{line}
-use Rattle.all_questions.specs.All.{
-  scopeOf,
-  questionsIn,
-  questionsOf,
-  size,
-  lines,
-  taken,
-  takenAt,
-  piece,
-  placeAt,
-  placeAfter,
-  LinesPut,
-  HandedFrom,
-}
+use Rattle.all_questions.specs.All.{scopeOf, questionsIn, size, lines, taken, piece, placeAt, placeAfter, LinesPut, HandedFrom}
 
 module _ (r : Register) where
   pub lines-none : (qs : List Question) → lines r (take 0 qs) ≡ []

@@ -7,9 +7,8 @@ use native.Mathlib.Omega.{arith}
 use native.Mathlib.Nat.{add-zero}
 use lib.ListN.{length, getD, length-append, List·getD-append}
 use lib.Seq.{getD-append-add}
-use Rattle.question_words.specs.declared.Question.{Question}
-use Rattle.question_words.specs.declared.Question.the-variants.{Holder, Period, Advance}
-use Rattle.all_questions.specs.declared.Scope.{Scope}
+use Rattle.question_words.specs.declared.{Question.Question}
+use Rattle.all_questions.specs.declared.{Scope.Scope}
 use Rattle.all_questions.specs.All.{each, dayBefore, days, enrolledQuestions, questionsIn, size}
 
 pub each-length : (f : ℕ → Question) (a n : ℕ) → length (each f a n) ≡ n
@@ -30,37 +29,37 @@ pub size-is : (p : ℕ) (s : Scope) → length (questionsIn p s) ≡ size s
 unfolding questionsIn size
 size-is p s = go (s .enrolled)
   where
-    go : (t : Bool) → suc (length (cond t (enrolledQuestions p s) (Holder p (s .day) ∷ Period p 1 ∷ []))) ≡ cond t
+    go : (t : Bool) → suc (length (cond t (enrolledQuestions p s) (Question.Holder p (s .day) ∷ Question.Period p 1 ∷ []))) ≡ cond t
         (s .count + 3 + days s) 3
     go true =
-        let sum = length-append (each (Period p) 0 (s .count + 2)) (each (Holder p) (dayBefore s) (days s)) in
-        let first = each-length (Period p) 0 (s .count + 2) in
-        let second = each-length (Holder p) (dayBefore s) (days s) in
+        let sum = length-append (each (Question.Period p) 0 (s .count + 2)) (each (Question.Holder p) (dayBefore s) (days s)) in
+        let first = each-length (Question.Period p) 0 (s .count + 2) in
+        let second = each-length (Question.Holder p) (dayBefore s) (days s) in
         omega arith
     go false = refl
 
 module _ (p : ℕ) (s : Scope) (d : Question) where
   -- an enrolled point's questions: first its periods, then its days
-  pub period-at : (i : ℕ) → i < s .count + 2 → getD (enrolledQuestions p s) i d ≡ Period p i
+  pub period-at : (i : ℕ) → i < s .count + 2 → getD (enrolledQuestions p s) i d ≡ Question.Period p i
   period-at i h =
-      let k : i < length (each (Period p) 0 (s .count + 2)) = omega (arith, each-length (Period p) 0 (s .count + 2))
+      let k : i < length (each (Question.Period p) 0 (s .count + 2)) = omega (arith, each-length (Question.Period p) 0 (s .count + 2))
       in
       let z : 0 + i ≡ i = omega arith in
-      List·getD-append (each (Period p) 0 (s .count + 2)) (each (Holder p) (dayBefore s) (days s)) d i k ∙
-      each-at (Period p) 0 (s .count + 2) i d h ∙ ap (Period p) z
+      List·getD-append (each (Question.Period p) 0 (s .count + 2)) (each (Question.Holder p) (dayBefore s) (days s)) d i k ∙
+      each-at (Question.Period p) 0 (s .count + 2) i d h ∙ ap (Question.Period p) z
 
   pub day-at : (i : ℕ) → s .count + 2 ≤ i → i < s .count + 2 + days s →
-      getD (enrolledQuestions p s) i d ≡ Holder p (dayBefore s + (i - (s .count + 2)))
+      getD (enrolledQuestions p s) i d ≡ Question.Holder p (dayBefore s + (i - (s .count + 2)))
   day-at i h k =
       let n = s .count + 2 in
-      let len = each-length (Period p) 0 n in
-      let e : i ≡ length (each (Period p) 0 n) + (i - n) = omega arith in
+      let len = each-length (Question.Period p) 0 n in
+      let e : i ≡ length (each (Question.Period p) 0 n) + (i - n) = omega arith in
       ap (λ (j : ℕ). getD (enrolledQuestions p s) j d) e ∙
-      getD-append-add (each (Period p) 0 n) (each (Holder p) (dayBefore s) (days s)) (i - n) d ∙
-      each-at (Holder p) (dayBefore s) (days s) (i - n) d (omega arith)
+      getD-append-add (each (Question.Period p) 0 n) (each (Question.Holder p) (dayBefore s) (days s)) (i - n) d ∙
+      each-at (Question.Holder p) (dayBefore s) (days s) (i - n) d (omega arith)
 
   -- the first question, and those behind it
-  pub first-at : getD (questionsIn p s) 0 d ≡ Advance p
+  pub first-at : getD (questionsIn p s) 0 d ≡ Question.Advance p
   unfolding questionsIn
   first-at = refl
 
@@ -70,11 +69,11 @@ module _ (p : ℕ) (s : Scope) (d : Question) where
   enrolled-at zero h e = absurd (omega arith)
   enrolled-at (suc i) h e = let k : suc i - 1 ≡ i = omega arith in rw (e, k)
 
-  pub day-off : s .enrolled ≡ false → getD (questionsIn p s) 1 d ≡ Holder p (s .day)
+  pub day-off : s .enrolled ≡ false → getD (questionsIn p s) 1 d ≡ Question.Holder p (s .day)
   unfolding questionsIn
   day-off e = rw e
 
-  pub period-off : (i : ℕ) → 1 < i → i < size s → s .enrolled ≡ false → getD (questionsIn p s) i d ≡ Period p 1
+  pub period-off : (i : ℕ) → 1 < i → i < size s → s .enrolled ≡ false → getD (questionsIn p s) i d ≡ Question.Period p 1
   unfolding questionsIn size
   period-off i h k e = let z : i ≡ 2 = omega (arith, rw e at k) in rw (z, e)
 

@@ -8,24 +8,11 @@ use borrow.Author.Tests.{leb-true, leb-false, ltb-true, ltb-false, le-leb, lt-le
 use lib.Dec.{leb, ltb}
 use lib.ListN.{length, take, drop, length-drop}
 use lib.Seq.{take-all, drop-drop}
-use Rattle.rules.specs.declared.Register.{Register}
-use Rattle.question_words.specs.declared.Question.{Question}
-use Rattle.all_questions.specs.declared.Place.{Place}
+use Rattle.rules.specs.declared.{Register.Register}
+use Rattle.question_words.specs.declared.{Question.Question}
+use Rattle.all_questions.specs.declared.{Place.Place}
 use Rattle.question_lines.specs.Lines.{line}
-use Rattle.all_questions.specs.All.{
-  scopeOf,
-  questionsOf,
-  size,
-  lines,
-  pointsFrom,
-  all,
-  taken,
-  takenAt,
-  piece,
-  place,
-  placeAt,
-  placeAfter,
-}
+use Rattle.all_questions.specs.All.{scopeOf, questionsOf, size, lines, pointsFrom, all, taken, piece, place, placeAt, placeAfter}
 use Rattle.all_questions.specs.Pieces.{left, pieces, reached, Behind, same-point, next-point, PiecesJoin}
 use Rattle.all_questions.proofs.Indexing.{size-is}
 

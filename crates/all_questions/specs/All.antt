@@ -5,17 +5,13 @@ use mathlib.Core.Bool.{Bool, true, false, cond}
 use mathlib.Core.List.{List, [], _∷_, _++_}
 use lib.Dec.{leb, ltb}
 use lib.ListN.{length, take, drop, getD}
-use Rattle.rules.specs.declared.History.{History}
-use Rattle.rules.specs.declared.Register.{Register}
+use Rattle.rules.specs.declared.{History.History, Register.Register}
 use Rattle.rules.specs.Register.{noPeriod, used, pointAt}
 use Rattle.rules.specs.Questions.{unasked}
 use Rattle.text.specs.Appending.{put}
 use Rattle.listing.specs.Listing.{AppendedWithin}
-use Rattle.question_words.specs.declared.Question.{Question}
-use Rattle.question_words.specs.declared.Question.the-variants.{Holder, Period, Advance}
-use Rattle.all_questions.specs.declared.Scope.{Scope}
-use Rattle.all_questions.specs.declared.Place.{Place}
-use Rattle.all_questions.specs.declared.Handed.{Handed}
+use Rattle.question_words.specs.declared.{Question.Question}
+use Rattle.all_questions.specs.declared.{Scope.Scope, Place.Place, Handed.Handed}
 use Rattle.question_lines.specs.Lines.{line}
 
 abbrev pub scope : Bool → ℕ → ℕ → ℕ → Scope
@@ -48,10 +44,12 @@ days s = s .day + 2 - dayBefore s
 -- from the day before its enrolment to the day after the register's; of any other point the holder on the register's
 -- day, and period 1.
 abbrev pub enrolledQuestions : ℕ → Scope → List Question
-enrolledQuestions p s = each (Period p) 0 (s .count + 2) ++ each (Holder p) (dayBefore s) (days s)
+enrolledQuestions p s = each (Question.Period p) 0 (s .count + 2) ++ each (Question.Holder p) (dayBefore s) (days s)
 
 unfoldable pub questionsIn : ℕ → Scope → List Question
-questionsIn p s = Advance p ∷ cond (s .enrolled) (enrolledQuestions p s) (Holder p (s .day) ∷ Period p 1 ∷ [])
+questionsIn p s =
+    Question.Advance p ∷ cond (s .enrolled) (enrolledQuestions p s)
+    (Question.Holder p (s .day) ∷ Question.Period p 1 ∷ [])
 
 abbrev pub questionsOf : Register → ℕ → List Question
 questionsOf r p = questionsIn p (scopeOf r p)

@@ -2,14 +2,17 @@
 use mathlib.Core.Path.{_≡_}
 use mathlib.Core.Bool.{true, false}
 use mathlib.Core.List.{[], _∷_}
-use Rattle.question_words.specs.declared.Question.the-variants.{Holder, Period, Advance}
+use Rattle.question_words.specs.declared.{Question.Question}
 use Rattle.all_questions.specs.All.{scope, questionsIn}
 
 pub record QuestionsExamples : Type 0 where
   -- an enrolled point with one period, enrolled on day 5; today is 6
   pub enrolled-on-5 : questionsIn 1 (scope true 1 5 6) ≡
-      Advance 1 ∷ Period 1 0 ∷ Period 1 1 ∷ Period 1 2 ∷ Holder 1 4 ∷ Holder 1 5 ∷ Holder 1 6 ∷ Holder 1 7 ∷ []
+      Question.Advance 1 ∷ Question.Period 1 0 ∷ Question.Period 1 1 ∷ Question.Period 1 2 ∷ Question.Holder 1 4 ∷
+      Question.Holder 1 5 ∷ Question.Holder 1 6 ∷ Question.Holder 1 7 ∷ []
   -- there is no day before day 0
   pub enrolled-on-0 : questionsIn 1 (scope true 1 0 0) ≡
-      Advance 1 ∷ Period 1 0 ∷ Period 1 1 ∷ Period 1 2 ∷ Holder 1 0 ∷ Holder 1 1 ∷ []
-  pub not-enrolled : questionsIn 33 (scope false 0 0 6) ≡ Advance 33 ∷ Holder 33 6 ∷ Period 33 1 ∷ []
+      Question.Advance 1 ∷ Question.Period 1 0 ∷ Question.Period 1 1 ∷ Question.Period 1 2 ∷ Question.Holder 1 0 ∷
+      Question.Holder 1 1 ∷ []
+  pub not-enrolled : questionsIn 33 (scope false 0 0 6) ≡ Question.Advance 33 ∷ Question.Holder 33 6 ∷
+      Question.Period 33 1 ∷ []

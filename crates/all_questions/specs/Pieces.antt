@@ -6,8 +6,8 @@ use mathlib.Core.Bool.{cond}
 use mathlib.Core.List.{List, [], _∷_, _++_}
 use lib.Dec.{leb}
 use lib.ListN.{drop}
-use Rattle.rules.specs.declared.Register.{Register}
-use Rattle.all_questions.specs.declared.Place.{Place}
+use Rattle.rules.specs.declared.{Register.Register}
+use Rattle.all_questions.specs.declared.{Place.Place}
 use Rattle.all_questions.specs.All.{scopeOf, questionsOf, size, lines, pointsFrom, all, piece, place, placeAfter}
 
 -- What is still to be written from a place on.

@@ -5,16 +5,15 @@ use mathlib.Core.List.{List, [], _∷_, _++_}
 use mathlib.Core.Option.{Option, none, some}
 use native.Mathlib.Omega.{arith}
 use lib.ListN.{length, length-append}
-use Rattle.rules.specs.declared.Answer.{Answer}
-use Rattle.rules.specs.declared.Period.{Period}
+use Rattle.rules.specs.declared.{Answer.Answer, Period.Period}
 use Rattle.rules.specs.Answers.{isAccepted, number, date}
 use Rattle.text.specs.Ascii.{ascii}
-use Rattle.text.specs.Decimal.{decimal, fixed}
+use Rattle.text.specs.Decimal.{decimal}
 use Rattle.text.specs.Days.{dayText}
 use Rattle.text.proofs.Spelling.{decimal-append, decimal-length}
 use Rattle.text.proofs.Fixed.{fixed-append, fixed-length}
 use Rattle.text.proofs.DayTexts.{day-append, day-length}
-use Rattle.kinds.specs.declared.Kind.{Kind}
+use Rattle.kinds.specs.declared.{Kind.Kind}
 use Rattle.kinds.specs.Kinds.{word}
 use Rattle.kinds.proofs.KindTable.{word-short}
 use Rattle.answer_lines.specs.Answers.{shownKind, verdict, dateShown, answerLine, periodLine, totalLine}

@@ -4,19 +4,17 @@ use mathlib.Core.Bool.{Bool, true, false, cond}
 use mathlib.Core.List.{List, [], _∷_, _++_}
 use mathlib.Core.Option.{Option, none, some}
 use lib.Dec.{eqb}
-use Rattle.rules.specs.declared.Answer.{Answer}
-use Rattle.rules.specs.declared.Period.{Period}
+use Rattle.rules.specs.declared.{Answer.Answer, Period.Period}
 use Rattle.rules.specs.Answers.{isAccepted, number, date}
 use Rattle.text.specs.Ascii.{ascii}
 use Rattle.text.specs.Decimal.{decimal, fixed}
 use Rattle.text.specs.Days.{dayText}
-use Rattle.kinds.specs.declared.Kind.{Kind}
-use Rattle.kinds.specs.declared.Kind.the-variants.{Unknown}
+use Rattle.kinds.specs.declared.{Kind.Kind}
 use Rattle.kinds.specs.Kinds.{word}
 
 -- 01: "Number 31 prints `?` as its kind."
 abbrev pub shownKind : Kind → ℕ → Kind
-shownKind k n = cond (eqb n 31) Unknown k
+shownKind k n = cond (eqb n 31) Kind.Unknown k
 
 -- 01: "1 accepted or 0 rejected"; 49 and 48 are the bytes of 1 and 0.
 abbrev pub verdict : Bool → ℕ
@@ -38,7 +36,8 @@ feed = 10 ∷ []
 -- 01: "Answer line: kind; 1 accepted or 0 rejected; number, 0 if accepted; a date".
 unfoldable pub answerLine : Kind → Answer → List ℕ
 answerLine k a =
-    word (shownKind k (number a)) ++ sep (verdict (isAccepted a) ∷ sep (decimal (number a) (sep (dateShown (date a) feed))))
+    word (shownKind k (number a)) ++ sep (verdict (isAccepted a) ∷
+    sep (decimal (number a) (sep (dateShown (date a) feed))))
 
 -- 01: "its periods (point; start; holder; volume)".
 unfoldable pub periodLine : ℕ → Period → List ℕ

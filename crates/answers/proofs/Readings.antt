@@ -3,28 +3,24 @@ use mathlib.Core.Path.{_≡_, refl}
 use mathlib.Core.Bool.{Bool, true, false, false≢true}
 use mathlib.Core.List.{List, [], _∷_}
 use Prim.Native.Nat.{ℕ}
-use Rattle.rules.specs.declared.Fields.{Fields}
-use Rattle.rules.specs.declared.Point.{Point}
-use Rattle.rules.specs.declared.Settings.{Settings}
-use Rattle.rules.specs.declared.PointAction.the-variants.{Read}
-use Rattle.rules.specs.declared.Answer.{Answer}
-use Rattle.rules.specs.declared.Answer.the-variants.{Accepted, Refused}
+use Rattle.rules.specs.declared.{Fields.Fields, Point.Point, Settings.Settings, PointAction.PointAction}
+use Rattle.rules.specs.declared.{Answer.Answer}
 use Rattle.rules.specs.Answers.{isAccepted}
 use Rattle.rules.specs.Rejections.{Row, _⇒_, firstOf, answerTo, outOfRange, outOfRangeAt, offCalendar, offCalendarAt, rows, rowsAt, accepted, acceptedAt}
 use Rattle.answers.specs.Ruling.{answerAt, rulingAt, readRuling, readAnswer}
 
 module _ (S : Settings) (u : List Bool) (t p d x z : ℕ) (g : Point) where
-  pub read-ruling : rulingAt S u t p (Read d x z) g ≡ readRuling t p d x z (g .fields)
+  pub read-ruling : rulingAt S u t p (PointAction.Read d x z) g ≡ readRuling t p d x z (g .fields)
   unfolding rulingAt rowsAt acceptedAt
   read-ruling = refl
 
-  pub read-answer : (day : ℕ) → answerAt S day u t p (Read d x z) g ≡ readAnswer day t p d x z (g .fields)
+  pub read-answer : (day : ℕ) → answerAt S day u t p (PointAction.Read d x z) g ≡ readAnswer day t p d x z (g .fields)
   unfolding readAnswer answerTo outOfRange outOfRangeAt offCalendar offCalendarAt rows rowsAt accepted acceptedAt
   read-answer day = refl
 
 -- accepted, it carries no day
 abbrev Plain : List Row → Type 0
-Plain rs = isAccepted (firstOf rs Accepted) ≡ true → firstOf rs Accepted ≡ Accepted
+Plain rs = isAccepted (firstOf rs Answer.Accepted) ≡ true → firstOf rs Answer.Accepted ≡ Answer.Accepted
 
 plain : (b : Bool) (n : ℕ) (rs : List Row) → Plain rs → Plain ((b ⇒ n) ∷ rs)
 unfolding firstOf
@@ -35,6 +31,6 @@ last : Plain []
 unfolding firstOf
 last h = refl
 
-pub read-plain : (day t p d x z : ℕ) (f : Fields) → isAccepted (readAnswer day t p d x z f) ≡ true → readAnswer day t p d x z f ≡ Accepted
+pub read-plain : (day t p d x z : ℕ) (f : Fields) → isAccepted (readAnswer day t p d x z f) ≡ true → readAnswer day t p d x z f ≡ Answer.Accepted
 unfolding readAnswer answerTo outOfRange outOfRangeAt offCalendar offCalendarAt rows rowsAt accepted acceptedAt
 read-plain day t p d x z f = plain _ 22 _ (plain _ 20 _ (plain _ 21 _ (plain _ 2 _ (plain _ 27 _ (plain _ 28 [] last)))))

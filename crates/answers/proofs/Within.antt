@@ -5,19 +5,7 @@ use Prim.Native.Nat.{ℕ, _≤_}
 use lib.Dec.{ltb}
 use borrow.Author.Tests.{ltb-false}
 use Rattle.dates.specs.Dates.{lastDay}
-use Rattle.rules.specs.declared.Settings.{Settings}
-use Rattle.rules.specs.declared.PointAction.{PointAction}
-use Rattle.rules.specs.declared.PointAction.the-variants.{
-  Enrol,
-  IntoService,
-  DefaultSupply,
-  AskSwitch,
-  Cancel,
-  Read,
-  ChangeMeter,
-  OutOfService,
-  Suspend,
-}
+use Rattle.rules.specs.declared.{Settings.Settings, PointAction.PointAction}
 use Rattle.rules.specs.Rejections.{
   outside,
   notSupplier,
@@ -39,18 +27,18 @@ wheels-in b a h = let k = neither (outside 1 8 b) (outside 0 3 a) h in (at-most 
 pub in-range : (S : Settings) (t : ℕ) (a : PointAction) → outOfRangeAt a ≡ false → offCalendarAt S t a ≡ false
     → InRange a
 unfolding outOfRangeAt offCalendarAt
-in-range S t (Enrol b a x) h k = wheels-in b a h
-in-range S t (IntoService s k) h c =
+in-range S t (PointAction.Enrol b a x) h k = wheels-in b a h
+in-range S t (PointAction.IntoService s k) h c =
     let n = neither (notSupplier s) (notKey k) h in (at-most 1 99 s (n .0), at-most 1 999999999 k (n .1))
-in-range S t (DefaultSupply k) h c = at-most 1 999999999 k h
-in-range S t (AskSwitch s k r) h c =
+in-range S t (PointAction.DefaultSupply k) h c = at-most 1 999999999 k h
+in-range S t (PointAction.AskSwitch s k r) h c =
     let n = neither (notSupplier s) (notKey k) h in
     (at-most 1 99 s (n .0), at-most 1 999999999 k (n .1), ltb-false lastDay r c)
-in-range S t (Cancel s) h c = at-most 1 99 s h
-in-range S t (Read d x z) h c = (ltb-false lastDay d c, at-most 0 1 z h)
-in-range S t (ChangeMeter x z b a y) h c =
+in-range S t (PointAction.Cancel s) h c = at-most 1 99 s h
+in-range S t (PointAction.Read d x z) h c = (ltb-false lastDay d c, at-most 0 1 z h)
+in-range S t (PointAction.ChangeMeter x z b a y) h c =
     let n = neither (notMark z) (notWheels b a) h in
     let w = wheels-in b a (n .1) in
     (at-most 0 1 z (n .0), w .0, w .1)
-in-range S t OutOfService h c = tt
-in-range S t (Suspend m) h c = at-most 0 1 m h
+in-range S t PointAction.OutOfService h c = tt
+in-range S t (PointAction.Suspend m) h c = at-most 0 1 m h

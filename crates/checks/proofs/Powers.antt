@@ -2,7 +2,7 @@
 use Prim.Native.Nat.{ℕ, _+_, _-_, _^_, _≤_, min}
 use native.Mathlib.Omega.{arith}
 use native.Mathlib.Nat.{pow-le-pow-right}
-use Rattle.rules.specs.declared.Meter.{Meter}
+use Rattle.rules.specs.declared.{Meter.Meter}
 use Rattle.rules.specs.Volumes.{fullTurn, unitOf}
 
 pub power-up : (n k : ℕ) → n ≤ k → 10 ^ n ≤ 10 ^ k

@@ -1,10 +1,10 @@
 -- Number 28 by the zero mark: with 0 the index must not be below the last, with 1 it must be, and other marks are
 -- refused before.
-use mathlib.Core.Path.{_≡_, refl, sym}
+use mathlib.Core.Path.{_≡_, refl}
 use mathlib.Core.Bool.{Bool, true, false, not, _&&_, _||_}
-use Prim.Native.Nat.{ℕ, suc, _≤_, _<_}
+use Prim.Native.Nat.{ℕ}
 use lib.Dec.{eqb, leb, ltb}
-use borrow.Author.Tests.{eq-eqb, ne-eqb, le-leb, lt-leb, lt-ltb, le-ltb, ltb-true, ltb-false}
+use borrow.Author.Tests.{ne-eqb, le-leb, lt-leb, ltb-true, ltb-false}
 
 abbrev pub disagree : ℕ → ℕ → ℕ → Bool
 disagree z x last = (eqb z 0 && ltb x last) || (eqb z 1 && not (ltb x last))

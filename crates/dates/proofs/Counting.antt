@@ -6,7 +6,7 @@ use native.Mathlib.Nat.{add-zero, add-suc, add-assoc, eq-or-lt-of-le}
 use native.Mathlib.Omega.{arith}
 use native.Mathlib.Numerals.{add-one}
 use borrow.Author.Tests.{lt-ltb, le-ltb}
-use Rattle.dates.specs.declared.Date.{Date}
+use Rattle.dates.specs.declared.{Date.Date}
 use Rattle.dates.specs.Dates.{leapRow, monthLength, date, next, dateOf}
 use Rattle.dates.specs.Numbers.{monthStart, yearStart}
 use Rattle.dates.proofs.Months.{row-is, length-bounds}

@@ -2,7 +2,7 @@
 use mathlib.Core.Path.{_≡_, refl}
 use Prim.Native.Nat.{ℕ, min}
 use borrow.Author.Tests.{le-leb}
-use Rattle.dates.specs.declared.DayAnswer.the-variants.{Day}
+use Rattle.dates.specs.declared.{DayAnswer.DayAnswer}
 use Rattle.dates.specs.Dates.{lastDay, weekday, leapRow, monthLength, date, next, dateOf}
 use Rattle.dates.specs.Numbers.{monthStart, yearStart, dayNumber, isReal, dayAnswer, dateAnswer}
 use Rattle.dates.specs.Months.{onOrLast, threeMonthsOn, threeMonthsAfter}
@@ -11,7 +11,7 @@ use Rattle.dates.proofs.OneToOne.{one-to-one}
 
 -- three months after a real date, from the date: no counting up to it
 pub three-months-from :
-    (y m d n : ℕ) → dayAnswer y m d ≡ Day n → threeMonthsAfter n ≡ min lastDay (threeMonthsOn (date y m d))
+    (y m d n : ℕ) → dayAnswer y m d ≡ DayAnswer.Day n → threeMonthsAfter n ≡ min lastDay (threeMonthsOn (date y m d))
 unfolding threeMonthsAfter
 three-months-from y m d n e =
     let h = one-to-one .day-has-date y m d n e in

@@ -5,7 +5,7 @@ use Prim.Native.Nat.{ℕ, suc, _+_, _-_, _≤_, _<_}
 use native.Mathlib.Nat.{lt-of-not-le}
 use native.Mathlib.Omega.{arith}
 use borrow.Author.Tests.{le-leb, lt-leb}
-use Rattle.dates.specs.declared.DayAnswer.the-variants.{Day}
+use Rattle.dates.specs.declared.{DayAnswer.DayAnswer}
 use Rattle.dates.specs.Dates.{lastDay, leapRow, date, dateOf}
 use Rattle.dates.specs.Numbers.{isReal, dayNumber, dayAnswer, dateAnswer}
 use Rattle.dates.specs.OneToOne.{OneToOne}
@@ -57,8 +57,8 @@ module _ (n : ℕ) (h : n ≤ lastDay) where
   its-date-is-real : isReal (dateOf n .year) (dateOf n .month) (dateOf n .day) ≡ true
   its-date-is-real = rw date-split (is-real _ _ _ split-real)
 
-  its-date-has-it : dayAnswer (dateOf n .year) (dateOf n .month) (dateOf n .day) ≡ Day n
-  its-date-has-it = rw date-split (real-day _ _ _ split-real ∙ ap Day split-number)
+  its-date-has-it : dayAnswer (dateOf n .year) (dateOf n .month) (dateOf n .day) ≡ DayAnswer.Day n
+  its-date-has-it = rw date-split (real-day _ _ _ split-real ∙ ap DayAnswer.Day split-number)
 
 -- a real date, counted from 0
 module _ (y m d : ℕ) (r : Real y m d) where
@@ -87,7 +87,7 @@ module _ (y m d : ℕ) (r : Real y m d) where
       rw (year-back, month-back, day-back)
 
 module _ (y m d n : ℕ) where
-  has-date : dayAnswer y m d ≡ Day n → (n ≤ lastDay) × (dateOf n ≡ date y m d)
+  has-date : dayAnswer y m d ≡ DayAnswer.Day n → (n ≤ lastDay) × (dateOf n ≡ date y m d)
   has-date e =
       let r = day-real y m d n e in
       let same : dayNumber y m d ≡ n = cc (real-day y m d r) in

@@ -5,7 +5,7 @@ use Prim.Native.Nat.{ℕ, _+_, _-_, _≤_}
 use borrow.Author.Tests.{le-leb, leb-true}
 use lib.Dec.{leb}
 use native.Mathlib.Omega.{arith}
-use Rattle.dates.specs.declared.DayAnswer.the-variants.{Day, NoDate}
+use Rattle.dates.specs.declared.{DayAnswer.DayAnswer}
 use Rattle.dates.specs.Dates.{leapRow, monthLength}
 use Rattle.dates.specs.Numbers.{isReal, dayNumber, dayAnswer}
 use Rattle.dates.proofs.Every.{and-left, and-right}
@@ -48,28 +48,28 @@ module _ (y m d : ℕ) where
       )
 
   -- a real date's answer is its number
-  pub real-day : Real y m d → dayAnswer y m d ≡ Day (dayNumber y m d)
+  pub real-day : Real y m d → dayAnswer y m d ≡ DayAnswer.Day (dayNumber y m d)
   unfolding dayAnswer
   real-day r = rw (is-real r)
 
   -- where a date cannot be real, there is no day
-  pub no-date : (Real y m d → ⊥) → dayAnswer y m d ≡ NoDate
+  pub no-date : (Real y m d → ⊥) → dayAnswer y m d ≡ DayAnswer.NoDate
   unfolding dayAnswer
   no-date never = go (isReal y m d) refl where
-    go : (t : Bool) → isReal y m d ≡ t → cond t (Day (dayNumber y m d)) NoDate ≡ NoDate
+    go : (t : Bool) → isReal y m d ≡ t → cond t (DayAnswer.Day (dayNumber y m d)) DayAnswer.NoDate ≡ DayAnswer.NoDate
     go true e = absurd (never (real-is e))
     go false e = refl
 
   -- an answer with a day is that of a real date
-  pub day-real : (n : ℕ) → dayAnswer y m d ≡ Day n → Real y m d
+  pub day-real : (n : ℕ) → dayAnswer y m d ≡ DayAnswer.Day n → Real y m d
   unfolding dayAnswer
   day-real n e = go (isReal y m d) refl e where
-    go : (t : Bool) → isReal y m d ≡ t → cond t (Day (dayNumber y m d)) NoDate ≡ Day n → Real y m d
+    go : (t : Bool) → isReal y m d ≡ t → cond t (DayAnswer.Day (dayNumber y m d)) DayAnswer.NoDate ≡ DayAnswer.Day n → Real y m d
     go true q w = real-is q
     go false q w = absurd (let z : _≡_ {A = ℕ} 0 1 = cc in omega arith)
 
   -- the number of a real date, as the code reckons it, is its answer
-  pub found : (r : ℕ) → Real y m d → r ≡ dayNumber (2000 + (y - 2000)) (m - 1 + 1) (d - 1 + 1) → Day r ≡ dayAnswer y m d
+  pub found : (r : ℕ) → Real y m d → r ≡ dayNumber (2000 + (y - 2000)) (m - 1 + 1) (d - 1 + 1) → DayAnswer.Day r ≡ dayAnswer y m d
   found r real e =
       let year : 2000 + (y - 2000) ≡ y = omega arith in
       let month : m - 1 + 1 ≡ m = omega arith in

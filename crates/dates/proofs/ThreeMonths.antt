@@ -3,7 +3,7 @@ use mathlib.Core.Path.{_≡_}
 use Prim.Native.Nat.{ℕ, _+_, _-_, _≤_, _<_, min}
 use native.Mathlib.Omega.{arith}
 use borrow.Author.Tests.{le-leb, lt-leb}
-use Rattle.dates.specs.declared.Date.{Date}
+use Rattle.dates.specs.declared.{Date.Date}
 use Rattle.dates.specs.Dates.{lastDay, leapRow, monthLength, dateOf, InRange}
 use Rattle.dates.specs.Numbers.{dayNumber}
 use Rattle.dates.specs.Months.{onOrLast, threeMonthsOn, threeMonthsAfter}

@@ -5,7 +5,7 @@ use mathlib.Core.Bool.{cond}
 use mathlib.Core.List.{List, [], _∷_}
 use lib.Dec.{ltb, eqb}
 use lib.ListN.{getD}
-use Rattle.dates.specs.declared.Date.{Date}
+use Rattle.dates.specs.declared.{Date.Date}
 
 -- 01: "A gas day is a number 0 to 73,048".
 abbrev pub lastDay : ℕ

@@ -3,7 +3,7 @@
 use Prim.Native.Nat.{ℕ, _+_, _-_, min}
 use mathlib.Core.Bool.{cond}
 use lib.Dec.{leb}
-use Rattle.dates.specs.declared.Date.{Date}
+use Rattle.dates.specs.declared.{Date.Date}
 use Rattle.dates.specs.Dates.{lastDay, leapRow, monthLength, dateOf}
 use Rattle.dates.specs.Numbers.{dayNumber}
 

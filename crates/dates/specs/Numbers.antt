@@ -4,10 +4,7 @@ use Prim.Native.Nat.{ℕ, zero, suc, _+_, _-_}
 use mathlib.Core.Bool.{Bool, cond, _&&_}
 use lib.Dec.{leb}
 use Rattle.dates.specs.Dates.{lastDay, leapRow, monthLength, dateOf}
-use Rattle.dates.specs.declared.DayAnswer.{DayAnswer}
-use Rattle.dates.specs.declared.DayAnswer.the-variants.{Day, NoDate}
-use Rattle.dates.specs.declared.DateAnswer.{DateAnswer}
-use Rattle.dates.specs.declared.DateAnswer.the-variants.{On, OffCalendar}
+use Rattle.dates.specs.declared.{DayAnswer.DayAnswer, DateAnswer.DateAnswer}
 
 -- The days of a year before its month m, counted from 0; at 12, all its days.
 unfoldable pub monthStart : ℕ → ℕ → ℕ
@@ -30,8 +27,8 @@ isReal y m d =
 
 -- The answer to: which day has this date?
 unfoldable pub dayAnswer : ℕ → ℕ → ℕ → DayAnswer
-dayAnswer y m d = cond (isReal y m d) (Day (dayNumber y m d)) NoDate
+dayAnswer y m d = cond (isReal y m d) (DayAnswer.Day (dayNumber y m d)) DayAnswer.NoDate
 
 -- The answer to: which date has this day?
 unfoldable pub dateAnswer : ℕ → DateAnswer
-dateAnswer n = cond (leb n lastDay) (On (dateOf n)) OffCalendar
+dateAnswer n = cond (leb n lastDay) (DateAnswer.On (dateOf n)) DateAnswer.OffCalendar

@@ -3,8 +3,7 @@
 use Prim.Native.Nat.{ℕ, _≤_, _<_}
 use mathlib.Core.Path.{_≡_}
 use mathlib.Core.Bool.{true, false}
-use Rattle.dates.specs.declared.DayAnswer.the-variants.{Day, NoDate}
-use Rattle.dates.specs.declared.DateAnswer.the-variants.{On, OffCalendar}
+use Rattle.dates.specs.declared.{DayAnswer.DayAnswer, DateAnswer.DateAnswer}
 use Rattle.dates.specs.Dates.{lastDay, date, dateOf}
 use Rattle.dates.specs.Numbers.{isReal, dayNumber, dayAnswer, dateAnswer}
 
@@ -14,15 +13,16 @@ pub record OneToOne : Type 0 where
   -- a day of the calendar has a real date
   pub date-is-real : (n : ℕ) → n ≤ lastDay → isReal (dateOf n .year) (dateOf n .month) (dateOf n .day) ≡ true
   -- and the day of that date is the day
-  pub day-date-day : (n : ℕ) → n ≤ lastDay → dayAnswer (dateOf n .year) (dateOf n .month) (dateOf n .day) ≡ Day n
+  pub day-date-day : (n : ℕ) → n ≤ lastDay → dayAnswer (dateOf n .year) (dateOf n .month) (dateOf n .day) ≡
+      DayAnswer.Day n
   -- a number past the last day has no date
-  pub no-other-day : (n : ℕ) → lastDay < n → dateAnswer n ≡ OffCalendar
+  pub no-other-day : (n : ℕ) → lastDay < n → dateAnswer n ≡ DateAnswer.OffCalendar
   -- a real date has a day of the calendar
   pub day-is-in : (y m d : ℕ) → isReal y m d ≡ true → dayNumber y m d ≤ lastDay
   -- and the date of that day is the date
-  pub date-day-date : (y m d : ℕ) → isReal y m d ≡ true → dateAnswer (dayNumber y m d) ≡ On (date y m d)
+  pub date-day-date : (y m d : ℕ) → isReal y m d ≡ true → dateAnswer (dayNumber y m d) ≡ DateAnswer.On (date y m d)
   -- a date that is not real has no day
-  pub no-other-date : (y m d : ℕ) → isReal y m d ≡ false → dayAnswer y m d ≡ NoDate
+  pub no-other-date : (y m d : ℕ) → isReal y m d ≡ false → dayAnswer y m d ≡ DayAnswer.NoDate
   -- so a date has the day n exactly if n is a day of the calendar with that date
-  pub day-has-date : (y m d n : ℕ) → dayAnswer y m d ≡ Day n → (n ≤ lastDay) × (dateOf n ≡ date y m d)
-  pub date-has-day : (y m d n : ℕ) → n ≤ lastDay → dateOf n ≡ date y m d → dayAnswer y m d ≡ Day n
+  pub day-has-date : (y m d n : ℕ) → dayAnswer y m d ≡ DayAnswer.Day n → (n ≤ lastDay) × (dateOf n ≡ date y m d)
+  pub date-has-day : (y m d n : ℕ) → n ≤ lastDay → dateOf n ≡ date y m d → dayAnswer y m d ≡ DayAnswer.Day n

@@ -1,33 +1,13 @@
 -- Every answer is one of document 01's table.
-use mathlib.Core.Path.{_≡_, refl, sym, _∙_, ap}
+use mathlib.Core.Path.{_≡_, refl}
 use mathlib.Core.Bool.{Bool, true, false, cond, _&&_, _||_, false≢true}
 use mathlib.Core.List.{List, [], _∷_}
-use Prim.Native.Nat.{ℕ, _≤_, _<_}
+use Prim.Native.Nat.{ℕ, _<_}
 use native.Mathlib.Omega.{arith}
 use borrow.Author.Tests.{leb-true}
 use lib.Dec.{leb}
-use Rattle.rules.specs.declared.Settings.{Settings}
-use Rattle.rules.specs.declared.SupplyKind.{SupplyKind}
-use Rattle.rules.specs.declared.SupplyKind.the-variants.{None, Contract, Default, LastResort}
-use Rattle.rules.specs.declared.Opening.{Opening}
-use Rattle.rules.specs.declared.Register.{Register}
-use Rattle.rules.specs.declared.Call.{Call}
-use Rattle.rules.specs.declared.Action.{Action}
-use Rattle.rules.specs.declared.Action.the-variants.{SignContract, Failure, At, Day}
-use Rattle.rules.specs.declared.PointAction.{PointAction}
-use Rattle.rules.specs.declared.PointAction.the-variants.{
-  Enrol,
-  IntoService,
-  DefaultSupply,
-  AskSwitch,
-  Cancel,
-  Read,
-  ChangeMeter,
-  OutOfService,
-  Suspend,
-}
-use Rattle.rules.specs.declared.Answer.{Answer}
-use Rattle.rules.specs.declared.Answer.the-variants.{Accepted, AcceptedOn, Refused, RefusedUntil}
+use Rattle.rules.specs.declared.{Settings.Settings, SupplyKind.SupplyKind, Opening.Opening, Register.Register}
+use Rattle.rules.specs.declared.{Call.Call, Action.Action, PointAction.PointAction, Answer.Answer}
 use Rattle.rules.specs.Answers.{number}
 use Rattle.rules.specs.Rejections.{
   View,
@@ -44,14 +24,12 @@ use Rattle.rules.specs.Rejections.{
   openingAnswer,
 }
 use Rattle.rules.specs.Register.{says, applied}
-use Rattle.message.specs.declared.Message.{Message}
-use Rattle.message.specs.declared.Message.the-variants.{Open, Ask, Unreadable}
-use Rattle.desk.specs.declared.Desk.{Desk}
+use Rattle.message.specs.declared.{Message.Message}
 use Rattle.desk.specs.Desk.{unreadable, answerOf}
 use Rattle.desk.specs.Table.{isNumber, isTabled, EveryAnswerTabled}
 
 -- a row more
-row : (b : Bool) (n : ℕ) (rs : List Row) (a : Answer) → isTabled (Refused n) ≡ true → isTabled (firstOf rs a) ≡ true →
+row : (b : Bool) (n : ℕ) (rs : List Row) (a : Answer) → isTabled (Answer.Refused n) ≡ true → isTabled (firstOf rs a) ≡ true →
     isTabled (firstOf ((b ⇒ n) ∷ rs) a) ≡ true
 unfolding firstOf
 row true n rs a h k = h
@@ -61,12 +39,12 @@ row false n rs a h k = k
 row-8 : (t : ℕ) (kind : SupplyKind) (rs : List Row) (a : Answer) → isTabled (firstOf rs a) ≡ true →
     isTabled (firstOf (lastResortNear t kind ∷ rs) a) ≡ true
 unfolding firstOf
-row-8 t None rs a k = k
-row-8 t Contract rs a k = k
-row-8 t (LastResort d) rs a k = k
-row-8 t (Default d) rs a k = go (lastResortNear t (Default d) .applies)
+row-8 t SupplyKind.None rs a k = k
+row-8 t SupplyKind.Contract rs a k = k
+row-8 t (SupplyKind.LastResort d) rs a k = k
+row-8 t (SupplyKind.Default d) rs a k = go (lastResortNear t (SupplyKind.Default d) .applies)
   where
-    go : (b : Bool) → isTabled (cond b (RefusedUntil d) (firstOf rs a)) ≡ true
+    go : (b : Bool) → isTabled (cond b (Answer.RefusedUntil d) (firstOf rs a)) ≡ true
     go true = refl
     go false = k
 
@@ -77,10 +55,10 @@ last a h = h
 module _ (S : Settings) (u : List Bool) (t : ℕ) where
   rows-at : (p : ℕ) (a : PointAction) (v : View) → isTabled (firstOf (rowsAt S u t p a v) (acceptedAt t a)) ≡ true
   unfolding rowsAt acceptedAt
-  rows-at p (Enrol b a x) v = row _ 2 _ _ refl (row _ 23 _ _ refl (row _ 28 _ _ refl (last _ refl)))
-  rows-at p (IntoService s k) v = row _ 1 _ _ refl (row _ 2 _ _ refl (row _ 24 _ _ refl (row _ 30 _ _ refl (last _ refl))))
-  rows-at p (DefaultSupply k) v = row _ 2 _ _ refl (row _ 24 _ _ refl (row _ 30 _ _ refl (last _ refl)))
-  rows-at p (AskSwitch s k r) v =
+  rows-at p (PointAction.Enrol b a x) v = row _ 2 _ _ refl (row _ 23 _ _ refl (row _ 28 _ _ refl (last _ refl)))
+  rows-at p (PointAction.IntoService s k) v = row _ 1 _ _ refl (row _ 2 _ _ refl (row _ 24 _ _ refl (row _ 30 _ _ refl (last _ refl))))
+  rows-at p (PointAction.DefaultSupply k) v = row _ 2 _ _ refl (row _ 24 _ _ refl (row _ 30 _ _ refl (last _ refl)))
+  rows-at p (PointAction.AskSwitch s k r) v =
       row _ 1 _ _ refl
       (row _ 2 _ _ refl
       (row _ 3 _ _ refl
@@ -88,18 +66,18 @@ module _ (S : Settings) (u : List Bool) (t : ℕ) where
       (row _ 5 _ _ refl
       (row _ 6 _ _ refl
       (row _ 7 _ _ refl (row-8 t (v .fields .supply .kind) _ _ (row _ 30 _ _ refl (last _ refl)))))))))
-  rows-at p (Cancel s) v = row _ 2 _ _ refl (row _ 25 _ _ refl (row _ 26 _ _ refl (last _ refl)))
-  rows-at p (Read d x z) v = row _ 2 _ _ refl (row _ 27 _ _ refl (row _ 28 _ _ refl (last _ refl)))
-  rows-at p (ChangeMeter x z b a y) v = row _ 2 _ _ refl (row _ 27 _ _ refl (row _ 28 _ _ refl (last _ refl)))
-  rows-at p OutOfService v = row _ 2 _ _ refl (row _ 6 _ _ refl (row _ 30 _ _ refl (last _ refl)))
-  rows-at p (Suspend m) v = row _ 2 _ _ refl (last _ refl)
+  rows-at p (PointAction.Cancel s) v = row _ 2 _ _ refl (row _ 25 _ _ refl (row _ 26 _ _ refl (last _ refl)))
+  rows-at p (PointAction.Read d x z) v = row _ 2 _ _ refl (row _ 27 _ _ refl (row _ 28 _ _ refl (last _ refl)))
+  rows-at p (PointAction.ChangeMeter x z b a y) v = row _ 2 _ _ refl (row _ 27 _ _ refl (row _ 28 _ _ refl (last _ refl)))
+  rows-at p PointAction.OutOfService v = row _ 2 _ _ refl (row _ 6 _ _ refl (row _ 30 _ _ refl (last _ refl)))
+  rows-at p (PointAction.Suspend m) v = row _ 2 _ _ refl (last _ refl)
 
   rows-of : (a : Action) (v : ℕ → View) → isTabled (firstOf (rows S u t a v) (accepted t a)) ≡ true
   unfolding rows accepted
-  rows-of (SignContract s) v = last _ refl
-  rows-of (Failure s) v = row _ 1 _ _ refl (row _ 29 _ _ refl (row _ 30 _ _ refl (last _ refl)))
-  rows-of (At p a) v = rows-at p a (v p)
-  rows-of Day v = last _ refl
+  rows-of (Action.SignContract s) v = last _ refl
+  rows-of (Action.Failure s) v = row _ 1 _ _ refl (row _ 29 _ _ refl (row _ 30 _ _ refl (last _ refl)))
+  rows-of (Action.At p a) v = rows-at p a (v p)
+  rows-of Action.Day v = last _ refl
 
 call-tabled : (r : Register) (c : Call) → isTabled (says r c) ≡ true
 unfolding says answer answerTo
@@ -117,17 +95,17 @@ opening-tabled o =
 
 pub every-answer-tabled : EveryAnswerTabled
 unfolding answerOf applied
-every-answer-tabled d (Open o) = go (d .ready)
+every-answer-tabled d (Message.Open o) = go (d .ready)
   where
     go : (b : Bool) → isTabled (cond b unreadable (openingAnswer o)) ≡ true
     go true = refl
     go false = opening-tabled o
-every-answer-tabled d (Ask c) = go (d .ready)
+every-answer-tabled d (Message.Ask c) = go (d .ready)
   where
     go : (b : Bool) → isTabled (cond b (says (d .register) c) unreadable) ≡ true
     go true = call-tabled (d .register) c
     go false = refl
-every-answer-tabled d Unreadable = refl
+every-answer-tabled d Message.Unreadable = refl
 
 -- so its number has two digits at the most
 and-left : (x y : Bool) → (x && y) ≡ true → x ≡ true
@@ -146,7 +124,7 @@ number-small n h = go (leb 1 n && leb n 8) refl h
     go false e k = omega (arith, leb-true n 31 (and-right (leb 20 n) (leb n 31) k))
 
 pub tabled-small : (a : Answer) → isTabled a ≡ true → number a < 100
-tabled-small Accepted h = omega arith
-tabled-small (AcceptedOn e) h = omega arith
-tabled-small (RefusedUntil d) h = omega arith
-tabled-small (Refused n) h = number-small n (and-left (isNumber n) _ h)
+tabled-small Answer.Accepted h = omega arith
+tabled-small (Answer.AcceptedOn e) h = omega arith
+tabled-small (Answer.RefusedUntil d) h = omega arith
+tabled-small (Answer.Refused n) h = number-small n (and-left (isNumber n) _ h)

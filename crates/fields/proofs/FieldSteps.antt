@@ -9,9 +9,7 @@ use native.Mathlib.Omega.{arith}
 use lib.ListN.{length, take, drop, set, getD, replicate, drop-of-length-le}
 use lib.Seq.{drop-cons, drop-set-lt, take-suc-set}
 use borrow.Author.Tests.{le-leb, lt-leb, eq-eqb, ne-eqb}
-use Rattle.fields.specs.declared.Sort.{Sort}
-use Rattle.fields.specs.declared.Shape.{Shape}
-use Rattle.fields.specs.declared.KnownDate.{KnownDate}
+use Rattle.fields.specs.declared.{Sort.Sort, Shape.Shape, KnownDate.KnownDate}
 use Rattle.fields.specs.Fields.{fieldsOf, sortAt, sortsFrom, sortsOf, fieldsIn}
 use Rattle.fields.specs.With.{value, none, valueWith, fieldWith, rowRead, fieldsWith, rowWith}
 

@@ -15,28 +15,27 @@ use Rattle.reading.specs.Numbers.{Read, number, bad}
 use Rattle.reading.specs.OneText.{Stops}
 use Rattle.reading.proofs.Numbers.{number-back, number-only}
 use Rattle.reading.proofs.Days.{day-back, day-only}
-use Rattle.fields.specs.declared.Sort.{Sort}
-use Rattle.fields.specs.declared.Sort.the-variants.{Date, Number}
+use Rattle.fields.specs.declared.{Sort.Sort}
 use Rattle.fields.specs.Fields.{fieldText, fits, fieldsText, fitAll, valueOf, fieldOf, values, andThen, fieldsOf}
 
 -- a field is followed by a `;` or by nothing
 fields-stop : (ks : List Sort) (ns : List ℕ) → Stops (fieldsText ks ns)
 fields-stop [] ns = tt
 fields-stop (k ∷ ks) [] = tt
-fields-stop (Date ∷ ks) (n ∷ ns) = refl
-fields-stop (Number ∷ ks) (n ∷ ns) = refl
+fields-stop (Sort.Date ∷ ks) (n ∷ ns) = refl
+fields-stop (Sort.Number ∷ ks) (n ∷ ns) = refl
 
 -- one field, written and read
 field-back : (k : Sort) (n : ℕ) (l : List ℕ) → fits k n ≡ true → Stops l → fieldOf k (fieldText k n l) ≡ number n l
 unfolding fieldOf
-field-back Date n l h s = day-back n l (leb-true n lastDay h)
-field-back Number n l h s = number-back n l (ltb-true n (10 ^ 12) h) s
+field-back Sort.Date n l h s = day-back n l (leb-true n lastDay h)
+field-back Sort.Number n l h s = number-back n l (ltb-true n (10 ^ 12) h) s
 
 -- one field, read
 value-only : (k : Sort) (n : ℕ) (l r : List ℕ) → valueOf k l ≡ number n r →
     (59 ∷ l ≡ fieldText k n r) × (fits k n ≡ true)
-value-only Date n l r e = let w = day-only n l r e in (ap (_∷_ 59) (w .0), le-leb n lastDay (w .1))
-value-only Number n l r e = let w = number-only n l r e in (ap (_∷_ 59) (w .0), lt-ltb n (10 ^ 12) (w .1))
+value-only Sort.Date n l r e = let w = day-only n l r e in (ap (_∷_ 59) (w .0), le-leb n lastDay (w .1))
+value-only Sort.Number n l r e = let w = number-only n l r e in (ap (_∷_ 59) (w .0), lt-ltb n (10 ^ 12) (w .1))
 
 field-only : (k : Sort) (n : ℕ) (l r : List ℕ) → fieldOf k l ≡ number n r → (l ≡ fieldText k n r) × (fits k n ≡ true)
 unfolding fieldOf
@@ -60,8 +59,8 @@ fields-back (k ∷ ks) acc (n ∷ ns) h =
 
 -- what stands behind a field does not change it
 pub field-append : (k : Sort) (n : ℕ) (l : List ℕ) → fieldText k n l ≡ fieldText k n [] ++ l
-field-append Date n l = ap (_∷_ 59) (day-append n l)
-field-append Number n l = ap (_∷_ 59) (decimal-append n l)
+field-append Sort.Date n l = ap (_∷_ 59) (day-append n l)
+field-append Sort.Number n l = ap (_∷_ 59) (decimal-append n l)
 
 field-before : (k : Sort) (n : ℕ) (l m : List ℕ) → fieldText k n (l ++ m) ≡ fieldText k n l ++ m
 field-before k n l m =
@@ -104,16 +103,16 @@ fit-count (k ∷ ks) (n ∷ ns) h = ap suc (fit-count ks ns (and-right (fits k n
 
 -- a field has at most nine bytes, or 13
 abbrev pub width : Sort → ℕ
-width Date = 9
-width Number = 13
+width Sort.Date = 9
+width Sort.Number = 13
 
 abbrev pub widths : List Sort → ℕ
 widths [] = 0
 widths (k ∷ ks) = width k + widths ks
 
 pub field-short : (k : Sort) (n : ℕ) → fits k n ≡ true → length (fieldText k n []) ≤ width k
-field-short Date n h = let e = day-length n in omega arith
-field-short Number n h = let e = decimal-length 12 n (omega arith) (ltb-true n (10 ^ 12) h) in omega arith
+field-short Sort.Date n h = let e = day-length n in omega arith
+field-short Sort.Number n h = let e = decimal-length 12 n (omega arith) (ltb-true n (10 ^ 12) h) in omega arith
 
 pub fields-short : (ks : List Sort) (ns : List ℕ) → fitAll ks ns ≡ true → length (fieldsText ks ns) ≤ widths ks
 unfolding fitAll

@@ -8,19 +8,13 @@ use lib.Dec.{eqb}
 use lib.ListN.{length, take, drop, getD, replicate, length-drop, take-append-drop}
 use lib.Seq.{length-take-le}
 use borrow.Author.Tests.{le-leb, lt-leb}
-use Rattle.reading.specs.declared.Field.{Field}
+use Rattle.reading.specs.declared.{Field.Field}
 use Rattle.reading.specs.declared.Field.the-variants as field
 use Rattle.reading.specs.Words.{isSame}
 use Rattle.reading.specs.Numbers.{Read, number, bad, numberOf, fieldAt}
 use Rattle.reading.specs.Days.{dayIn}
 use Rattle.reading.proofs.Places.{Ends, ends-cons, ends-short, Leaves, number-leaves, day-leaves, Within, place, end-place, within-self}
-use Rattle.fields.specs.declared.Sort.{Sort}
-use Rattle.fields.specs.declared.Sort.the-variants.{Date, Number}
-use Rattle.fields.specs.declared.Shape.{Shape}
-use Rattle.fields.specs.declared.KnownDate.{KnownDate}
-use Rattle.fields.specs.declared.Row.{Row}
-use Rattle.fields.specs.declared.Step.{Step}
-use Rattle.fields.specs.declared.Step.the-variants.{On, Bad}
+use Rattle.fields.specs.declared.{Sort.Sort, Shape.Shape, KnownDate.KnownDate, Row.Row, Step.Step}
 use Rattle.fields.specs.Known.{packed, knownText}
 use Rattle.fields.specs.With.{ReadWith, value, none, numberRead, dateRead, dateWith, valueWith, fieldWith, RowRead, rowRead, rowWith}
 use Rattle.fields.specs.With.{stepAt, rowAt, valuesAfter, ReadRow}
@@ -47,8 +41,8 @@ date-leaves k l = go (isSame (take 8 l) (knownText k)) where
   go false = date-read-leaves (packed (take 8 l)) l (dayIn l) (day-leaves l)
 
 pub value-leaves : (k : KnownDate) (s : Sort) (l : List ℕ) → LeavesWith l (valueWith k s l)
-value-leaves k Date l = date-leaves k l
-value-leaves k Number l = number-read-leaves k l (numberOf l) (number-leaves l)
+value-leaves k Sort.Date l = date-leaves k l
+value-leaves k Sort.Number l = number-read-leaves k l (numberOf l) (number-leaves l)
 
 leaves-cons : (c : ℕ) (l : List ℕ) (x : ReadWith) → LeavesWith l x → LeavesWith (c ∷ l) x
 leaves-cons c l (value n r k) e = ends-cons c l r e
@@ -64,15 +58,15 @@ field-leaves k s (c ∷ l) = go (eqb c 59) where
 
 -- one field, from what it is, and back
 pub step-value : (s : List ℕ) (at i v : ℕ) (k : KnownDate) (x : ReadWith) → x ≡ value v (drop i s) k → Within s at i →
-    On v i k ≡ stepAt at (drop at s) x
+    Step.On v i k ≡ stepAt at (drop at s) x
 step-value s at i v k x e w =
-    ap (λ (n : ℕ). On v n k) (sym (place s at i w)) ∙ ap (stepAt at (drop at s)) (sym e)
+    ap (λ (n : ℕ). Step.On v n k) (sym (place s at i w)) ∙ ap (stepAt at (drop at s)) (sym e)
 
-pub step-none : (s : List ℕ) (at : ℕ) (x : ReadWith) → x ≡ none → Bad ≡ stepAt at (drop at s) x
+pub step-none : (s : List ℕ) (at : ℕ) (x : ReadWith) → x ≡ none → Step.Bad ≡ stepAt at (drop at s) x
 step-none s at x e = ap (stepAt at (drop at s)) (sym e)
 
 value-was : (s : List ℕ) (at i v : ℕ) (k : KnownDate) (x : ReadWith) → LeavesWith (drop at s) x →
-    stepAt at (drop at s) x ≡ On v i k → (x ≡ value v (drop i s) k) × Within s at i
+    stepAt at (drop at s) x ≡ Step.On v i k → (x ≡ value v (drop i s) k) × Within s at i
 value-was s at i v k (value n r d) e p =
     let same : n ≡ v = cc in
     let date : d ≡ k = cc in
@@ -82,16 +76,16 @@ value-was s at i v k (value n r d) e p =
     (cc, rw there at (w .1))
 value-was s at i v k none e p = absurd (let z : _≡_ {A = ℕ} 0 1 = cc in omega arith)
 
-none-was : (at : ℕ) (l : List ℕ) (x : ReadWith) → stepAt at l x ≡ Bad → x ≡ none
+none-was : (at : ℕ) (l : List ℕ) (x : ReadWith) → stepAt at l x ≡ Step.Bad → x ≡ none
 none-was at l (value n r d) p = absurd (let z : _≡_ {A = ℕ} 0 1 = cc in omega arith)
 none-was at l none p = refl
 
 module _ (s : List ℕ) (at : ℕ) (k : KnownDate) (t : Sort) (f : Step) (e : f ≡ stepAt at (drop at s) (fieldWith k t (drop at s))) where
-  pub field-was : (i v : ℕ) (d : KnownDate) → f ≡ On v i d → (fieldWith k t (drop at s) ≡ value v (drop i s) d) × Within s at i
+  pub field-was : (i v : ℕ) (d : KnownDate) → f ≡ Step.On v i d → (fieldWith k t (drop at s) ≡ value v (drop i s) d) × Within s at i
   field-was i v d p =
       value-was s at i v d (fieldWith k t (drop at s)) (field-leaves k t (drop at s)) (sym e ∙ p)
 
-  pub field-was-none : f ≡ Bad → fieldWith k t (drop at s) ≡ none
+  pub field-was-none : f ≡ Step.Bad → fieldWith k t (drop at s) ≡ none
   field-was-none p = none-was at (drop at s) (fieldWith k t (drop at s)) (sym e ∙ p)
 
 -- behind its `;`
@@ -101,7 +95,7 @@ step-next s at (value v r k) h e =
     let short = ends-short (drop (at + 1) s) r e in
     let here = length-drop at s in
     let there = length-drop (at + 1) s in
-    ap (λ (n : ℕ). On v n k) (omega arith)
+    ap (λ (n : ℕ). Step.On v n k) (omega arith)
 step-next s at none h e = refl
 
 pub field-step : (s : List ℕ) (at : ℕ) (k : KnownDate) (t : Sort) (f : Step) → at < length s → getD s at 0 ≡ 59 →
@@ -114,26 +108,26 @@ field-step s at k t f h e p =
 -- a number, and a date that is read
 module _ (at : ℕ) (l : List ℕ) (f : Field) where
   pub number-step : (k : KnownDate) (v i : ℕ) (x : Read) → f ≡ fieldAt at l x → f ≡ field.Value v i →
-      On v i k ≡ stepAt at l (numberRead k x)
+      Step.On v i k ≡ stepAt at l (numberRead k x)
   number-step k v i (number n r) e p =
       let same : n ≡ v = cc in
       let there : at + (length l - length r) ≡ i = cc in
       rw (same, there)
   number-step k v i bad e p = absurd (let z : _≡_ {A = ℕ} 0 1 = cc in omega arith)
 
-  pub number-none : (k : KnownDate) (x : Read) → f ≡ fieldAt at l x → f ≡ field.Bad → Bad ≡ stepAt at l (numberRead k x)
+  pub number-none : (k : KnownDate) (x : Read) → f ≡ fieldAt at l x → f ≡ field.Bad → Step.Bad ≡ stepAt at l (numberRead k x)
   number-none k (number n r) e p = absurd (let z : _≡_ {A = ℕ} 0 1 = cc in omega arith)
   number-none k bad e p = refl
 
   pub date-step : (b v i : ℕ) (x : Read) → f ≡ fieldAt at l x → f ≡ field.Value v i →
-      On v i (record { bytes = b; day = v }) ≡ stepAt at l (dateRead b x)
+      Step.On v i (record { bytes = b; day = v }) ≡ stepAt at l (dateRead b x)
   date-step b v i (number n r) e p =
       let same : n ≡ v = cc in
       let there : at + (length l - length r) ≡ i = cc in
       rw (same, there)
   date-step b v i bad e p = absurd (let z : _≡_ {A = ℕ} 0 1 = cc in omega arith)
 
-  pub date-none : (b : ℕ) (x : Read) → f ≡ fieldAt at l x → f ≡ field.Bad → Bad ≡ stepAt at l (dateRead b x)
+  pub date-none : (b : ℕ) (x : Read) → f ≡ fieldAt at l x → f ≡ field.Bad → Step.Bad ≡ stepAt at l (dateRead b x)
   date-none b (number n r) e p = absurd (let z : _≡_ {A = ℕ} 0 1 = cc in omega arith)
   date-none b bad e p = refl
 

@@ -8,8 +8,7 @@ use native.Mathlib.Numerals.{add-one}
 use lib.ListN.{length, take, drop, getD, length-append, length-take, take-append-drop}
 use lib.Seq.{drop-cons, drop-drop, getD-drop, take-add, take-at, length-take-le}
 use Rattle.dates.specs.Dates.{dateOf}
-use Rattle.dates.specs.declared.DateAnswer.{DateAnswer}
-use Rattle.dates.specs.declared.DateAnswer.the-variants.{On, OffCalendar}
+use Rattle.dates.specs.declared.{DateAnswer.DateAnswer}
 use Rattle.dates.specs.Numbers.{dateAnswer}
 use Rattle.text.specs.Decimal.{fixed}
 use Rattle.text.specs.Days.{answerText, dayText}
@@ -19,7 +18,7 @@ use Rattle.reading.specs.Numbers.{Read, number, bad}
 use Rattle.reading.specs.Days.{dayIn}
 use Rattle.reading.proofs.Days.{day-back, day-only}
 use Rattle.reading.proofs.Steps.{other-length, same-words, same-self}
-use Rattle.fields.specs.declared.KnownDate.{KnownDate}
+use Rattle.fields.specs.declared.{KnownDate.KnownDate}
 use Rattle.fields.specs.Known.{packed, unpacked, knownText, firstKnown, IsKnown}
 use Rattle.fields.specs.With.{value, none, dateRead, dateWith}
 
@@ -65,8 +64,8 @@ fixed-bytes (suc k) n l h = fixed-bytes k (n / 10) ((48 + n % 10) ∷ l) (omega 
 day-bytes : (n : ℕ) → AreBytes (dayText n [])
 day-bytes n = go (dateAnswer n) where
   go : (a : DateAnswer) → AreBytes (answerText a [])
-  go (On x) = fixed-bytes 4 (x .year) _ (fixed-bytes 2 (x .month) _ (fixed-bytes 2 (x .day) [] tt))
-  go OffCalendar = fixed-bytes 8 0 [] tt
+  go (DateAnswer.On x) = fixed-bytes 4 (x .year) _ (fixed-bytes 2 (x .month) _ (fixed-bytes 2 (x .day) [] tt))
+  go DateAnswer.OffCalendar = fixed-bytes 8 0 [] tt
 
 -- the known date is read where its bytes stand
 pub known-day : (k : KnownDate) (l : List ℕ) → IsKnown k → isSame (take 8 l) (knownText k) ≡ true →

@@ -8,10 +8,7 @@ use lib.ListN.{take, drop}
 use Rattle.reading.specs.Words.{isSame}
 use Rattle.reading.specs.Numbers.{Read, number, bad, numberOf}
 use Rattle.reading.specs.Days.{dayIn}
-use Rattle.fields.specs.declared.KnownDate.{KnownDate}
-use Rattle.fields.specs.declared.Shape.{Shape}
-use Rattle.fields.specs.declared.Sort.{Sort}
-use Rattle.fields.specs.declared.Sort.the-variants.{Date, Number}
+use Rattle.fields.specs.declared.{KnownDate.KnownDate, Shape.Shape, Sort.Sort}
 use Rattle.fields.specs.Known.{packed, knownText, firstKnown, IsKnown}
 use Rattle.fields.specs.Fields.{Values, unread, valueOf, fieldOf, andThen, fieldsOf, sortsOf, fieldsIn}
 use Rattle.fields.specs.With.{ReadWith, value, none, numberRead, dateRead, dateWith, valueWith, fieldWith}
@@ -41,8 +38,8 @@ number-as k (number n r) h = (refl, h)
 number-as k bad h = refl
 
 value-as : (k : KnownDate) (s : Sort) (l : List ℕ) → IsKnown k → ReadAs (valueWith k s l) (valueOf s l)
-value-as k Date l h = date-as k l h
-value-as k Number l h = number-as k (numberOf l) h
+value-as k Sort.Date l h = date-as k l h
+value-as k Sort.Number l h = number-as k (numberOf l) h
 
 field-as : (k : KnownDate) (s : Sort) (l : List ℕ) → IsKnown k → ReadAs (fieldWith k s l) (fieldOf s l)
 unfolding fieldWith fieldOf

@@ -9,10 +9,7 @@ use lib.ListN.{length, take, drop, length-append}
 use lib.Seq.{take-at}
 use borrow.Author.Tests.{leb-true, le-leb}
 use Rattle.reading.proofs.Places.{Ends, ends-self, ends-on, end-place}
-use Rattle.fields.specs.declared.KnownDate.{KnownDate}
-use Rattle.fields.specs.declared.Row.{Row}
-use Rattle.fields.specs.declared.Shape.{Shape}
-use Rattle.fields.specs.declared.Sort.{Sort}
+use Rattle.fields.specs.declared.{KnownDate.KnownDate, Row.Row, Shape.Shape, Sort.Sort}
 use Rattle.fields.specs.Known.{IsKnown}
 use Rattle.fields.specs.Fields.{Values, values, unread, sortsOf, fieldsIn}
 use Rattle.fields.specs.With.{ReadWith, value, none, fieldWith, RowRead, rowRead, onWith, fieldsWith, rowWith, ReadRow}

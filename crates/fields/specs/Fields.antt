@@ -9,19 +9,17 @@ use Rattle.text.specs.Decimal.{decimal}
 use Rattle.text.specs.Days.{dayText}
 use Rattle.reading.specs.Numbers.{Read, number, bad, numberOf}
 use Rattle.reading.specs.Days.{dayIn}
-use Rattle.fields.specs.declared.Sort.{Sort}
-use Rattle.fields.specs.declared.Sort.the-variants.{Date, Number}
-use Rattle.fields.specs.declared.Shape.{Shape}
+use Rattle.fields.specs.declared.{Sort.Sort, Shape.Shape}
 
 -- A field's text in front of l: 59 is the byte of `;`.
 abbrev pub fieldText : Sort → ℕ → List ℕ → List ℕ
-fieldText Date n l = 59 ∷ dayText n l
-fieldText Number n l = 59 ∷ decimal n l
+fieldText Sort.Date n l = 59 ∷ dayText n l
+fieldText Sort.Number n l = 59 ∷ decimal n l
 
 -- What a field can hold: a day of the calendar, a number of at most 12 digits.
 abbrev pub fits : Sort → ℕ → Bool
-fits Date n = leb n lastDay
-fits Number n = ltb n (10 ^ 12)
+fits Sort.Date n = leb n lastDay
+fits Sort.Number n = ltb n (10 ^ 12)
 
 -- The text of the values of a row of fields.
 abbrev pub fieldsText : List Sort → List ℕ → List ℕ
@@ -38,8 +36,8 @@ fitAll (k ∷ ks) (n ∷ ns) = fits k n && fitAll ks ns
 
 -- The value that a text holds, as a field of its sort.
 abbrev pub valueOf : Sort → List ℕ → Read
-valueOf Date l = dayIn l
-valueOf Number l = numberOf l
+valueOf Sort.Date l = dayIn l
+valueOf Sort.Number l = numberOf l
 
 -- The field that a text begins with.
 unfoldable pub fieldOf : Sort → List ℕ → Read
@@ -62,7 +60,7 @@ fieldsOf (k ∷ ks) acc l = andThen (fieldOf k l) (λ n r. fieldsOf ks (acc ++ (
 
 -- The sorts of a shape's n fields from the one at i on: the first is a date, and so is the one at second.
 abbrev pub sortAt : ℕ → ℕ → Sort
-sortAt second i = cond (eqb i 0) Date (cond (eqb i second) Date Number)
+sortAt second i = cond (eqb i 0) Sort.Date (cond (eqb i second) Sort.Date Sort.Number)
 
 unfoldable pub sortsFrom : ℕ → ℕ → ℕ → List Sort
 sortsFrom second i zero = []

@@ -6,7 +6,7 @@ use mathlib.Core.List.{List, [], _∷_}
 use Rattle.dates.specs.Dates.{lastDay}
 use Rattle.text.specs.Ascii.{ascii}
 use Rattle.text.specs.Days.{dayText}
-use Rattle.fields.specs.declared.KnownDate.{KnownDate}
+use Rattle.fields.specs.declared.{KnownDate.KnownDate}
 
 -- The bytes of a text as one number, the first byte the lowest.
 abbrev pub packed : List ℕ → ℕ

@@ -3,8 +3,7 @@
 use mathlib.Core.Path.{_≡_}
 use mathlib.Core.List.{List}
 use Prim.Native.Nat.{ℕ}
-use Rattle.fields.specs.declared.KnownDate.{KnownDate}
-use Rattle.fields.specs.declared.Shape.{Shape}
+use Rattle.fields.specs.declared.{KnownDate.KnownDate, Shape.Shape}
 use Rattle.fields.specs.Known.{firstKnown, IsKnown}
 use Rattle.fields.specs.Fields.{fieldsIn}
 use Rattle.fields.specs.With.{rowWith, allOf}

@@ -10,13 +10,7 @@ use lib.ListN.{length, take, drop, replicate}
 use Rattle.reading.specs.Words.{isSame}
 use Rattle.reading.specs.Numbers.{Read, number, bad, numberOf}
 use Rattle.reading.specs.Days.{dayIn}
-use Rattle.fields.specs.declared.Sort.{Sort}
-use Rattle.fields.specs.declared.Sort.the-variants.{Date, Number}
-use Rattle.fields.specs.declared.Shape.{Shape}
-use Rattle.fields.specs.declared.KnownDate.{KnownDate}
-use Rattle.fields.specs.declared.Row.{Row}
-use Rattle.fields.specs.declared.Step.{Step}
-use Rattle.fields.specs.declared.Step.the-variants.{On, Bad}
+use Rattle.fields.specs.declared.{Sort.Sort, Shape.Shape, KnownDate.KnownDate, Row.Row, Step.Step}
 use Rattle.fields.specs.Known.{packed, knownText}
 use Rattle.fields.specs.Fields.{Values, values, unread, sortsOf}
 
@@ -45,8 +39,8 @@ dateWith k l =
 
 -- The value that a text holds, as a field of its sort.
 abbrev pub valueWith : KnownDate → Sort → List ℕ → ReadWith
-valueWith k Date l = dateWith k l
-valueWith k Number l = numberWith k l
+valueWith k Sort.Date l = dateWith k l
+valueWith k Sort.Number l = numberWith k l
 
 -- The field that a text begins with.
 unfoldable pub fieldWith : KnownDate → Sort → List ℕ → ReadWith
@@ -85,8 +79,8 @@ allOf x = cond (x .ok) (values (x .read) (x .rest)) unread
 -- What the code hands back of what is read from a position on, l being the text from there on; positions lie as many
 -- bytes on as were read.
 abbrev pub stepAt : ℕ → List ℕ → ReadWith → Step
-stepAt at l (value v r k) = On v (at + (length l - length r)) k
-stepAt at l none = Bad
+stepAt at l (value v r k) = Step.On v (at + (length l - length r)) k
+stepAt at l none = Step.Bad
 
 abbrev pub rowAt : ℕ → List ℕ → RowRead → Row
 rowAt from l x = record { ok = x .ok; end = from + (length l - length (x .rest)); known = x .known }

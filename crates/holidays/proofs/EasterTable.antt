@@ -9,7 +9,7 @@ use native.Mathlib.Omega.{arith}
 use borrow.Author.Tests.{ltb-true, eqb-true}
 use lib.Dec.{ltb, eqb}
 use lib.ListN.{getD}
-use Rattle.dates.specs.declared.DayAnswer.the-variants.{Day, NoDate}
+use Rattle.dates.specs.declared.{DayAnswer.DayAnswer}
 use Rattle.dates.specs.Dates.{leapRow, monthLength, weekday, lastDay}
 use Rattle.dates.specs.Numbers.{monthStart, isReal, dayNumber, dayAnswer}
 use Rattle.dates.proofs.Every.{every, every-below, and-left, and-right}
@@ -98,7 +98,7 @@ march-22-real y a b =
 
 module _ (y : ℕ) where
   -- a year without a 22 March has no Easter
-  pub easter-none : dayAnswer y 3 22 ≡ NoDate → NoDate ≡ easterDay y
+  pub easter-none : dayAnswer y 3 22 ≡ DayAnswer.NoDate → DayAnswer.NoDate ≡ easterDay y
   unfolding easterDay
   easter-none e = sym (no-date y (month y) (day y) never) where
     never : Real y (month y) (day y) → ⊥
@@ -107,7 +107,7 @@ module _ (y : ℕ) where
         let z : _≡_ {A = ℕ} 0 1 = cc in
         omega arith
 
-  module _ (n : ℕ) (e : dayAnswer y 3 22 ≡ Day n) where
+  module _ (n : ℕ) (e : dayAnswer y 3 22 ≡ DayAnswer.Day n) where
     pub easter-years : (2000 ≤ y) × (y ≤ 2199)
     easter-years = let r = day-real y 3 22 n e in (r .from-2000, r .to-2199)
 
@@ -115,7 +115,7 @@ module _ (y : ℕ) where
     march-22-in = one-to-one .day-has-date y 3 22 n e .0
 
     -- Easter Sunday is the table's entry of days after 22 March
-    pub easter-found : (x : ℕ) → IsOffset (2000 + (y - 2000)) x → Day (n + x) ≡ easterDay y
+    pub easter-found : (x : ℕ) → IsOffset (2000 + (y - 2000)) x → DayAnswer.Day (n + x) ≡ easterDay y
     unfolding easterDay
     easter-found x o =
         let back : 2000 + (y - 2000) ≡ y = omega (arith, easter-years) in

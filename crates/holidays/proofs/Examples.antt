@@ -5,7 +5,7 @@ use Prim.Native.Nat.{ℕ, _≤_}
 use native.Mathlib.Omega.{arith}
 use borrow.Author.Tests.{le-leb}
 use lib.Dec.{ltb}
-use Rattle.dates.specs.declared.DayAnswer.the-variants.{Day}
+use Rattle.dates.specs.declared.{DayAnswer.DayAnswer}
 use Rattle.dates.specs.Dates.{lastDay, weekday, leapRow, monthLength, date, next, dateOf}
 use Rattle.dates.specs.Numbers.{monthStart, yearStart, dayNumber, isReal, dayAnswer}
 use Rattle.dates.proofs.OneToOne.{one-to-one}
@@ -16,7 +16,7 @@ use Rattle.holidays.specs.Examples.{Examples}
 use Rattle.holidays.proofs.Counting.{past-none}
 
 -- a real date's day, from the date: no counting up to it
-module _ (y m d : ℕ) (e : dayAnswer y m d ≡ Day (dayNumber y m d)) where
+module _ (y m d : ℕ) (e : dayAnswer y m d ≡ DayAnswer.Day (dayNumber y m d)) where
   holiday-on : isHoliday (dayNumber y m d) ≡ isHolidayOn (dayNumber y m d) (date y m d)
   unfolding isHoliday
   holiday-on =

@@ -6,8 +6,8 @@ use Prim.Native.Nat.{ℕ, _+_, _<_}
 use native.Mathlib.Numerals.{add-one}
 use lib.ListN.{length, drop, getD}
 use lib.Seq.{drop-cons}
-use Rattle.dates.specs.declared.Date.{Date}
-use Rattle.holidays.specs.declared.MonthDay.{MonthDay}
+use Rattle.dates.specs.declared.{Date.Date}
+use Rattle.holidays.specs.declared.{MonthDay.MonthDay}
 use Rattle.holidays.specs.Holidays.{fallsOn, anyFallsOn}
 
 module _ (l : List MonthDay) (i : ℕ) (f : MonthDay) (x : Date) (h : i < length l) where

@@ -3,11 +3,10 @@
 use Prim.Native.Nat.{ℕ, _+_, _-_, _*_, _/_, _%_, _<_}
 use mathlib.Core.Path.{_≡_}
 use mathlib.Core.Bool.{true}
-use Rattle.dates.specs.declared.DayAnswer.{DayAnswer}
-use Rattle.dates.specs.declared.DayAnswer.the-variants.{Day}
+use Rattle.dates.specs.declared.{DayAnswer.DayAnswer}
 use Rattle.dates.specs.Dates.{weekday}
 use Rattle.dates.specs.Numbers.{isReal, dayNumber, dayAnswer}
-use Rattle.holidays.specs.declared.MonthDay.{MonthDay}
+use Rattle.holidays.specs.declared.{MonthDay.MonthDay}
 
 abbrev pub monthDay : ℕ → ℕ → MonthDay
 monthDay m d = record { month = m; day = d }
@@ -74,4 +73,4 @@ pub record IsOffset (y r : ℕ) : Type 0 where
 
 -- Easter Sunday is a Sunday in all 200 years: a check of the computus, the weekdays and the month lengths at once.
 abbrev pub EasterIsSunday : Type 0
-EasterIsSunday = (y n : ℕ) → easterDay y ≡ Day n → weekday n ≡ 6
+EasterIsSunday = (y n : ℕ) → easterDay y ≡ DayAnswer.Day n → weekday n ≡ 6

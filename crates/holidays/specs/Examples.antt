@@ -3,7 +3,7 @@
 use Prim.Native.Nat.{ℕ, _≤_}
 use mathlib.Core.Path.{_≡_}
 use mathlib.Core.Bool.{Bool, true, false}
-use Rattle.dates.specs.declared.DayAnswer.the-variants.{Day, NoDate}
+use Rattle.dates.specs.declared.{DayAnswer.DayAnswer}
 use Rattle.dates.specs.Dates.{lastDay}
 use Rattle.dates.specs.Numbers.{dayNumber, dayAnswer}
 use Rattle.holidays.specs.Easter.{monthDay, easterSunday, easterDay}
@@ -20,16 +20,16 @@ workedOn y m d = isWorking (dayNumber y m d)
 pub record Examples : Type 0 where
   -- "Easter 2021 is 4 April, day 7,764."
   pub easter-2021 : easterSunday 2021 ≡ monthDay 4 4
-  pub easter-day-2021 : easterDay 2021 ≡ Day 7764
-  pub its-date : dayAnswer 2021 4 4 ≡ Day 7764
+  pub easter-day-2021 : easterDay 2021 ≡ DayAnswer.Day 7764
+  pub its-date : dayAnswer 2021 4 4 ≡ DayAnswer.Day 7764
   pub easter-2022 : easterSunday 2022 ≡ monthDay 4 17
   pub easter-2008-early : easterSunday 2008 ≡ monthDay 3 23
   pub easter-2038-late : easterSunday 2038 ≡ monthDay 4 25
-  pub no-easter-1999 : easterDay 1999 ≡ NoDate
-  pub no-easter-2200 : easterDay 2200 ≡ NoDate
+  pub no-easter-1999 : easterDay 1999 ≡ DayAnswer.NoDate
+  pub no-easter-2200 : easterDay 2200 ≡ DayAnswer.NoDate
   -- "In 2008 Ascension is 1 May": 39 days after day 3,004. "Two holidays on one day count once."
-  pub easter-day-2008 : easterDay 2008 ≡ Day 3004
-  pub ascension-2008 : dayAnswer 2008 5 1 ≡ Day 3043
+  pub easter-day-2008 : easterDay 2008 ≡ DayAnswer.Day 3004
+  pub ascension-2008 : dayAnswer 2008 5 1 ≡ DayAnswer.Day 3043
   pub ascension-2008-is-one : holidayOn 2008 5 1 ≡ true
   pub day-after-ascension-2008 : holidayOn 2008 5 2 ≡ false
   pub ascension-2009 : holidayOn 2009 5 21 ≡ true

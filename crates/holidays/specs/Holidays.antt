@@ -4,11 +4,9 @@ use Prim.Native.Nat.{ℕ, _+_}
 use mathlib.Core.Bool.{Bool, false, _&&_, _||_}
 use mathlib.Core.List.{List, [], _∷_}
 use lib.Dec.{leb, eqb}
-use Rattle.dates.specs.declared.Date.{Date}
-use Rattle.dates.specs.declared.DayAnswer.{DayAnswer}
-use Rattle.dates.specs.declared.DayAnswer.the-variants.{Day, NoDate}
+use Rattle.dates.specs.declared.{Date.Date, DayAnswer.DayAnswer}
 use Rattle.dates.specs.Dates.{lastDay, dateOf}
-use Rattle.holidays.specs.declared.MonthDay.{MonthDay}
+use Rattle.holidays.specs.declared.{MonthDay.MonthDay}
 use Rattle.holidays.specs.Easter.{monthDay, easterDay}
 
 -- 01: "Holidays: 1 January, 1 May, 9 May, 23 June, 15 August, 1 November, 25 and 26 December".
@@ -30,8 +28,8 @@ isFixedHoliday x = anyFallsOn fixedHolidays x
 
 -- 01: "and 1, 39 and 50 days after Easter Sunday": Easter Monday, Ascension, Whit Monday.
 unfoldable pub isAfterEaster : ℕ → DayAnswer → Bool
-isAfterEaster n (Day e) = eqb n (e + 1) || (eqb n (e + 39) || eqb n (e + 50))
-isAfterEaster n NoDate = false
+isAfterEaster n (DayAnswer.Day e) = eqb n (e + 1) || (eqb n (e + 39) || eqb n (e + 50))
+isAfterEaster n DayAnswer.NoDate = false
 
 -- A day with a date. 01: "Two holidays on one day count once": a day is a holiday or it is none.
 unfoldable pub isHolidayOn : ℕ → Date → Bool

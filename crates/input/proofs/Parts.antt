@@ -1,16 +1,15 @@
 -- Laws of what is kept of a line that has not ended.
-use Prim.Native.Nat.{ℕ, zero, suc, _+_, _-_, _≤_, _<_, min}
-use mathlib.Core.Path.{_≡_, refl, sym, ap, _∙_}
-use mathlib.Core.Bool.{Bool, true, false}
+use Prim.Native.Nat.{ℕ, zero, suc, _+_, _-_, _≤_, min}
+use mathlib.Core.Path.{_≡_, refl, ap, _∙_}
 use mathlib.Core.List.{List, [], _∷_, _++_, append-assoc, append-nil}
 use native.Mathlib.Omega.{arith}
 use native.Mathlib.Nat.{zero-add}
 use native.Mathlib.Decide.{decLe}
 use lib.ListN.{length, take, drop, replicate, length-append, length-take, length-replicate}
-use lib.Seq.{take-all, take-append-add, take-take, take-append-seam, length-take-le}
+use lib.Seq.{take-all, take-append-add, take-append-seam, length-take-le}
 use Rattle.text.specs.Appending.{put, Appended}
 use Rattle.text.proofs.Appends.{room-put, put-append, put-length}
-use Rattle.input.specs.declared.Part.{Part}
+use Rattle.input.specs.declared.{Part.Part}
 use Rattle.input.specs.Part.{capped, kept, partOf}
 
 -- ---- capped

@@ -1,4 +1,5 @@
--- What the lines of an input are, told by two laws that leave no other choice. Definitions only: proofs/Lines proves them.
+-- What the lines of an input are, told by two laws that leave no other choice. Definitions only: proofs/Lines proves
+-- them.
 use Prim.Native.Nat.{ℕ}
 use mathlib.Core.Path.{_≡_}
 use mathlib.Core.Bool.{false, cond}

@@ -1,5 +1,5 @@
--- What a machine writes that answers line by line, whatever the machine: next is its state after a line, say what it writes for a line,
--- close what it writes at the end. Definitions only.
+-- What a machine writes that answers line by line, whatever the machine: next is its state after a line, say what it
+-- writes for a line, close what it writes at the end. Definitions only.
 use Prim.Native.Nat.{ℕ}
 use mathlib.Core.Bool.{cond}
 use mathlib.Core.List.{List, [], _∷_, _++_}
@@ -35,4 +35,5 @@ behind o r = record { state = r .state; part = r .part; out = o ++ r .out }
 module _ {S : Type 0} (next : S → List ℕ → S) (say : S → List ℕ → List ℕ) where
   unfoldable pub run : S → List ℕ → List ℕ → Run S
   run s part [] = record { state = s; part = part; out = [] }
-  run s part (b ∷ l) = cond (eqb b 10) (behind (say s part) (run (next s part) [] l)) (run s (capped (part ++ (b ∷ []))) l)
+  run s part (b ∷ l) =
+      cond (eqb b 10) (behind (say s part) (run (next s part) [] l)) (run s (capped (part ++ (b ∷ []))) l)

@@ -2,7 +2,7 @@
 use Prim.Native.Nat.{ℕ, _-_, min}
 use mathlib.Core.List.{List, _++_}
 use lib.ListN.{length, take, replicate}
-use Rattle.input.specs.declared.Part.{Part}
+use Rattle.input.specs.declared.{Part.Part}
 
 -- A byte more than a line may have is enough to know that it is too long.
 unfoldable pub capped : List ℕ → List ℕ

@@ -9,7 +9,8 @@ ghost use lib.ListN.{take, drop};
 ghost use Rattle.input.specs.Lines.{untilFeed, fitting as Lines·fitting};
 ghost use Rattle.input.specs.Part.{capped, kept, partOf};
 
-// The start of a line that has not ended yet: its first len bytes; an over-long line's first 97, which is enough to know it.
+// The start of a line that has not ended yet: its first len bytes; an over-long line's first 97, which is enough to
+// know it.
 pub struct Part {
     pub len: usize,
     pub bytes: [u8; 97],

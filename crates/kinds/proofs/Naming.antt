@@ -8,9 +8,8 @@ use lib.ListN.{length}
 use borrow.Author.Tests.{eqb-false}
 use Rattle.reading.specs.Words.{isSame}
 use Rattle.reading.proofs.Steps.{other-length, same-words}
-use Rattle.kinds.specs.declared.Kind.{Kind}
-use Rattle.kinds.specs.declared.Kind.the-variants.{Set, Ctr, Def, Enr, Demmespc, I, Demcf, Adc, Ri, Cdt, Demmhs, Sus, Jour, Unknown}
-use Rattle.kinds.specs.Kinds.{word, kinds, kindIn, kindNamed}
+use Rattle.kinds.specs.declared.{Kind.Kind}
+use Rattle.kinds.specs.Kinds.{word, kindIn, kindNamed}
 
 -- the first kind of a list has the word, or it does not
 pub kind-here : (k : Kind) (ks : List Kind) (w : List ℕ) → isSame w (word k) ≡ true → kindIn (k ∷ ks) w ≡ k
@@ -39,29 +38,29 @@ kind-of-length n (k ∷ ks) w e = go (kind-of-length n ks w e) (eqb (length (wor
 
 -- a word of another length names none
 pub kind-of-none : (w : List ℕ) → (length w ≡ 1 → ⊥) → (length w ≡ 2 → ⊥) → (length w ≡ 3 → ⊥) → (length w ≡ 4 → ⊥) →
-    (length w ≡ 5 → ⊥) → (length w ≡ 6 → ⊥) → (length w ≡ 8 → ⊥) → kindNamed w ≡ Unknown
+    (length w ≡ 5 → ⊥) → (length w ≡ 6 → ⊥) → (length w ≡ 8 → ⊥) → kindNamed w ≡ Kind.Unknown
 unfolding kindIn
 kind-of-none w n1 n2 n3 n4 n5 n6 n8 =
     rw (
-      other-length w (word Set) n3,
-      other-length w (word Ctr) n3,
-      other-length w (word Def) n3,
-      other-length w (word Enr) n3,
-      other-length w (word Demmespc) n8,
-      other-length w (word I) n1,
-      other-length w (word Demcf) n5,
-      other-length w (word Adc) n3,
-      other-length w (word Ri) n2,
-      other-length w (word Cdt) n3,
-      other-length w (word Demmhs) n6,
-      other-length w (word Sus) n3,
-      other-length w (word Jour) n4,
+      other-length w (word Kind.Set) n3,
+      other-length w (word Kind.Ctr) n3,
+      other-length w (word Kind.Def) n3,
+      other-length w (word Kind.Enr) n3,
+      other-length w (word Kind.Demmespc) n8,
+      other-length w (word Kind.I) n1,
+      other-length w (word Kind.Demcf) n5,
+      other-length w (word Kind.Adc) n3,
+      other-length w (word Kind.Ri) n2,
+      other-length w (word Kind.Cdt) n3,
+      other-length w (word Kind.Demmhs) n6,
+      other-length w (word Kind.Sus) n3,
+      other-length w (word Kind.Jour) n4,
     )
 
 -- a kind that was found is Unknown, or its word is what was looked for
 pub data Found (w : List ℕ) : Kind → Type 0 where
   named : {k : Kind} → w ≡ word k → Found w k
-  unnamed : Found w Unknown
+  unnamed : Found w Kind.Unknown
 
 pub found : (ks : List Kind) (w : List ℕ) → Found w (kindIn ks w)
 unfolding kindIn

@@ -1,7 +1,7 @@
 -- The closing lines of a register after any list of calls are the day book's. The statement is specs/ByBook.antt.
 use Prim.Native.Nat.{ℕ, zero, suc, _+_, _-_, _≤_, _<_}
-use mathlib.Core.Path.{_≡_, refl, sym, ap, ap₂, _∙_}
-use mathlib.Core.Bool.{Bool, true, false, cond}
+use mathlib.Core.Path.{_≡_, refl, ap, ap₂, _∙_}
+use mathlib.Core.Bool.{Bool, true, false}
 use mathlib.Core.List.{List, [], _∷_, _++_, append-assoc, append-nil}
 use native.Mathlib.Omega.{arith}
 use native.Mathlib.Numerals.{add-one}
@@ -9,22 +9,18 @@ use native.Mathlib.Nat.{add-zero}
 use borrow.Author.Tests.{le-ltb}
 use lib.ListN.{length, take, getD}
 use lib.Seq.{take-suc}
-use Rattle.rules.specs.declared.Period.{Period}
-use Rattle.rules.specs.declared.Point.{Point}
-use Rattle.rules.specs.declared.Register.{Register}
-use Rattle.rules.specs.declared.Opening.{Opening}
-use Rattle.rules.specs.declared.Call.{Call}
+use Rattle.rules.specs.declared.{Period.Period, Point.Point, Register.Register, Opening.Opening, Call.Call}
 use Rattle.rules.specs.Answers.{isAccepted, advanceTold}
 use Rattle.rules.specs.Rejections.{openingAnswer}
-use Rattle.rules.specs.Register.{noPeriod, noPoint, used, pointAt}
+use Rattle.rules.specs.Register.{noPeriod, noPoint, pointAt}
 use Rattle.rules.specs.Questions.{advanceAnswer}
-use Rattle.rules.specs.Demand3.{periodsOf, register}
-use Rattle.rules.proofs.Slots.{Sized, used-count}
-use Rattle.rules.proofs.Run.{run-agrees}
+use Rattle.rules.specs.Periods.{periodsOf, register}
+use Rattle.agreement.proofs.Slots.{Sized, used-count}
+use Rattle.agreement.proofs.Run.{run-agrees}
 use Rattle.questions.specs.ByBook.{bookPeriods, bookAdvance}
 use Rattle.questions.proofs.Asking.{point-sized, periods-are, advance-is}
-use Rattle.answer_lines.specs.Answers.{periodLine, totalLine}
-use Rattle.listing.specs.Listing.{periodLines, historyLines, pointLines, listingFrom, listing}
+use Rattle.answer_lines.specs.Answers.{periodLine}
+use Rattle.listing.specs.Listing.{periodLines, pointLines, listingFrom, listing}
 use Rattle.listing.specs.ByBook.{linesOfPeriods, withTotal, rising, bookListing, ListingByBook}
 
 lines-snoc : (p : ℕ) (qs : List Period) (q : Period) → linesOfPeriods p (qs ++ (q ∷ [])) ≡ linesOfPeriods p qs ++ periodLine p q

@@ -6,11 +6,10 @@ use mathlib.Core.List.{List, [], _++_}
 use native.Mathlib.Omega.{arith}
 use native.Mathlib.Numerals.{add-one}
 use lib.ListN.{length, getD, length-append}
-use Rattle.rules.specs.declared.Period.{Period}
-use Rattle.rules.specs.declared.Point.{Point}
+use Rattle.rules.specs.declared.{Period.Period, Point.Point}
 use Rattle.rules.specs.Register.{noPeriod, used}
 use Rattle.rules.specs.Questions.{sumOf}
-use Rattle.text.specs.Appending.{put, Appended}
+use Rattle.text.specs.Appending.{Appended}
 use Rattle.text.proofs.Appends.{put-append, put-none, appended, room-put, put-length}
 use Rattle.answer_lines.specs.Answers.{periodLine, totalLine}
 use Rattle.answer_lines.proofs.LineTexts.{period-short, total-short}

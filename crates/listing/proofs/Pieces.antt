@@ -6,8 +6,7 @@ use native.Mathlib.Omega.{arith}
 use native.Mathlib.Nat.{add-zero}
 use lib.ListN.{length, take, drop}
 use lib.Seq.{drop-length, drop-drop}
-use Rattle.rules.specs.declared.Point.{Point}
-use Rattle.rules.specs.declared.Register.{Register}
+use Rattle.rules.specs.declared.{Point.Point, Register.Register}
 use Rattle.listing.specs.Listing.{pointLines, listingFrom, listing, taken, piece}
 use Rattle.listing.specs.Pieces.{pieces, reached, left, PiecesJoin}
 

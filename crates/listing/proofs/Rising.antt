@@ -6,11 +6,10 @@ use native.Mathlib.Omega.{arith}
 use native.Mathlib.Nat.{add-zero}
 use native.Mathlib.Numerals.{add-one}
 use lib.ListN.{length, take, drop, getD}
-use Rattle.rules.specs.declared.Point.{Point}
-use Rattle.rules.specs.declared.Register.{Register}
+use Rattle.rules.specs.declared.{Point.Point, Register.Register}
 use Rattle.rules.specs.Register.{noPoint}
 use Rattle.text.proofs.Appends.{room-put}
-use Rattle.listing.specs.declared.Listed.{Listed}
+use Rattle.listing.specs.declared.{Listed.Listed}
 use Rattle.listing.specs.Listing.{pointLines, listingFrom, taken, AppendedWithin, ListedFrom}
 
 pub listing-none : (p : ℕ) (gs : List Point) → listingFrom p (take 0 gs) ≡ []

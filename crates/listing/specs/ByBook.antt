@@ -1,17 +1,15 @@
--- 01, Message lines: "At the end come, per enrolled point, rising, its periods (point; start; holder; volume) and `total`; point;
--- advance." The closing lines by the day book and the list alone, and the law that they are a register's. Definitions only:
--- `listing-by-book` of proofs/ proves it.
+-- 01, Message lines: "At the end come, per enrolled point, rising, its periods (point; start; holder; volume) and
+-- `total`; point; advance." The closing lines by the day book and the list alone, and the law that they are a
+-- register's. Definitions only: `listing-by-book` of proofs/ proves it.
 use Prim.Native.Nat.{ℕ, zero, suc}
 use mathlib.Core.Path.{_≡_}
 use mathlib.Core.Bool.{true}
 use mathlib.Core.List.{List, [], _∷_, _++_}
 use mathlib.Core.Option.{Option, none, some}
-use Rattle.rules.specs.declared.Period.{Period}
-use Rattle.rules.specs.declared.Opening.{Opening}
-use Rattle.rules.specs.declared.Call.{Call}
+use Rattle.rules.specs.declared.{Period.Period, Opening.Opening, Call.Call}
 use Rattle.rules.specs.Answers.{isAccepted}
 use Rattle.rules.specs.Rejections.{openingAnswer}
-use Rattle.rules.specs.Demand3.{register}
+use Rattle.rules.specs.Periods.{register}
 use Rattle.questions.specs.ByBook.{bookPeriods, bookAdvance}
 use Rattle.answer_lines.specs.Answers.{periodLine, totalLine}
 use Rattle.listing.specs.Listing.{listing}
@@ -31,10 +29,12 @@ unfoldable pub rising : (ℕ → List ℕ) → ℕ → ℕ → List ℕ
 rising f p zero = []
 rising f p (suc n) = f p ++ rising f (suc p) n
 
--- "per enrolled point": its marked cells as periods, with their holders and the sums of their days' volumes, and its registered
--- advance.
+-- "per enrolled point": its marked cells as periods, with their holders and the sums of their days' volumes, and its
+-- registered advance.
 unfoldable pub bookListing : Opening → List Call → List ℕ
 bookListing o calls = rising (λ p. withTotal p (bookPeriods o calls p) (bookAdvance o calls p)) 1 32
 
 abbrev pub ListingByBook : Type 0
-ListingByBook = (o : Opening) → isAccepted (openingAnswer o) ≡ true → (calls : List Call) → listing (register o calls) ≡ bookListing o calls
+ListingByBook =
+    (o : Opening) → isAccepted (openingAnswer o) ≡ true → (calls : List Call) → listing (register o calls) ≡
+    bookListing o calls

@@ -5,10 +5,7 @@ use mathlib.Core.Path.{_≡_}
 use mathlib.Core.Bool.{true}
 use mathlib.Core.List.{List, [], _∷_, _++_}
 use lib.ListN.{replicate}
-use Rattle.rules.specs.declared.Period.{Period}
-use Rattle.rules.specs.declared.Fields.{Fields}
-use Rattle.rules.specs.declared.Point.{Point}
-use Rattle.rules.specs.declared.Register.{Register}
+use Rattle.rules.specs.declared.{Period.Period, Fields.Fields, Point.Point, Register.Register}
 use Rattle.rules.specs.Fields.{fields, blank}
 use Rattle.rules.specs.Register.{period, history, noPeriod, blankPoint, register}
 use Rattle.text.specs.Ascii.{ascii}

@@ -5,15 +5,12 @@ use mathlib.Core.Path.{_≡_}
 use mathlib.Core.Bool.{cond}
 use mathlib.Core.List.{List, [], _∷_, _++_}
 use lib.ListN.{length, take, drop, getD}
-use Rattle.rules.specs.declared.Period.{Period}
-use Rattle.rules.specs.declared.History.{History}
-use Rattle.rules.specs.declared.Point.{Point}
-use Rattle.rules.specs.declared.Register.{Register}
+use Rattle.rules.specs.declared.{Period.Period, History.History, Point.Point, Register.Register}
 use Rattle.rules.specs.Register.{noPeriod, used}
 use Rattle.rules.specs.Questions.{sumOf}
 use Rattle.text.specs.Appending.{put, Appended}
 use Rattle.answer_lines.specs.Answers.{periodLine, totalLine}
-use Rattle.listing.specs.declared.Listed.{Listed}
+use Rattle.listing.specs.declared.{Listed.Listed}
 
 -- "its periods (point; start; holder; volume)": of the first n, the oldest first.
 unfoldable pub periodLines : ℕ → ℕ → List Period → List ℕ

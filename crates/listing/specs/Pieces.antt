@@ -4,7 +4,7 @@ use Prim.Native.Nat.{ℕ, _+_, _≤_, _<_}
 use mathlib.Core.Path.{_≡_}
 use mathlib.Core.List.{List, [], _∷_, _++_}
 use lib.ListN.{length, drop}
-use Rattle.rules.specs.declared.Register.{Register}
+use Rattle.rules.specs.declared.{Register.Register}
 use Rattle.listing.specs.Listing.{listingFrom, listing, taken, piece}
 
 -- The texts of calls one behind the other, each with its room and from where the one before it came to.

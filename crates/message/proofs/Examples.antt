@@ -11,7 +11,8 @@ use Rattle.message.specs.Reading.{wordEnd, readLine}
 use Rattle.message.specs.Examples.{LineExamples}
 
 pub line-examples : LineExamples
-unfolding leapRow monthLength monthStart yearStart dayNumber isReal dayAnswer isSame moreOf numberOf fixedOf dayIn fieldOf fieldsOf sortsFrom wordEnd kindIn readLine
+unfolding leapRow monthLength monthStart yearStart dayNumber isReal dayAnswer isSame moreOf numberOf fixedOf dayIn fieldOf fieldsOf sortsFrom wordEnd kindIn
+    readLine
 line-examples =
     record {
       set-2021 = refl;

@@ -6,13 +6,13 @@ use native.Mathlib.Omega.{arith}
 use borrow.Author.Tests.{le-leb}
 use lib.ListN.{length, take, drop, drop-of-length-le}
 use lib.Seq.{drop-cons, getD-take}
-use Rattle.fields.specs.declared.Shape.{Shape}
+use Rattle.fields.specs.declared.{Shape.Shape}
 use Rattle.fields.specs.Fields.{Values, values, fieldsIn}
 use Rattle.fields.proofs.FieldSteps.{fields-are}
-use Rattle.kinds.specs.declared.Kind.{Kind}
+use Rattle.kinds.specs.declared.{Kind.Kind}
 use Rattle.kinds.specs.Kinds.{kindNamed, shapeOf}
 use Rattle.kinds.proofs.KindTable.{few}
-use Rattle.message.specs.declared.Message.the-variants.{Unreadable}
+use Rattle.message.specs.declared.{Message.Message}
 use Rattle.message.specs.Lines.{messageOf}
 use Rattle.message.specs.Reading.{wordEnd, messageWith, readLine}
 use Rattle.message.proofs.Rows.{firsts, own-enough}
@@ -37,7 +37,7 @@ message-first k v =
     ap (messageOf k) (firsts-of-take (shapeOf k .count) 0 (shapeOf k .count) v (omega arith)) ∙ own-enough k v
 
 -- with text behind its fields, and with none
-pub with-more : (k : Kind) (vs l : List ℕ) (at : ℕ) → at < length l → messageWith k (values vs (drop at l)) ≡ Unreadable
+pub with-more : (k : Kind) (vs l : List ℕ) (at : ℕ) → at < length l → messageWith k (values vs (drop at l)) ≡ Message.Unreadable
 with-more k vs l at h = rw (drop-cons l at 0 h)
 
 pub with-all : (k : Kind) (s : Shape) (v l : List ℕ) (at : ℕ) → s ≡ shapeOf k → length l ≤ at →

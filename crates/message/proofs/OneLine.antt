@@ -11,12 +11,10 @@ use borrow.Author.Tests.{le-leb}
 use Rattle.fields.specs.Fields.{Values, values, unread, fieldsText, fitAll, fieldsOf, sortsOf}
 use Rattle.fields.proofs.FieldSteps.{sorts-length}
 use Rattle.fields.proofs.FieldTexts.{fields-back, FieldsAre, fields-only, fields-short, fit-count}
-use Rattle.kinds.specs.declared.Kind.{Kind}
-use Rattle.kinds.specs.declared.Kind.the-variants.{Unknown}
+use Rattle.kinds.specs.declared.{Kind.Kind}
 use Rattle.kinds.specs.Kinds.{word, kinds, kindNamed, shapeOf}
 use Rattle.kinds.proofs.Naming.{Found, named, unnamed, found}
-use Rattle.message.specs.declared.Message.{Message}
-use Rattle.message.specs.declared.Message.the-variants.{Open, Ask, Unreadable}
+use Rattle.message.specs.declared.{Message.Message}
 use Rattle.message.specs.Lines.{lineOf, kindOf, partsOf, messageOf}
 use Rattle.message.specs.Reading.{wordEnd, messageWith, messageAs, readLine}
 use Rattle.message.specs.Writing.{isWritable, textOf}
@@ -24,7 +22,7 @@ use Rattle.message.specs.OneLine.{OneLine}
 use Rattle.message.proofs.Rows.{firsts-take, own, own-enough, row, parts-back, known}
 
 -- the line of a kind and its values
-module _ (k : Kind) (v : List ℕ) (h : k ≡ Unknown → ⊥) (fit : isWritable (messageOf k v) ≡ true) where
+module _ (k : Kind) (v : List ℕ) (h : k ≡ Kind.Unknown → ⊥) (fit : isWritable (messageOf k v) ≡ true) where
   fields-fit : fitAll (sortsOf (shapeOf k)) (own k v) ≡ true
   fields-fit = sym (row k v h .fit) ∙ fit
 
@@ -61,7 +59,7 @@ own-all k vs e =
 
 -- a line of a kind's word and fields that were read is the line of its message
 module _ (t F : List ℕ) (k : Kind) (vs : List ℕ) (e : t ≡ word k ++ F)
-    (f : FieldsAre (sortsOf (shapeOf k)) F [] [] vs) (h : k ≡ Unknown → ⊥) where
+    (f : FieldsAre (sortsOf (shapeOf k)) F [] [] vs) (h : k ≡ Kind.Unknown → ⊥) where
   own-is : own k vs ≡ f .ns
   own-is =
       let count = fit-count (sortsOf (shapeOf k)) (f .ns) (f .fit) ∙
@@ -75,7 +73,7 @@ module _ (t F : List ℕ) (k : Kind) (vs : List ℕ) (e : t ≡ word k ++ F)
       (e ∙ ap (_++_ (word k)) text ∙ sym (rw own-is at (r .text)), rw own-is at (r .fit) ∙ f .fit)
 
 -- a line that is read as a message that is not Unreadable is that message's line
-line-was : (l : List ℕ) (m : Message) → readLine l ≡ m → (m ≡ Unreadable → ⊥) → (l ≡ lineOf m) × (isWritable m ≡ true)
+line-was : (l : List ℕ) (m : Message) → readLine l ≡ m → (m ≡ Message.Unreadable → ⊥) → (l ≡ lineOf m) × (isWritable m ≡ true)
 unfolding readLine
 line-was l m e n = long (leb (length l) 96) e where
   kind : (k : Kind) → Found (take (wordEnd l) l) k → (x : Values) →
@@ -91,7 +89,7 @@ line-was l m e n = long (leb (length l) 96) e where
       (fields-only (sortsOf (shapeOf k)) [] (drop (wordEnd l) l) vs [] p)
       (λ u. n (sym w ∙ ap (λ (j : Kind). messageOf j vs) u)))
 
-  long : (b : Bool) → cond b (messageAs (kindNamed (take (wordEnd l) l)) (drop (wordEnd l) l)) Unreadable ≡ m →
+  long : (b : Bool) → cond b (messageAs (kindNamed (take (wordEnd l) l)) (drop (wordEnd l) l)) Message.Unreadable ≡ m →
       (l ≡ lineOf m) × (isWritable m ≡ true)
   long true w = kind (kindNamed (take (wordEnd l) l)) (found kinds (take (wordEnd l) l)) _ refl w
   long false w = absurd (n (sym w))
@@ -117,7 +115,7 @@ module _ (m : Message) (fit : isWritable m ≡ true) where
   its-back : readLine (textOf m) ≡ m
   its-back = ap readLine its-text ∙ its-line-back
 
-text-was : (l : List ℕ) (m : Message) → readLine l ≡ m → (m ≡ Unreadable → ⊥) → (l ≡ textOf m) × (isWritable m ≡ true)
+text-was : (l : List ℕ) (m : Message) → readLine l ≡ m → (m ≡ Message.Unreadable → ⊥) → (l ≡ textOf m) × (isWritable m ≡ true)
 text-was l m e n = let w = line-was l m e n in (w .0 ∙ sym (its-text m (w .1)), w .1)
 
 pub text-short : (m : Message) → length (textOf m) ≤ 90
@@ -127,15 +125,15 @@ text-short m = go (isWritable m) refl where
   go true e = its-line-short m e
   go false e = omega arith
 
-others : (l : List ℕ) → ((m : Message) → isWritable m ≡ true → l ≡ textOf m → ⊥) → readLine l ≡ Unreadable
+others : (l : List ℕ) → ((m : Message) → isWritable m ≡ true → l ≡ textOf m → ⊥) → readLine l ≡ Message.Unreadable
 others l never = go (readLine l) refl where
-  not-this : (m : Message) → readLine l ≡ m → (m ≡ Unreadable → ⊥) → ⊥
+  not-this : (m : Message) → readLine l ≡ m → (m ≡ Message.Unreadable → ⊥) → ⊥
   not-this m e n = let w = text-was l m e n in never m (w .1) (w .0)
 
-  go : (m : Message) → readLine l ≡ m → m ≡ Unreadable
-  go (Open o) e = absurd (not-this (Open o) e (λ q. let z : _≡_ {A = ℕ} 0 1 = cc in omega arith))
-  go (Ask c) e = absurd (not-this (Ask c) e (λ q. let z : _≡_ {A = ℕ} 0 1 = cc in omega arith))
-  go Unreadable e = refl
+  go : (m : Message) → readLine l ≡ m → m ≡ Message.Unreadable
+  go (Message.Open o) e = absurd (not-this (Message.Open o) e (λ q. let z : _≡_ {A = ℕ} 0 1 = cc in omega arith))
+  go (Message.Ask c) e = absurd (not-this (Message.Ask c) e (λ q. let z : _≡_ {A = ℕ} 0 1 = cc in omega arith))
+  go Message.Unreadable e = refl
 
 pub one-line : OneLine
 one-line =

@@ -7,17 +7,13 @@ use native.Mathlib.Omega.{arith}
 use lib.Dec.{lit≤}
 use lib.ListN.{length, take, drop, getD}
 use lib.Seq.{drop-cons}
-use Rattle.rules.specs.declared.Action.{Action}
-use Rattle.rules.specs.declared.Action.the-variants.{SignContract, Failure, At, Day}
-use Rattle.rules.specs.declared.PointAction.the-variants.{Enrol, IntoService, DefaultSupply, AskSwitch, Cancel, Read, ChangeMeter, OutOfService, Suspend}
+use Rattle.rules.specs.declared.{Action.Action, PointAction.PointAction}
 use Rattle.reading.specs.Words.{isSame}
 use Rattle.fields.specs.Fields.{fieldsText, fitAll, sortsFrom, sortsOf}
 use Rattle.fields.proofs.FieldTexts.{widths}
-use Rattle.kinds.specs.declared.Kind.{Kind}
-use Rattle.kinds.specs.declared.Kind.the-variants.{Set, Ctr, Def, Enr, Demmespc, I, Demcf, Adc, Ri, Cdt, Demmhs, Sus, Jour, Unknown}
+use Rattle.kinds.specs.declared.{Kind.Kind}
 use Rattle.kinds.specs.Kinds.{word, kindIn, kindNamed, shapeOf}
-use Rattle.message.specs.declared.Message.{Message}
-use Rattle.message.specs.declared.Message.the-variants.{Open, Ask, Unreadable}
+use Rattle.message.specs.declared.{Message.Message}
 use Rattle.message.specs.Lines.{lineOf, kindOf, partsOf, messageOf, ask}
 use Rattle.message.specs.Reading.{wordEnd}
 use Rattle.message.specs.Writing.{isWritable, fitParts}
@@ -39,20 +35,20 @@ own k v = firsts 0 (shapeOf k .count) v
 
 -- a message is made of those only
 pub own-enough : (k : Kind) (v : List ℕ) → messageOf k (own k v) ≡ messageOf k v
-own-enough Set v = refl
-own-enough Ctr v = refl
-own-enough Def v = refl
-own-enough Enr v = refl
-own-enough Demmespc v = refl
-own-enough I v = refl
-own-enough Demcf v = refl
-own-enough Adc v = refl
-own-enough Ri v = refl
-own-enough Cdt v = refl
-own-enough Demmhs v = refl
-own-enough Sus v = refl
-own-enough Jour v = refl
-own-enough Unknown v = refl
+own-enough Kind.Set v = refl
+own-enough Kind.Ctr v = refl
+own-enough Kind.Def v = refl
+own-enough Kind.Enr v = refl
+own-enough Kind.Demmespc v = refl
+own-enough Kind.I v = refl
+own-enough Kind.Demcf v = refl
+own-enough Kind.Adc v = refl
+own-enough Kind.Ri v = refl
+own-enough Kind.Cdt v = refl
+own-enough Kind.Demmhs v = refl
+own-enough Kind.Sus v = refl
+own-enough Kind.Jour v = refl
+own-enough Kind.Unknown v = refl
 
 -- what holds of each kind
 pub record Row (k : Kind) (v : List ℕ) : Type 0 where
@@ -63,103 +59,103 @@ pub record Row (k : Kind) (v : List ℕ) : Type 0 where
   pub small : length (word k) + widths (sortsOf (shapeOf k)) ≤ 90
   pub room : length (word k) + 13 * shapeOf k .count ≤ 96
 
-pub row : (k : Kind) (v : List ℕ) → (k ≡ Unknown → ⊥) → Row k v
+pub row : (k : Kind) (v : List ℕ) → (k ≡ Kind.Unknown → ⊥) → Row k v
 unfolding sortsFrom fitAll wordEnd kindIn isSame isWritable
-row Set v h = record { text = refl; fit = refl; ends = refl; named = refl; small = lit≤ tt; room = lit≤ tt }
-row Ctr v h = record { text = refl; fit = refl; ends = refl; named = refl; small = lit≤ tt; room = lit≤ tt }
-row Def v h = record { text = refl; fit = refl; ends = refl; named = refl; small = lit≤ tt; room = lit≤ tt }
-row Enr v h = record { text = refl; fit = refl; ends = refl; named = refl; small = lit≤ tt; room = lit≤ tt }
-row Demmespc v h = record { text = refl; fit = refl; ends = refl; named = refl; small = lit≤ tt; room = lit≤ tt }
-row I v h = record { text = refl; fit = refl; ends = refl; named = refl; small = lit≤ tt; room = lit≤ tt }
-row Demcf v h = record { text = refl; fit = refl; ends = refl; named = refl; small = lit≤ tt; room = lit≤ tt }
-row Adc v h = record { text = refl; fit = refl; ends = refl; named = refl; small = lit≤ tt; room = lit≤ tt }
-row Ri v h = record { text = refl; fit = refl; ends = refl; named = refl; small = lit≤ tt; room = lit≤ tt }
-row Cdt v h = record { text = refl; fit = refl; ends = refl; named = refl; small = lit≤ tt; room = lit≤ tt }
-row Demmhs v h = record { text = refl; fit = refl; ends = refl; named = refl; small = lit≤ tt; room = lit≤ tt }
-row Sus v h = record { text = refl; fit = refl; ends = refl; named = refl; small = lit≤ tt; room = lit≤ tt }
-row Jour v h = record { text = refl; fit = refl; ends = refl; named = refl; small = lit≤ tt; room = lit≤ tt }
-row Unknown v h = absurd (h refl)
+row Kind.Set v h = record { text = refl; fit = refl; ends = refl; named = refl; small = lit≤ tt; room = lit≤ tt }
+row Kind.Ctr v h = record { text = refl; fit = refl; ends = refl; named = refl; small = lit≤ tt; room = lit≤ tt }
+row Kind.Def v h = record { text = refl; fit = refl; ends = refl; named = refl; small = lit≤ tt; room = lit≤ tt }
+row Kind.Enr v h = record { text = refl; fit = refl; ends = refl; named = refl; small = lit≤ tt; room = lit≤ tt }
+row Kind.Demmespc v h = record { text = refl; fit = refl; ends = refl; named = refl; small = lit≤ tt; room = lit≤ tt }
+row Kind.I v h = record { text = refl; fit = refl; ends = refl; named = refl; small = lit≤ tt; room = lit≤ tt }
+row Kind.Demcf v h = record { text = refl; fit = refl; ends = refl; named = refl; small = lit≤ tt; room = lit≤ tt }
+row Kind.Adc v h = record { text = refl; fit = refl; ends = refl; named = refl; small = lit≤ tt; room = lit≤ tt }
+row Kind.Ri v h = record { text = refl; fit = refl; ends = refl; named = refl; small = lit≤ tt; room = lit≤ tt }
+row Kind.Cdt v h = record { text = refl; fit = refl; ends = refl; named = refl; small = lit≤ tt; room = lit≤ tt }
+row Kind.Demmhs v h = record { text = refl; fit = refl; ends = refl; named = refl; small = lit≤ tt; room = lit≤ tt }
+row Kind.Sus v h = record { text = refl; fit = refl; ends = refl; named = refl; small = lit≤ tt; room = lit≤ tt }
+row Kind.Jour v h = record { text = refl; fit = refl; ends = refl; named = refl; small = lit≤ tt; room = lit≤ tt }
+row Kind.Unknown v h = absurd (h refl)
 
 -- a message is that of its parts
 parts-back-call : (t : ℕ) (a : Action) → messageOf (kindOf (ask t a)) (partsOf (ask t a) .values) ≡ ask t a
-parts-back-call t (SignContract s) = refl
-parts-back-call t (Failure s) = refl
-parts-back-call t Day = refl
-parts-back-call t (At p (Enrol b a x)) = refl
-parts-back-call t (At p (IntoService s k)) = refl
-parts-back-call t (At p (DefaultSupply k)) = refl
-parts-back-call t (At p (AskSwitch s k r)) = refl
-parts-back-call t (At p (Cancel s)) = refl
-parts-back-call t (At p (Read d x z)) = refl
-parts-back-call t (At p (ChangeMeter x z b a y)) = refl
-parts-back-call t (At p OutOfService) = refl
-parts-back-call t (At p (Suspend m)) = refl
+parts-back-call t (Action.SignContract s) = refl
+parts-back-call t (Action.Failure s) = refl
+parts-back-call t Action.Day = refl
+parts-back-call t (Action.At p (PointAction.Enrol b a x)) = refl
+parts-back-call t (Action.At p (PointAction.IntoService s k)) = refl
+parts-back-call t (Action.At p (PointAction.DefaultSupply k)) = refl
+parts-back-call t (Action.At p (PointAction.AskSwitch s k r)) = refl
+parts-back-call t (Action.At p (PointAction.Cancel s)) = refl
+parts-back-call t (Action.At p (PointAction.Read d x z)) = refl
+parts-back-call t (Action.At p (PointAction.ChangeMeter x z b a y)) = refl
+parts-back-call t (Action.At p PointAction.OutOfService) = refl
+parts-back-call t (Action.At p (PointAction.Suspend m)) = refl
 
 pub parts-back : (m : Message) → messageOf (kindOf m) (partsOf m .values) ≡ m
-parts-back (Open o) = refl
-parts-back (Ask c) = parts-back-call (c .today) (c .action)
-parts-back Unreadable = refl
+parts-back (Message.Open o) = refl
+parts-back (Message.Ask c) = parts-back-call (c .today) (c .action)
+parts-back Message.Unreadable = refl
 
 -- its parts are seven values, of which its kind takes the first
 parts-own-call : (t : ℕ) (a : Action) →
     take (shapeOf (kindOf (ask t a)) .count) (partsOf (ask t a) .values) ≡ own (kindOf (ask t a)) (partsOf (ask t a) .values)
-parts-own-call t (SignContract s) = refl
-parts-own-call t (Failure s) = refl
-parts-own-call t Day = refl
-parts-own-call t (At p (Enrol b a x)) = refl
-parts-own-call t (At p (IntoService s k)) = refl
-parts-own-call t (At p (DefaultSupply k)) = refl
-parts-own-call t (At p (AskSwitch s k r)) = refl
-parts-own-call t (At p (Cancel s)) = refl
-parts-own-call t (At p (Read d x z)) = refl
-parts-own-call t (At p (ChangeMeter x z b a y)) = refl
-parts-own-call t (At p OutOfService) = refl
-parts-own-call t (At p (Suspend m)) = refl
+parts-own-call t (Action.SignContract s) = refl
+parts-own-call t (Action.Failure s) = refl
+parts-own-call t Action.Day = refl
+parts-own-call t (Action.At p (PointAction.Enrol b a x)) = refl
+parts-own-call t (Action.At p (PointAction.IntoService s k)) = refl
+parts-own-call t (Action.At p (PointAction.DefaultSupply k)) = refl
+parts-own-call t (Action.At p (PointAction.AskSwitch s k r)) = refl
+parts-own-call t (Action.At p (PointAction.Cancel s)) = refl
+parts-own-call t (Action.At p (PointAction.Read d x z)) = refl
+parts-own-call t (Action.At p (PointAction.ChangeMeter x z b a y)) = refl
+parts-own-call t (Action.At p PointAction.OutOfService) = refl
+parts-own-call t (Action.At p (PointAction.Suspend m)) = refl
 
 pub parts-own : (m : Message) → take (shapeOf (kindOf m) .count) (partsOf m .values) ≡ own (kindOf m) (partsOf m .values)
-parts-own (Open o) = refl
-parts-own (Ask c) = parts-own-call (c .today) (c .action)
-parts-own Unreadable = refl
+parts-own (Message.Open o) = refl
+parts-own (Message.Ask c) = parts-own-call (c .today) (c .action)
+parts-own Message.Unreadable = refl
 
 -- only Unreadable is of no kind, and it is not written
-known-call : (t : ℕ) (a : Action) → kindOf (ask t a) ≡ Unknown → ⊥
-known-call t (SignContract s) e = let z : _≡_ {A = ℕ} 0 1 = cc in omega arith
-known-call t (Failure s) e = let z : _≡_ {A = ℕ} 0 1 = cc in omega arith
-known-call t Day e = let z : _≡_ {A = ℕ} 0 1 = cc in omega arith
-known-call t (At p (Enrol b a x)) e = let z : _≡_ {A = ℕ} 0 1 = cc in omega arith
-known-call t (At p (IntoService s k)) e = let z : _≡_ {A = ℕ} 0 1 = cc in omega arith
-known-call t (At p (DefaultSupply k)) e = let z : _≡_ {A = ℕ} 0 1 = cc in omega arith
-known-call t (At p (AskSwitch s k r)) e = let z : _≡_ {A = ℕ} 0 1 = cc in omega arith
-known-call t (At p (Cancel s)) e = let z : _≡_ {A = ℕ} 0 1 = cc in omega arith
-known-call t (At p (Read d x z)) e = let z : _≡_ {A = ℕ} 0 1 = cc in omega arith
-known-call t (At p (ChangeMeter x z b a y)) e = let z : _≡_ {A = ℕ} 0 1 = cc in omega arith
-known-call t (At p OutOfService) e = let z : _≡_ {A = ℕ} 0 1 = cc in omega arith
-known-call t (At p (Suspend m)) e = let z : _≡_ {A = ℕ} 0 1 = cc in omega arith
+known-call : (t : ℕ) (a : Action) → kindOf (ask t a) ≡ Kind.Unknown → ⊥
+known-call t (Action.SignContract s) e = let z : _≡_ {A = ℕ} 0 1 = cc in omega arith
+known-call t (Action.Failure s) e = let z : _≡_ {A = ℕ} 0 1 = cc in omega arith
+known-call t Action.Day e = let z : _≡_ {A = ℕ} 0 1 = cc in omega arith
+known-call t (Action.At p (PointAction.Enrol b a x)) e = let z : _≡_ {A = ℕ} 0 1 = cc in omega arith
+known-call t (Action.At p (PointAction.IntoService s k)) e = let z : _≡_ {A = ℕ} 0 1 = cc in omega arith
+known-call t (Action.At p (PointAction.DefaultSupply k)) e = let z : _≡_ {A = ℕ} 0 1 = cc in omega arith
+known-call t (Action.At p (PointAction.AskSwitch s k r)) e = let z : _≡_ {A = ℕ} 0 1 = cc in omega arith
+known-call t (Action.At p (PointAction.Cancel s)) e = let z : _≡_ {A = ℕ} 0 1 = cc in omega arith
+known-call t (Action.At p (PointAction.Read d x z)) e = let z : _≡_ {A = ℕ} 0 1 = cc in omega arith
+known-call t (Action.At p (PointAction.ChangeMeter x z b a y)) e = let z : _≡_ {A = ℕ} 0 1 = cc in omega arith
+known-call t (Action.At p PointAction.OutOfService) e = let z : _≡_ {A = ℕ} 0 1 = cc in omega arith
+known-call t (Action.At p (PointAction.Suspend m)) e = let z : _≡_ {A = ℕ} 0 1 = cc in omega arith
 
-unreadable-unwritten : isWritable Unreadable ≡ false
+unreadable-unwritten : isWritable Message.Unreadable ≡ false
 unfolding isWritable
 unreadable-unwritten = refl
 
-pub known : (m : Message) → isWritable m ≡ true → kindOf m ≡ Unknown → ⊥
+pub known : (m : Message) → isWritable m ≡ true → kindOf m ≡ Kind.Unknown → ⊥
 unfolding isWritable
-known (Open o) h e = let z : _≡_ {A = ℕ} 0 1 = cc in omega arith
-known (Ask c) h e = known-call (c .today) (c .action) e
-known Unreadable h e =
+known (Message.Open o) h e = let z : _≡_ {A = ℕ} 0 1 = cc in omega arith
+known (Message.Ask c) h e = known-call (c .today) (c .action) e
+known Message.Unreadable h e =
     let n = unreadable-unwritten in
     let z : _≡_ {A = ℕ} 0 1 = cc in
     omega arith
 
 -- a message is writable if its parts fit, unless it is Unreadable
-pub writable-parts : (m : Message) → (m ≡ Unreadable → ⊥) → isWritable m ≡ fitParts (partsOf m)
+pub writable-parts : (m : Message) → (m ≡ Message.Unreadable → ⊥) → isWritable m ≡ fitParts (partsOf m)
 unfolding isWritable
-writable-parts (Open o) n = refl
-writable-parts (Ask c) n = refl
-writable-parts Unreadable n = absurd (n refl)
+writable-parts (Message.Open o) n = refl
+writable-parts (Message.Ask c) n = refl
+writable-parts Message.Unreadable n = absurd (n refl)
 
 pub writable-fit : (m : Message) → isWritable m ≡ true → fitParts (partsOf m) ≡ true
 unfolding isWritable
-writable-fit (Open o) h = h
-writable-fit (Ask c) h = h
-writable-fit Unreadable h =
+writable-fit (Message.Open o) h = h
+writable-fit (Message.Ask c) h = h
+writable-fit Message.Unreadable h =
     let n = unreadable-unwritten in
     absurd (let z : _≡_ {A = ℕ} 0 1 = cc in omega arith)

@@ -4,45 +4,44 @@ use Prim.Native.Nat.{ℕ}
 use mathlib.Core.Path.{_≡_}
 use mathlib.Core.List.{List, [], _∷_, _++_}
 use lib.ListN.{replicate}
-use Rattle.rules.specs.declared.Action.the-variants.{SignContract, Failure, Day}
-use Rattle.rules.specs.declared.PointAction.the-variants.{Enrol, IntoService, DefaultSupply, AskSwitch, Cancel, Read, ChangeMeter, OutOfService, Suspend}
+use Rattle.rules.specs.declared.{Action.Action, PointAction.PointAction}
 use Rattle.text.specs.Ascii.{ascii}
-use Rattle.message.specs.declared.Message.{Message}
-use Rattle.message.specs.declared.Message.the-variants.{Open, Unreadable}
+use Rattle.message.specs.declared.{Message.Message}
 use Rattle.message.specs.Lines.{ask, askAt}
 use Rattle.message.specs.Reading.{readLine}
 
 abbrev pub opening : ℕ → ℕ → ℕ → ℕ → ℕ → ℕ → Message
-opening d w a b default resort = Open (record { day = d; w = w; a = a; b = b; default = default; resort = resort })
+opening d w a b default resort =
+    Message.Open (record { day = d; w = w; a = a; b = b; default = default; resort = resort })
 
 -- A line is read, or it is unreadable.
 abbrev pub Says : List ℕ → Message → Type 0
 Says l m = readLine l ≡ m
 
 abbrev pub Refused31 : List ℕ → Type 0
-Refused31 l = readLine l ≡ Unreadable
+Refused31 l = readLine l ≡ Message.Unreadable
 
 pub record LineExamples : Type 0 where
   -- 01: "A line is its kind, then today, then the call's fields in the order above"
   pub set-2021 : Says (ascii "set;20210101;2;30;40;1;2") (opening 7671 2 30 40 1 2)
-  pub ctr-5 : Says (ascii "ctr;20210101;5") (ask 7671 (SignContract 5))
-  pub def-5 : Says (ascii "def;20210101;5") (ask 7671 (Failure 5))
-  pub enr-1 : Says (ascii "enr;20210101;1;3;0;990") (askAt 7671 1 (Enrol 3 0 990))
-  pub demmespc-1 : Says (ascii "demmespc;20210104;1;5;77") (askAt 7674 1 (IntoService 5 77))
-  pub i-1 : Says (ascii "i;20210104;1;77") (askAt 7674 1 (DefaultSupply 77))
-  pub demcf-1 : Says (ascii "demcf;20210601;1;5;77;20210622") (askAt 7822 1 (AskSwitch 5 77 7843))
-  pub adc-1 : Says (ascii "adc;20210519;1;5") (askAt 7809 1 (Cancel 5))
-  pub ri-1 : Says (ascii "ri;20210114;1;20210113;10;1") (askAt 7684 1 (Read 7683 10 1))
-  pub cdt-1 : Says (ascii "cdt;20210114;1;10;0;4;2;123") (askAt 7684 1 (ChangeMeter 10 0 4 2 123))
-  pub demmhs-1 : Says (ascii "demmhs;20210114;1") (askAt 7684 1 OutOfService)
-  pub sus-1 : Says (ascii "sus;20210114;1;0") (askAt 7684 1 (Suspend 0))
-  pub jour-2021 : Says (ascii "jour;20210114") (ask 7684 Day)
+  pub ctr-5 : Says (ascii "ctr;20210101;5") (ask 7671 (Action.SignContract 5))
+  pub def-5 : Says (ascii "def;20210101;5") (ask 7671 (Action.Failure 5))
+  pub enr-1 : Says (ascii "enr;20210101;1;3;0;990") (askAt 7671 1 (PointAction.Enrol 3 0 990))
+  pub demmespc-1 : Says (ascii "demmespc;20210104;1;5;77") (askAt 7674 1 (PointAction.IntoService 5 77))
+  pub i-1 : Says (ascii "i;20210104;1;77") (askAt 7674 1 (PointAction.DefaultSupply 77))
+  pub demcf-1 : Says (ascii "demcf;20210601;1;5;77;20210622") (askAt 7822 1 (PointAction.AskSwitch 5 77 7843))
+  pub adc-1 : Says (ascii "adc;20210519;1;5") (askAt 7809 1 (PointAction.Cancel 5))
+  pub ri-1 : Says (ascii "ri;20210114;1;20210113;10;1") (askAt 7684 1 (PointAction.Read 7683 10 1))
+  pub cdt-1 : Says (ascii "cdt;20210114;1;10;0;4;2;123") (askAt 7684 1 (PointAction.ChangeMeter 10 0 4 2 123))
+  pub demmhs-1 : Says (ascii "demmhs;20210114;1") (askAt 7684 1 PointAction.OutOfService)
+  pub sus-1 : Says (ascii "sus;20210114;1;0") (askAt 7684 1 (PointAction.Suspend 0))
+  pub jour-2021 : Says (ascii "jour;20210114") (ask 7684 Action.Day)
   -- the ends of the ranges
-  pub zero-itself : Says (ascii "ctr;20210101;0") (ask 7671 (SignContract 0))
-  pub twelve-digits : Says (ascii "ctr;20210101;999999999999") (ask 7671 (SignContract 999999999999))
-  pub first-day : Says (ascii "jour;20000101") (ask 0 Day)
-  pub last-day : Says (ascii "jour;21991231") (ask 73048 Day)
-  pub leap-day-2020 : Says (ascii "jour;20200229") (ask 7364 Day)
+  pub zero-itself : Says (ascii "ctr;20210101;0") (ask 7671 (Action.SignContract 0))
+  pub twelve-digits : Says (ascii "ctr;20210101;999999999999") (ask 7671 (Action.SignContract 999999999999))
+  pub first-day : Says (ascii "jour;20000101") (ask 0 Action.Day)
+  pub last-day : Says (ascii "jour;21991231") (ask 73048 Action.Day)
+  pub leap-day-2020 : Says (ascii "jour;20200229") (ask 7364 Action.Day)
   -- a field too few
   pub set-missing : Refused31 (ascii "set;20210101;2;30;40;1")
   pub ctr-missing : Refused31 (ascii "ctr;20210101")
@@ -71,7 +70,8 @@ pub record LineExamples : Type 0 where
   pub demmhs-extra : Refused31 (ascii "demmhs;20210114;1;1")
   pub sus-extra : Refused31 (ascii "sus;20210114;1;0;1")
   pub jour-extra : Refused31 (ascii "jour;20210114;1")
-  -- 01: "dates aaaammjj as real dates of the calendar, other fields decimal, 1 to 12 digits, no leading zero except 0 itself"
+  -- 01: "dates aaaammjj as real dates of the calendar, other fields decimal, 1 to 12 digits, no leading zero except 0
+  -- itself"
   pub leading-zero : Refused31 (ascii "ctr;20210101;05")
   pub two-zeros : Refused31 (ascii "ctr;20210101;00")
   pub thirteen-digits : Refused31 (ascii "ctr;20210101;1000000000000")

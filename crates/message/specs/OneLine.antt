@@ -5,8 +5,7 @@ use mathlib.Core.Path.{_≡_}
 use mathlib.Core.Bool.{true}
 use mathlib.Core.List.{List}
 use lib.ListN.{length}
-use Rattle.message.specs.declared.Message.{Message}
-use Rattle.message.specs.declared.Message.the-variants.{Unreadable}
+use Rattle.message.specs.declared.{Message.Message}
 use Rattle.message.specs.Lines.{lineOf}
 use Rattle.message.specs.Reading.{readLine}
 use Rattle.message.specs.Writing.{isWritable, textOf}
@@ -17,11 +16,14 @@ pub record OneLine : Type 0 where
   -- and it reads back as that message
   pub reads-back : (m : Message) → isWritable m ≡ true → readLine (textOf m) ≡ m
   -- what reads as a message is byte for byte what is written for it, and the message is writable
-  pub was-written : (l : List ℕ) (m : Message) → readLine l ≡ m → (m ≡ Unreadable → ⊥) → (l ≡ textOf m) × (isWritable m ≡ true)
+  pub was-written : (l : List ℕ) (m : Message) → readLine l ≡ m → (m ≡ Message.Unreadable → ⊥) → (l ≡ textOf m) ×
+      (isWritable m ≡ true)
   -- so every other line is unreadable
-  pub others-unreadable : (l : List ℕ) → ((m : Message) → isWritable m ≡ true → l ≡ textOf m → ⊥) → readLine l ≡ Unreadable
+  pub others-unreadable : (l : List ℕ) → ((m : Message) → isWritable m ≡ true → l ≡ textOf m → ⊥) → readLine l ≡
+      Message.Unreadable
   -- two lines that say the same are one line, and two writable messages with the same line are one message
-  pub one-text : (l₁ l₂ : List ℕ) (m : Message) → readLine l₁ ≡ m → readLine l₂ ≡ m → (m ≡ Unreadable → ⊥) → l₁ ≡ l₂
+  pub one-text : (l₁ l₂ : List ℕ) (m : Message) → readLine l₁ ≡ m → readLine l₂ ≡ m → (m ≡ Message.Unreadable → ⊥) →
+      l₁ ≡ l₂
   pub one-message : (m₁ m₂ : Message) → isWritable m₁ ≡ true → isWritable m₂ ≡ true → textOf m₁ ≡ textOf m₂ → m₁ ≡ m₂
   -- no line is longer than 90 bytes
   pub short : (m : Message) → length (textOf m) ≤ 90

@@ -5,9 +5,7 @@ use mathlib.Core.List.{List, []}
 use lib.ListN.{take}
 use Rattle.fields.specs.Fields.{sortsOf, fitAll}
 use Rattle.kinds.specs.Kinds.{shapeOf}
-use Rattle.message.specs.declared.Message.{Message}
-use Rattle.message.specs.declared.Message.the-variants.{Open, Ask, Unreadable}
-use Rattle.message.specs.declared.Parts.{Parts}
+use Rattle.message.specs.declared.{Message.Message, Parts.Parts}
 use Rattle.message.specs.Lines.{lineOf, partsOf}
 
 -- Each day is in the calendar, and each number has at most 12 digits.
@@ -15,9 +13,9 @@ abbrev pub fitParts : Parts → Bool
 fitParts p = fitAll (sortsOf (shapeOf (p .kind))) (take (shapeOf (p .kind) .count) (p .values))
 
 unfoldable pub isWritable : Message → Bool
-isWritable (Open o) = fitParts (partsOf (Open o))
-isWritable (Ask c) = fitParts (partsOf (Ask c))
-isWritable Unreadable = false
+isWritable (Message.Open o) = fitParts (partsOf (Message.Open o))
+isWritable (Message.Ask c) = fitParts (partsOf (Message.Ask c))
+isWritable Message.Unreadable = false
 
 -- The text that is written: no byte for a message that is not writable.
 unfoldable pub textOf : Message → List ℕ

@@ -7,8 +7,7 @@ use native.Mathlib.Numerals.{add-one}
 use native.Mathlib.Omega.{arith}
 use lib.ListN.{length, take, drop, getD, drop-of-length-le}
 use lib.Seq.{drop-cons, getD-take, length-take-le}
-use Rattle.fields.specs.declared.Sort.{Sort}
-use Rattle.fields.specs.declared.Sort.the-variants.{Date, Number}
+use Rattle.fields.specs.declared.{Sort.Sort}
 use Rattle.fields.specs.Fields.{fieldText, fieldsText, fits, fitAll, sortAt, sortsFrom}
 use Rattle.fields.proofs.FieldSteps.{sorts-next, sorts-none}
 use Rattle.fields.proofs.FieldTexts.{field-append, width, widths, field-short, fields-short}
@@ -54,8 +53,8 @@ widths-few second i (suc n) =
     let first = width-few (sortAt second i) in omega arith
   where
     width-few : (k : Sort) → width k ≤ 13
-    width-few Date = omega arith
-    width-few Number = omega arith
+    width-few Sort.Date = omega arith
+    width-few Sort.Number = omega arith
 
 pub row-short : (second i n : ℕ) (ns : List ℕ) → fitAll (sortsFrom second i n) ns ≡ true →
     length (fieldsText (sortsFrom second i n) ns) ≤ 13 * n
@@ -64,5 +63,5 @@ row-short second i n ns h =
     let wide = widths-few second i n in omega arith
 
 pub field-few : (k : Sort) (n : ℕ) → fits k n ≡ true → length (fieldText k n []) ≤ 13
-field-few Date n h = let short = field-short Date n h in omega arith
-field-few Number n h = field-short Number n h
+field-few Sort.Date n h = let short = field-short Sort.Date n h in omega arith
+field-few Sort.Number n h = field-short Sort.Number n h

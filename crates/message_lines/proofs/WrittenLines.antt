@@ -8,17 +8,16 @@ use native.Mathlib.Nat.{zero-add}
 use lib.ListN.{length, take, drop, replicate}
 use Rattle.text.specs.Appending.{put, Appended}
 use Rattle.text.proofs.Appends.{room-put, appended-length, rest-start, rest-next, rest-done}
-use Rattle.fields.specs.declared.Shape.{Shape}
+use Rattle.fields.specs.declared.{Shape.Shape}
 use Rattle.fields.specs.Fields.{fieldsText, fitAll, sortsOf}
 use Rattle.kinds.specs.Kinds.{word, shapeOf}
 use Rattle.kinds.proofs.KindTable.{few}
-use Rattle.message.specs.declared.Message.{Message}
-use Rattle.message.specs.declared.Parts.{Parts}
+use Rattle.message.specs.declared.{Message.Message, Parts.Parts}
 use Rattle.message.specs.Lines.{lineOf, kindOf, partsOf}
 use Rattle.message.specs.Writing.{isWritable, textOf}
 use Rattle.message.proofs.OneLine.{text-short}
 use Rattle.message.proofs.Rows.{row, parts-back, parts-own, known, writable-fit}
-use Rattle.message_lines.specs.declared.Line.{Line}
+use Rattle.message_lines.specs.declared.{Line.Line}
 use Rattle.message_lines.specs.Written.{writtenLine}
 
 -- a message's line, as its word and its fields

@@ -2,9 +2,9 @@
 use Prim.Native.Nat.{_-_}
 use mathlib.Core.List.{_++_}
 use lib.ListN.{length, replicate}
-use Rattle.message.specs.declared.Message.{Message}
+use Rattle.message.specs.declared.{Message.Message}
 use Rattle.message.specs.Writing.{textOf}
-use Rattle.message_lines.specs.declared.Line.{Line}
+use Rattle.message_lines.specs.declared.{Line.Line}
 
 -- A message's text, with zeros behind it.
 unfoldable pub writtenLine : Message → Line

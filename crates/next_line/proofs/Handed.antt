@@ -10,15 +10,12 @@ use Rattle.reading.specs.Words.{isSame}
 use Rattle.reading.proofs.Places.{ends-short}
 use Rattle.fields.specs.Fields.{sortsFrom}
 use Rattle.fields.specs.With.{RowRead, fieldsWith, rowWith, ReadRow}
-use Rattle.fields.specs.declared.KnownDate.{KnownDate}
-use Rattle.fields.specs.declared.Row.{Row}
-use Rattle.fields.specs.declared.Shape.{Shape}
+use Rattle.fields.specs.declared.{KnownDate.KnownDate, Row.Row, Shape.Shape}
 use Rattle.fields.proofs.RowsRead.{row-rest, row-end, row-values}
-use Rattle.kinds.specs.declared.Kind.{Kind}
+use Rattle.kinds.specs.declared.{Kind.Kind}
 use Rattle.kinds.specs.Kinds.{kindIn, kindNamed, shapeOf}
 use Rattle.input.specs.Lines.{untilFeed}
-use Rattle.message.specs.declared.Message.{Message}
-use Rattle.message.specs.declared.Message.the-variants.{Unreadable}
+use Rattle.message.specs.declared.{Message.Message}
 use Rattle.message.specs.Lines.{messageOf}
 use Rattle.message.specs.Reading.{readLine}
 use Rattle.message.proofs.LineTexts.{message-first}
@@ -30,7 +27,7 @@ taken-empty : (k : KnownDate) (from : ℕ) → taken (readLine []) (from + 0) k 
 unfolding stopAt untilFeed kindIn isSame fieldsWith sortsFrom rowWith
 taken-empty k from = refl
 
-pub next-off : (k : KnownDate) (buf : List ℕ) (from : ℕ) → length buf < from → taken Unreadable from k ≡ nextLine k buf from
+pub next-off : (k : KnownDate) (buf : List ℕ) (from : ℕ) → length buf < from → taken Message.Unreadable from k ≡ nextLine k buf from
 unfolding nextLine
 next-off k buf from h =
     let past : length buf ≤ from = omega arith in

@@ -14,21 +14,20 @@ use Rattle.reading.specs.Words.{isSame}
 use Rattle.fields.specs.Fields.{values, unread, fieldsText, sortsFrom, sortsOf, fieldsOf}
 use Rattle.fields.specs.Known.{IsKnown}
 use Rattle.fields.specs.With.{RowRead}
-use Rattle.fields.specs.declared.KnownDate.{KnownDate}
+use Rattle.fields.specs.declared.{KnownDate.KnownDate}
 use Rattle.fields.proofs.FieldSteps.{fields-are}
 use Rattle.fields.proofs.FieldTexts.{fields-only}
 use Rattle.fields.proofs.KnownStays.{known-stays}
-use Rattle.kinds.specs.declared.Kind.{Kind}
-use Rattle.kinds.specs.declared.Kind.the-variants.{Set, Ctr, Def, Enr, Demmespc, I, Demcf, Adc, Ri, Cdt, Demmhs, Sus, Jour, Unknown}
+use Rattle.kinds.specs.declared.{Kind.Kind}
 use Rattle.kinds.specs.Kinds.{word, kinds, kindIn, kindNamed, shapeOf}
 use Rattle.kinds.proofs.KindTable.{few}
 use Rattle.kinds.proofs.Naming.{Found, named, unnamed, found}
 use Rattle.input.specs.Lines.{untilFeed}
-use Rattle.message.specs.declared.Message.the-variants.{Unreadable}
+use Rattle.message.specs.declared.{Message.Message}
 use Rattle.message.specs.Lines.{messageOf}
 use Rattle.message.specs.Reading.{wordEnd, readLine}
 use Rattle.message.proofs.OneLine.{line-is, its-line-back}
-use Rattle.next_line.specs.declared.Taken.{Taken}
+use Rattle.next_line.specs.declared.{Taken.Taken}
 use Rattle.next_line.specs.NextLine.{firstLine, feedFirst, stopAt, firstKind, firstRow, taken, takenBy, nextLine, IsNext, NextIsLine}
 use Rattle.next_line.proofs.PlainTexts.{Plain, plain-end, plain-append, plain-fields, plain-word}
 
@@ -84,23 +83,23 @@ word-whole (c ∷ l) = go (word-whole l) (eqb c 59) (eqb c 10) refl where
   go ih false false p = rw p (ap suc ih)
 
 -- a kind is Unknown or not
-known-or : (k : Kind) → (k ≡ Unknown) ⊎ (k ≡ Unknown → ⊥)
-known-or Set = inr (λ e. let z : _≡_ {A = ℕ} 0 1 = cc in omega arith)
-known-or Ctr = inr (λ e. let z : _≡_ {A = ℕ} 0 1 = cc in omega arith)
-known-or Def = inr (λ e. let z : _≡_ {A = ℕ} 0 1 = cc in omega arith)
-known-or Enr = inr (λ e. let z : _≡_ {A = ℕ} 0 1 = cc in omega arith)
-known-or Demmespc = inr (λ e. let z : _≡_ {A = ℕ} 0 1 = cc in omega arith)
-known-or I = inr (λ e. let z : _≡_ {A = ℕ} 0 1 = cc in omega arith)
-known-or Demcf = inr (λ e. let z : _≡_ {A = ℕ} 0 1 = cc in omega arith)
-known-or Adc = inr (λ e. let z : _≡_ {A = ℕ} 0 1 = cc in omega arith)
-known-or Ri = inr (λ e. let z : _≡_ {A = ℕ} 0 1 = cc in omega arith)
-known-or Cdt = inr (λ e. let z : _≡_ {A = ℕ} 0 1 = cc in omega arith)
-known-or Demmhs = inr (λ e. let z : _≡_ {A = ℕ} 0 1 = cc in omega arith)
-known-or Sus = inr (λ e. let z : _≡_ {A = ℕ} 0 1 = cc in omega arith)
-known-or Jour = inr (λ e. let z : _≡_ {A = ℕ} 0 1 = cc in omega arith)
-known-or Unknown = inl refl
+known-or : (k : Kind) → (k ≡ Kind.Unknown) ⊎ (k ≡ Kind.Unknown → ⊥)
+known-or Kind.Set = inr (λ e. let z : _≡_ {A = ℕ} 0 1 = cc in omega arith)
+known-or Kind.Ctr = inr (λ e. let z : _≡_ {A = ℕ} 0 1 = cc in omega arith)
+known-or Kind.Def = inr (λ e. let z : _≡_ {A = ℕ} 0 1 = cc in omega arith)
+known-or Kind.Enr = inr (λ e. let z : _≡_ {A = ℕ} 0 1 = cc in omega arith)
+known-or Kind.Demmespc = inr (λ e. let z : _≡_ {A = ℕ} 0 1 = cc in omega arith)
+known-or Kind.I = inr (λ e. let z : _≡_ {A = ℕ} 0 1 = cc in omega arith)
+known-or Kind.Demcf = inr (λ e. let z : _≡_ {A = ℕ} 0 1 = cc in omega arith)
+known-or Kind.Adc = inr (λ e. let z : _≡_ {A = ℕ} 0 1 = cc in omega arith)
+known-or Kind.Ri = inr (λ e. let z : _≡_ {A = ℕ} 0 1 = cc in omega arith)
+known-or Kind.Cdt = inr (λ e. let z : _≡_ {A = ℕ} 0 1 = cc in omega arith)
+known-or Kind.Demmhs = inr (λ e. let z : _≡_ {A = ℕ} 0 1 = cc in omega arith)
+known-or Kind.Sus = inr (λ e. let z : _≡_ {A = ℕ} 0 1 = cc in omega arith)
+known-or Kind.Jour = inr (λ e. let z : _≡_ {A = ℕ} 0 1 = cc in omega arith)
+known-or Kind.Unknown = inl refl
 
-word-found : (w : List ℕ) (k : Kind) → Found w k → (k ≡ Unknown → ⊥) → w ≡ word k
+word-found : (w : List ℕ) (k : Kind) → Found w k → (k ≡ Kind.Unknown → ⊥) → w ≡ word k
 word-found w k (named q) h = q
 word-found w k unnamed h = absurd (h refl)
 
@@ -115,16 +114,16 @@ first-line t (c ∷ r) l p e h =
     (rw (end, e) (take-at t (c ∷ r) (length t) refl), omega arith)
 
 -- a word that names no kind is no line
-no-line : (w : List ℕ) → wordEnd w ≡ length w → kindNamed w ≡ Unknown → readLine w ≡ Unreadable
+no-line : (w : List ℕ) → wordEnd w ≡ length w → kindNamed w ≡ Kind.Unknown → readLine w ≡ Message.Unreadable
 unfolding readLine fieldsOf sortsFrom
 no-line w e u = rw (name, rest) (go (leb (length w) 96)) where
-  name : kindNamed (take (wordEnd w) w) ≡ Unknown
+  name : kindNamed (take (wordEnd w) w) ≡ Kind.Unknown
   name = rw (e, take-length w) u
 
   rest : drop (wordEnd w) w ≡ []
   rest = let all : length w ≤ length w = omega arith in rw e (drop-of-length-le w all)
 
-  go : (b : Bool) → cond b Unreadable Unreadable ≡ Unreadable
+  go : (b : Bool) → cond b Message.Unreadable Message.Unreadable ≡ Message.Unreadable
   go true = refl
   go false = refl
 
@@ -135,7 +134,7 @@ feed-some (c ∷ r) h = omega arith
 -- the line of a word, a row of fields and a line feed
 module _ (l : List ℕ) (n : ℕ) (k : Kind) (vs r : List ℕ) (hn : n ≡ stopAt l) (hk : k ≡ kindNamed (take n l))
     (hf : fieldsOf (sortsOf (shapeOf k)) [] (drop n l) ≡ values vs r) (feed : feedFirst r ≡ true) where
-  known-line : (k ≡ Unknown → ⊥) → (readLine (firstLine l) ≡ messageOf k vs) × (length l ≡ untilFeed l + length r)
+  known-line : (k ≡ Kind.Unknown → ⊥) → (readLine (firstLine l) ≡ messageOf k vs) × (length l ≡ untilFeed l + length r)
   known-line h =
       let q = word-found (take n l) k (rw (← hk) at (found kinds (take n l))) h in
       let a = fields-only (sortsOf (shapeOf k)) [] (drop n l) vs r hf in
@@ -153,14 +152,14 @@ module _ (l : List ℕ) (n : ℕ) (k : Kind) (vs r : List ℕ) (hn : n ≡ stopA
       }) h in
       (ap readLine (first .0 ∙ own .0) ∙ its-line-back (messageOf k vs) (own .1), first .1)
 
-  unknown-line : k ≡ Unknown → (readLine (firstLine l) ≡ messageOf k vs) × (length l ≡ untilFeed l + length r)
+  unknown-line : k ≡ Kind.Unknown → (readLine (firstLine l) ≡ messageOf k vs) × (length l ≡ untilFeed l + length r)
   unfolding fieldsOf sortsFrom
   unknown-line u =
       let read : values [] (drop n l) ≡ values vs r = rw u at hf in
       let rest : drop n l ≡ r = cc in
       let end = word-is-line l (rw (← hn, rest) feed) in
       let long = sym (ap length rest) ∙ length-drop n l in
-      let name : kindNamed (take (stopAt l) l) ≡ Unknown = rw (← hn) (sym hk ∙ u) in (
+      let name : kindNamed (take (stopAt l) l) ≡ Kind.Unknown = rw (← hn) (sym hk ∙ u) in (
         rw (end, u) (no-line (take (stopAt l) l) (word-whole l) name),
         let some = feed-some r feed in let here =
             hn ∙ sym end in omega arith,
@@ -170,7 +169,7 @@ module _ (l : List ℕ) (n : ℕ) (k : Kind) (vs r : List ℕ) (hn : n ≡ stopA
   row-line = ⊎-elim unknown-line known-line (known-or k)
 
 -- with a right known date
-pub empty-line : readLine [] ≡ Unreadable
+pub empty-line : readLine [] ≡ Message.Unreadable
 unfolding readLine wordEnd kindIn isSame fieldsOf sortsFrom
 empty-line = refl
 

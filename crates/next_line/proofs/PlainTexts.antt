@@ -7,16 +7,13 @@ use native.Mathlib.Omega.{arith}
 use lib.Dec.{ltb, eqb}
 use lib.ListN.{length}
 use borrow.Author.Tests.{ne-eqb}
-use Rattle.dates.specs.declared.DateAnswer.{DateAnswer}
-use Rattle.dates.specs.declared.DateAnswer.the-variants.{On, OffCalendar}
+use Rattle.dates.specs.declared.{DateAnswer.DateAnswer}
 use Rattle.dates.specs.Numbers.{dateAnswer}
 use Rattle.text.specs.Decimal.{spell, fixed}
 use Rattle.text.specs.Days.{answerText, dayText}
-use Rattle.fields.specs.declared.Sort.{Sort}
-use Rattle.fields.specs.declared.Sort.the-variants.{Date, Number}
+use Rattle.fields.specs.declared.{Sort.Sort}
 use Rattle.fields.specs.Fields.{fieldsText}
-use Rattle.kinds.specs.declared.Kind.{Kind}
-use Rattle.kinds.specs.declared.Kind.the-variants.{Set, Ctr, Def, Enr, Demmespc, I, Demcf, Adc, Ri, Cdt, Demmhs, Sus, Jour, Unknown}
+use Rattle.kinds.specs.declared.{Kind.Kind}
 use Rattle.kinds.specs.Kinds.{word}
 use Rattle.input.specs.Lines.{untilFeed}
 
@@ -54,27 +51,27 @@ plain-fixed (suc k) n l p = plain-fixed k (n / 10) ((48 + n % 10) ∷ l) (plain-
 plain-day : (n : ℕ) (l : List ℕ) → Plain l → Plain (dayText n l)
 plain-day n l p = go (dateAnswer n) where
   go : (a : DateAnswer) → Plain (answerText a l)
-  go (On x) = plain-fixed 4 (x .year) _ (plain-fixed 2 (x .month) _ (plain-fixed 2 (x .day) l p))
-  go OffCalendar = plain-fixed 8 0 l p
+  go (DateAnswer.On x) = plain-fixed 4 (x .year) _ (plain-fixed 2 (x .month) _ (plain-fixed 2 (x .day) l p))
+  go DateAnswer.OffCalendar = plain-fixed 8 0 l p
 
 pub plain-fields : (ks : List Sort) (ns : List ℕ) → Plain (fieldsText ks ns)
 plain-fields [] ns = tt
 plain-fields (k ∷ ks) [] = tt
-plain-fields (Date ∷ ks) (n ∷ ns) = (refl, plain-day n (fieldsText ks ns) (plain-fields ks ns))
-plain-fields (Number ∷ ks) (n ∷ ns) = (refl, plain-number 20 n (fieldsText ks ns) (plain-fields ks ns))
+plain-fields (Sort.Date ∷ ks) (n ∷ ns) = (refl, plain-day n (fieldsText ks ns) (plain-fields ks ns))
+plain-fields (Sort.Number ∷ ks) (n ∷ ns) = (refl, plain-number 20 n (fieldsText ks ns) (plain-fields ks ns))
 
 pub plain-word : (k : Kind) → Plain (word k)
-plain-word Set = (refl, (refl, (refl, tt)))
-plain-word Ctr = (refl, (refl, (refl, tt)))
-plain-word Def = (refl, (refl, (refl, tt)))
-plain-word Enr = (refl, (refl, (refl, tt)))
-plain-word Demmespc = (refl, (refl, (refl, (refl, (refl, (refl, (refl, (refl, tt))))))))
-plain-word I = (refl, tt)
-plain-word Demcf = (refl, (refl, (refl, (refl, (refl, tt)))))
-plain-word Adc = (refl, (refl, (refl, tt)))
-plain-word Ri = (refl, (refl, tt))
-plain-word Cdt = (refl, (refl, (refl, tt)))
-plain-word Demmhs = (refl, (refl, (refl, (refl, (refl, (refl, tt))))))
-plain-word Sus = (refl, (refl, (refl, tt)))
-plain-word Jour = (refl, (refl, (refl, (refl, tt))))
-plain-word Unknown = (refl, tt)
+plain-word Kind.Set = (refl, (refl, (refl, tt)))
+plain-word Kind.Ctr = (refl, (refl, (refl, tt)))
+plain-word Kind.Def = (refl, (refl, (refl, tt)))
+plain-word Kind.Enr = (refl, (refl, (refl, tt)))
+plain-word Kind.Demmespc = (refl, (refl, (refl, (refl, (refl, (refl, (refl, (refl, tt))))))))
+plain-word Kind.I = (refl, tt)
+plain-word Kind.Demcf = (refl, (refl, (refl, (refl, (refl, tt)))))
+plain-word Kind.Adc = (refl, (refl, (refl, tt)))
+plain-word Kind.Ri = (refl, (refl, tt))
+plain-word Kind.Cdt = (refl, (refl, (refl, tt)))
+plain-word Kind.Demmhs = (refl, (refl, (refl, (refl, (refl, (refl, tt))))))
+plain-word Kind.Sus = (refl, (refl, (refl, tt)))
+plain-word Kind.Jour = (refl, (refl, (refl, (refl, tt))))
+plain-word Kind.Unknown = (refl, tt)

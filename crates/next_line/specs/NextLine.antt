@@ -6,16 +6,16 @@ use mathlib.Core.Bool.{Bool, false, cond, _&&_}
 use mathlib.Core.List.{List, [], _∷_}
 use lib.Dec.{eqb}
 use lib.ListN.{length, take, drop}
-use Rattle.fields.specs.declared.KnownDate.{KnownDate}
+use Rattle.fields.specs.declared.{KnownDate.KnownDate}
 use Rattle.fields.specs.Known.{IsKnown}
 use Rattle.fields.specs.With.{RowRead, rowWith}
 use Rattle.input.specs.Lines.{untilFeed}
-use Rattle.kinds.specs.declared.Kind.{Kind}
+use Rattle.kinds.specs.declared.{Kind.Kind}
 use Rattle.kinds.specs.Kinds.{kindNamed, shapeOf}
-use Rattle.message.specs.declared.Message.{Message}
+use Rattle.message.specs.declared.{Message.Message}
 use Rattle.message.specs.Lines.{messageOf}
 use Rattle.message.specs.Reading.{readLine}
-use Rattle.next_line.specs.declared.Taken.{Taken}
+use Rattle.next_line.specs.declared.{Taken.Taken}
 
 -- The first line of a text, without its line feed.
 abbrev pub firstLine : List ℕ → List ℕ

@@ -7,44 +7,22 @@ use lib.Dec.{ltb}
 use lib.ListN.{getD, set}
 use lib.Seq.{set-getD}
 use borrow.Author.Tests.{ltb-true}
-use Rattle.rules.specs.declared.Fields.{Fields}
-use Rattle.rules.specs.declared.History.{History}
-use Rattle.rules.specs.declared.Period.{Period}
-use Rattle.rules.specs.declared.Point.{Point}
-use Rattle.rules.specs.declared.Register.{Register}
-use Rattle.rules.specs.declared.Settings.{Settings}
-use Rattle.rules.specs.declared.Call.{Call}
-use Rattle.rules.specs.declared.Action.{Action}
-use Rattle.rules.specs.declared.Action.the-variants.{SignContract, Failure, At, Day}
-use Rattle.rules.specs.declared.PointAction.{PointAction}
-use Rattle.rules.specs.declared.PointAction.the-variants.{
-  Enrol,
-  IntoService,
-  DefaultSupply,
-  AskSwitch,
-  Cancel,
-  Read,
-  ChangeMeter,
-  OutOfService,
-  Suspend,
-}
-use Rattle.rules.specs.declared.Answer.the-variants.{Accepted}
+use Rattle.rules.specs.declared.{Fields.Fields, History.History, Period.Period, Point.Point, Register.Register}
+use Rattle.rules.specs.declared.{Settings.Settings, Action.Action, PointAction.PointAction, Answer.Answer}
 use Rattle.rules.specs.Answers.{isAccepted}
 use Rattle.rules.specs.Fields.{reading, withReading}
 use Rattle.rules.specs.Register.{noPoint, used, newest, history, register, bookedPeriod}
 use Rattle.rules.specs.Volumes.{spanTo}
 use Rattle.answers.specs.Ruling.{readAnswer}
-use Rattle.point.specs.declared.Newest.{Newest}
-use Rattle.point.specs.declared.Ruling.{Ruling}
+use Rattle.point.specs.declared.{Newest.Newest, Ruling.Ruling}
 use Rattle.point.specs.Newest.{lies, leftNewest, readNewest}
 use Rattle.point.specs.Turn.{turned}
 use Rattle.point.proofs.NewestTurn.{newest-turn}
-use Rattle.message.specs.declared.Message.{Message}
-use Rattle.message.specs.declared.Message.the-variants.{Open, Ask, Unreadable}
+use Rattle.message.specs.declared.{Message.Message}
 use Rattle.one_point.specs.declared.daily.Read as declared
-use Rattle.one_point.specs.declared.Named.{Named}
+use Rattle.one_point.specs.declared.{Named.Named}
 use Rattle.desk.specs.Desk.{desk, replied}
-use Rattle.quick.specs.Quick.{dueDay, firstDue, isQuick, placeOf, supplierOf, signedAfter, dayAfter}
+use Rattle.quick.specs.Quick.{firstDue, isQuick, placeOf, supplierOf, signedAfter, dayAfter}
 use Rattle.one_point.specs.Turns.{turnOf, namedIn}
 use Rattle.one_point.specs.Daily.{readingBy, dailyBy, dailyOf}
 use Rattle.one_point.proofs.OnePoint.{pointIn, turnAt, quickly, quick-reply}
@@ -63,11 +41,11 @@ chosen false x f q e = absurd (false≢true e)
 
 module _ (S : Settings) (day : ℕ) (u : List Bool) (f : Fields) (h : History) where
   abbrev says : Newest → Ruling
-  says x = record { answer = Accepted; point = readIn x h }
+  says x = record { answer = Answer.Accepted; point = readIn x h }
 
   -- a reading, of a register that is open
   read-turn : (t p d x z : ℕ) (v : Newest) → v ≡ cond (ltb 0 (h .count)) (readNewest day t p d x z f (newest h)) (leftNewest f (newest h)) →
-      v .is ≡ true → turned S day u t p (Read d x z) (whole f h) ≡ says v
+      v .is ≡ true → turned S day u t p (PointAction.Read d x z) (whole f h) ≡ says v
   read-turn t p d x z v e k =
       let c = chosen (ltb 0 (h .count)) (readNewest day t p d x z f (newest h)) f (newest h) (rw e at k) in
       let w = e ∙ c .1 in
@@ -76,38 +54,39 @@ module _ (S : Settings) (day : ℕ) (u : List Bool) (f : Fields) (h : History) w
   abbrev heard : Bool → Message → Newest
   heard b m = dailyOf b day m (h .count) f (newest h)
 
-  at-turn : (b : Bool) (t p : ℕ) (a : PointAction) → heard b (Ask (record { today = t; action = At p a })) .is ≡ true →
-      turnOf S day u b (Ask (record { today = t; action = At p a })) (whole f h) ≡ says (heard b (Ask (record { today = t; action = At p a })))
+  at-turn : (b : Bool) (t p : ℕ) (a : PointAction) → heard b (Message.Ask (record { today = t; action = Action.At p a })) .is ≡ true →
+      turnOf S day u b (Message.Ask (record { today = t; action = Action.At p a })) (whole f h) ≡
+      says (heard b (Message.Ask (record { today = t; action = Action.At p a })))
   unfolding dailyOf turnOf
   at-turn false t p a e = absurd (false≢true e)
-  at-turn true t p (Read d x z) e = read-turn t p d x z _ refl e
-  at-turn true t p (Enrol b a x) e = absurd (false≢true e)
-  at-turn true t p (IntoService s k) e = absurd (false≢true e)
-  at-turn true t p (DefaultSupply k) e = absurd (false≢true e)
-  at-turn true t p (AskSwitch s k r) e = absurd (false≢true e)
-  at-turn true t p (Cancel s) e = absurd (false≢true e)
-  at-turn true t p (ChangeMeter x z b a y) e = absurd (false≢true e)
-  at-turn true t p OutOfService e = absurd (false≢true e)
-  at-turn true t p (Suspend m) e = absurd (false≢true e)
+  at-turn true t p (PointAction.Read d x z) e = read-turn t p d x z _ refl e
+  at-turn true t p (PointAction.Enrol b a x) e = absurd (false≢true e)
+  at-turn true t p (PointAction.IntoService s k) e = absurd (false≢true e)
+  at-turn true t p (PointAction.DefaultSupply k) e = absurd (false≢true e)
+  at-turn true t p (PointAction.AskSwitch s k r) e = absurd (false≢true e)
+  at-turn true t p (PointAction.Cancel s) e = absurd (false≢true e)
+  at-turn true t p (PointAction.ChangeMeter x z b a y) e = absurd (false≢true e)
+  at-turn true t p PointAction.OutOfService e = absurd (false≢true e)
+  at-turn true t p (PointAction.Suspend m) e = absurd (false≢true e)
 
   -- no other call is one: what is taken from the message, in each case
   abbrev Ruled : Bool → Message → Type 0
   Ruled b m = (turnOf S day u b m (whole f h) ≡ says (heard b m))
-      × (set u (supplierOf m) (signedAfter m Accepted (getD u (supplierOf m) false)) ≡ u)
+      × (set u (supplierOf m) (signedAfter m Answer.Accepted (getD u (supplierOf m) false)) ≡ u)
 
-  action-turn : (b : Bool) (t : ℕ) (a : Action) → heard b (Ask (record { today = t; action = a })) .is ≡ true →
-      Ruled b (Ask (record { today = t; action = a }))
+  action-turn : (b : Bool) (t : ℕ) (a : Action) → heard b (Message.Ask (record { today = t; action = a })) .is ≡ true →
+      Ruled b (Message.Ask (record { today = t; action = a }))
   unfolding dailyOf supplierOf signedAfter
-  action-turn b t (SignContract s) e = absurd (false≢true e)
-  action-turn b t (Failure s) e = absurd (false≢true e)
-  action-turn b t (At p a) e = (at-turn b t p a e, set-getD u 0 false)
-  action-turn b t Day e = absurd (false≢true e)
+  action-turn b t (Action.SignContract s) e = absurd (false≢true e)
+  action-turn b t (Action.Failure s) e = absurd (false≢true e)
+  action-turn b t (Action.At p a) e = (at-turn b t p a e, set-getD u 0 false)
+  action-turn b t Action.Day e = absurd (false≢true e)
 
   daily-turn : (b : Bool) (m : Message) → heard b m .is ≡ true → Ruled b m
   unfolding dailyOf
-  daily-turn b (Open o) e = absurd (false≢true e)
-  daily-turn b (Ask c) e = action-turn b (c .today) (c .action) e
-  daily-turn b Unreadable e = absurd (false≢true e)
+  daily-turn b (Message.Open o) e = absurd (false≢true e)
+  daily-turn b (Message.Ask c) e = action-turn b (c .today) (c .action) e
+  daily-turn b Message.Unreadable e = absurd (false≢true e)
 
 -- a reading changes nothing that falls due
 kept : (b : Bool) (x : Newest) (f : Fields) (q : Period) → x .fields .supply ≡ f .supply → cond b x (leftNewest f q) .fields .supply ≡ f .supply
@@ -138,17 +117,17 @@ module _ (r : Register) (quiet : ℕ) (calm : quiet ≤ firstDue (r .points)) (b
     (f : Fields) (h : History) (is : pointIn r (placeOf m) ≡ whole f h) (x : Newest)
     (hears : x ≡ dailyOf b (r .day) m (h .count) f (newest h)) (does : x .is ≡ true) where
   abbrev pub stored : Register
-  stored = register (r .settings) (dayAfter (r .day) m Accepted) (r .contracts) (set (r .points) (placeOf m) (readIn x h))
+  stored = register (r .settings) (dayAfter (r .day) m Answer.Accepted) (r .contracts) (set (r .points) (placeOf m) (readIn x h))
 
   ruled : Ruled (r .settings) (r .day) (r .contracts) f h b m
   ruled = daily-turn (r .settings) (r .day) (r .contracts) f h b m (rw hears at does)
 
-  pub daily-reply : record { answer = Accepted; desk = desk b stored } ≡ replied (desk b r) m
+  pub daily-reply : record { answer = Answer.Accepted; desk = desk b stored } ≡ replied (desk b r) m
   daily-reply =
-      let e : turnAt r b m ≡ record { answer = Accepted; point = readIn x h } = rw (is, hears) (ruled .0) in
-      let k : quickly r b m (record { answer = Accepted; point = readIn x h }) ≡ replied (desk b r) m =
+      let e : turnAt r b m ≡ record { answer = Answer.Accepted; point = readIn x h } = rw (is, hears) (ruled .0) in
+      let k : quickly r b m (record { answer = Answer.Accepted; point = readIn x h }) ≡ replied (desk b r) m =
       ap (quickly r b m) (sym e) ∙ quick-reply r quiet calm b m quick in
-      ap (λ (u : List Bool). record { answer = Accepted; desk = desk b (register (r .settings) (stored .day) u (stored .points)) })
+      ap (λ (u : List Bool). record { answer = Answer.Accepted; desk = desk b (register (r .settings) (stored .day) u (stored .points)) })
       (sym (ruled .1)) ∙ k
 
   pub daily-calm : quiet ≤ firstDue (stored .points)

@@ -5,35 +5,25 @@ use mathlib.Core.List.{List}
 use Prim.Native.Nat.{ℕ, _-_, _≤_, _<_}
 use native.Mathlib.Omega.{arith}
 use borrow.Author.Tests.{ltb-true, ltb-false, le-leb, le-ltb}
-use lib.Dec.{ltb, leb}
+use lib.Dec.{ltb}
 use lib.ListN.{getD, set}
 use lib.Seq.{set-getD}
 use Rattle.dates.specs.Dates.{lastDay}
-use Rattle.rules.specs.declared.Point.{Point}
-use Rattle.rules.specs.declared.Register.{Register}
-use Rattle.rules.specs.declared.Call.{Call}
-use Rattle.rules.specs.declared.Action.{Action}
-use Rattle.rules.specs.declared.Action.the-variants.{SignContract, Failure, At, Day}
-use Rattle.rules.specs.declared.PointAction.{PointAction}
-use Rattle.rules.specs.declared.Answer.{Answer}
-use Rattle.rules.specs.declared.Outcome.{Outcome}
+use Rattle.rules.specs.declared.{Point.Point, Register.Register, Action.Action, PointAction.PointAction}
+use Rattle.rules.specs.declared.{Answer.Answer, Outcome.Outcome, Settings.Settings}
 use Rattle.rules.specs.Answers.{isAccepted}
-use Rattle.rules.specs.declared.Answer.the-variants.{Accepted, Refused}
 use Rattle.rules.specs.Rejections.{firstOf, notPoint, notSupplier, outOfRange, offCalendar, rows, accepted, answerTo, answer}
 use Rattle.rules.specs.Register.{noPoint, register, advanced, says, done, outcome, applied}
-use Rattle.point.specs.declared.Ruling.{Ruling}
+use Rattle.point.specs.declared.{Ruling.Ruling}
 use Rattle.point.specs.Turn.{turned}
 use Rattle.register.specs.Calls.{advancedTo, pointOn}
 use Rattle.register.proofs.AtPoint.{advanced-on, turn-refused, turn-accepted}
-use Rattle.message.specs.declared.Message.{Message}
-use Rattle.message.specs.declared.Message.the-variants.{Open, Ask, Unreadable}
-use Rattle.desk.specs.declared.Desk.{Desk}
-use Rattle.desk.specs.declared.Reply.{Reply}
-use Rattle.one_point.specs.declared.Named.{Named}
-use Rattle.rules.specs.declared.Settings.{Settings}
+use Rattle.message.specs.declared.{Message.Message}
+use Rattle.desk.specs.declared.{Reply.Reply}
+use Rattle.one_point.specs.declared.{Named.Named}
 use Rattle.desk.specs.Desk.{desk, unreadable, answerOf, deskAfter, replied}
 use Rattle.quick.specs.Quick.{firstDue, isSmall, isQuick, placeIn, placeOf, supplierIn, supplierOf, signsIn, signedAfter, dayBy, dayAfter}
-use Rattle.one_point.specs.Turns.{leaves, nonePoint, namedBy, namedIn, answerBeside, plainAnswer, turnIn, turnOf}
+use Rattle.one_point.specs.Turns.{leaves, namedBy, namedIn, answerBeside, plainAnswer, turnIn, turnOf}
 use Rattle.quick.proofs.Dues.{quiet-advanced, first-never}
 
 -- the register with one point in its place, on a day, and one supplier under contract or not
@@ -78,12 +68,12 @@ module _ (r : Register) (quiet : ℕ) (h : quiet ≤ firstDue (r .points)) where
 
     -- the turn of the point is the outcome of the call
     pub quick-at : outcome (ruling .answer) (placed r (dayBy (r .day) t (ruling .answer)) (p - 1) (ruling .point) 0 (signedIn r 0))
-        ≡ applied r (record { today = t; action = At p a })
+        ≡ applied r (record { today = t; action = Action.At p a })
     quick-at = go (isAccepted (ruling .answer)) refl
       where
         go : (v : Bool) → isAccepted (ruling .answer) ≡ v →
             outcome (ruling .answer) (placed r (dayBy (r .day) t (ruling .answer)) (p - 1) (ruling .point) 0 (signedIn r 0))
-            ≡ applied r (record { today = t; action = At p a })
+            ≡ applied r (record { today = t; action = Action.At p a })
         go true e =
             rw (e, le-leb t lastDay early, set-getD (r .contracts) 0 false)
             (turn-accepted r t p a (pointIn r (p - 1)) ruling point-is refl
@@ -100,16 +90,16 @@ module _ (r : Register) (quiet : ℕ) (h : quiet ≤ firstDue (r .points)) (t : 
   small-advanced = quiet-advanced t r (omega arith)
 
   abbrev sign : ℕ → Answer
-  sign s = plainAnswer (r .day) t (SignContract s)
+  sign s = plainAnswer (r .day) t (Action.SignContract s)
 
   abbrev next-day : Answer
-  next-day = plainAnswer (r .day) t Day
+  next-day = plainAnswer (r .day) t Action.Day
 
-  sign-says : (s : ℕ) → says r (record { today = t; action = SignContract s }) ≡ sign s
+  sign-says : (s : ℕ) → says r (record { today = t; action = Action.SignContract s }) ≡ sign s
   unfolding says answer answerTo outOfRange offCalendar rows accepted plainAnswer
   sign-says s = rw (or-none (ltb lastDay t))
 
-  day-says : says r (record { today = t; action = Day }) ≡ next-day
+  day-says : says r (record { today = t; action = Action.Day }) ≡ next-day
   unfolding says answer answerTo outOfRange offCalendar rows accepted plainAnswer
   day-says = rw (or-none (ltb lastDay t))
 
@@ -119,36 +109,37 @@ module _ (r : Register) (quiet : ℕ) (h : quiet ≤ firstDue (r .points)) (t : 
   sign-supplier s e = go (notSupplier s) e
     where
       go : (x : Bool) →
-          isAccepted (cond x (Refused 22) (cond (ltb lastDay t) (Refused 20) (cond (ltb t (r .day)) (Refused 21) Accepted))) ≡ true →
+          isAccepted (cond x (Answer.Refused 22) (cond (ltb lastDay t) (Answer.Refused 20) (cond (ltb t (r .day)) (Answer.Refused 21) Answer.Accepted))) ≡
+          true →
           x ≡ false
       go true k = absurd (false≢true k)
       go false k = refl
 
   pub quick-sign : (s : ℕ) →
       outcome (sign s)
-      (placed r (dayBy (r .day) t (sign s)) 0 (pointIn r 0) (supplierIn (SignContract s))
-      (isAccepted (sign s) || signedIn r (supplierIn (SignContract s))))
-      ≡ applied r (record { today = t; action = SignContract s })
+      (placed r (dayBy (r .day) t (sign s)) 0 (pointIn r 0) (supplierIn (Action.SignContract s))
+      (isAccepted (sign s) || signedIn r (supplierIn (Action.SignContract s))))
+      ≡ applied r (record { today = t; action = Action.SignContract s })
   unfolding applied done
   quick-sign s = rw (sign-says s) (go (isAccepted (sign s)) refl)
     where
       go : (v : Bool) → isAccepted (sign s) ≡ v →
           outcome (sign s)
-          (placed r (dayBy (r .day) t (sign s)) 0 (pointIn r 0) (supplierIn (SignContract s))
-          (isAccepted (sign s) || signedIn r (supplierIn (SignContract s))))
-          ≡ outcome (sign s) (cond (isAccepted (sign s)) (done t (SignContract s) (advanced t r)) r)
+          (placed r (dayBy (r .day) t (sign s)) 0 (pointIn r 0) (supplierIn (Action.SignContract s))
+          (isAccepted (sign s) || signedIn r (supplierIn (Action.SignContract s))))
+          ≡ outcome (sign s) (cond (isAccepted (sign s)) (done t (Action.SignContract s) (advanced t r)) r)
       go true e =
           rw (e, le-leb t lastDay small-early, small-advanced, sign-supplier s e, set-getD (r .points) 0 noPoint)
-      go false e = rw (e, left-alone r 0 (supplierIn (SignContract s)))
+      go false e = rw (e, left-alone r 0 (supplierIn (Action.SignContract s)))
 
   pub quick-day : outcome next-day (placed r (dayBy (r .day) t next-day) 0 (pointIn r 0) 0 (signedIn r 0))
-      ≡ applied r (record { today = t; action = Day })
+      ≡ applied r (record { today = t; action = Action.Day })
   unfolding applied done
   quick-day = rw day-says (go (isAccepted next-day) refl)
     where
       go : (v : Bool) → isAccepted next-day ≡ v →
           outcome next-day (placed r (dayBy (r .day) t next-day) 0 (pointIn r 0) 0 (signedIn r 0))
-          ≡ outcome next-day (cond (isAccepted next-day) (done t Day (advanced t r)) r)
+          ≡ outcome next-day (cond (isAccepted next-day) (done t Action.Day (advanced t r)) r)
       go true e =
           rw (e, le-leb t lastDay small-early, small-advanced, set-getD (r .points) 0 noPoint, set-getD (r .contracts) 0 false)
       go false e = rw (e, left-alone r 0 0)
@@ -180,10 +171,10 @@ module _ (r : Register) where
 
   quick-action : (quiet : ℕ) → quiet ≤ firstDue (r .points) → (t : ℕ) (c : Action) → (isSmall c && ltb t quiet) ≡ true →
       afterTurn t c (turnsIn t c) ≡ applied r (record { today = t; action = c })
-  quick-action quiet h t (SignContract s) e = quick-sign r quiet h t (ltb-true t quiet e) s
-  quick-action quiet h t (Failure s) e = absurd (false≢true e)
-  quick-action quiet h t Day e = quick-day r quiet h t (ltb-true t quiet e)
-  quick-action quiet h t (At p a) e =
+  quick-action quiet h t (Action.SignContract s) e = quick-sign r quiet h t (ltb-true t quiet e) s
+  quick-action quiet h t (Action.Failure s) e = absurd (false≢true e)
+  quick-action quiet h t Action.Day e = quick-day r quiet h t (ltb-true t quiet e)
+  quick-action quiet h t (Action.At p a) e =
       let k = and-true (not (notPoint p)) (ltb t quiet) e in
       let w = in-range p (k .0) in
       rw (le-ltb p 1 (w .0), le-ltb 32 p (w .1)) (quick-at r quiet h t p a (ltb-true t quiet (k .1)) (w .0) (w .1))
@@ -205,21 +196,21 @@ module _ (r : Register) where
   pub quick-reply : (quiet : ℕ) → quiet ≤ firstDue (r .points) → (b : Bool) (m : Message) → isQuick b quiet m ≡ true →
       quickly b m (turnAt b m) ≡ replied (desk b r) m
   unfolding isQuick placeOf turnOf dayAfter supplierOf signedAfter replied answerOf deskAfter
-  quick-reply quiet h true (Open o) e = rw (left-alone r 0 0)
-  quick-reply quiet h false (Open o) e = absurd (false≢true e)
-  quick-reply quiet h true (Ask c) e =
+  quick-reply quiet h true (Message.Open o) e = rw (left-alone r 0 0)
+  quick-reply quiet h false (Message.Open o) e = absurd (false≢true e)
+  quick-reply quiet h true (Message.Ask c) e =
       ap (λ (x : Outcome). record { answer = x .answer; desk = desk true (x .register) }) (quick-action quiet h (c .today) (c .action) e)
-  quick-reply quiet h false (Ask c) e =
+  quick-reply quiet h false (Message.Ask c) e =
       ap (λ (x : Register). record { answer = unreadable; desk = desk false x }) (unready (c .action))
     where
       unready : (a : Action) →
           placed r (r .day) (placeIn a) (pointIn r (placeIn a)) (supplierIn a) (signsIn a unreadable (signedIn r (supplierIn a))) ≡ r
-      unready (SignContract s) = left-alone r 0 (supplierIn (SignContract s))
-      unready (Failure s) = left-alone r 0 0
-      unready (At p x) = left-alone r (placeIn (At p x)) 0
-      unready Day = left-alone r 0 0
-  quick-reply quiet h true Unreadable e = rw (left-alone r 0 0)
-  quick-reply quiet h false Unreadable e = rw (left-alone r 0 0)
+      unready (Action.SignContract s) = left-alone r 0 (supplierIn (Action.SignContract s))
+      unready (Action.Failure s) = left-alone r 0 0
+      unready (Action.At p x) = left-alone r (placeIn (Action.At p x)) 0
+      unready Action.Day = left-alone r 0 0
+  quick-reply quiet h true Message.Unreadable e = rw (left-alone r 0 0)
+  quick-reply quiet h false Message.Unreadable e = rw (left-alone r 0 0)
 
 -- ---- the turn of a point, from the call that names one
 
@@ -227,22 +218,22 @@ module _ (S : Settings) (day : ℕ) (u : List Bool) (g : Point) where
   turn-by : (ready : Bool) (t : ℕ) (c : Action) → namedBy ready t c .is ≡ true →
       turned S day u (namedBy ready t c .today) (namedBy ready t c .point) (namedBy ready t c .act) g
       ≡ cond ready (turnIn S day u t c g) (leaves g unreadable)
-  turn-by ready t (SignContract s) e = absurd (false≢true e)
-  turn-by ready t (Failure s) e = absurd (false≢true e)
-  turn-by true t (At p a) e = refl
-  turn-by false t (At p a) e = absurd (false≢true e)
-  turn-by ready t Day e = absurd (false≢true e)
+  turn-by ready t (Action.SignContract s) e = absurd (false≢true e)
+  turn-by ready t (Action.Failure s) e = absurd (false≢true e)
+  turn-by true t (Action.At p a) e = refl
+  turn-by false t (Action.At p a) e = absurd (false≢true e)
+  turn-by ready t Action.Day e = absurd (false≢true e)
 
   beside-by : (ready : Bool) (t : ℕ) (c : Action) → namedBy ready t c .is ≡ false →
       leaves g (cond ready (plainAnswer day t c) unreadable) ≡ cond ready (turnIn S day u t c g) (leaves g unreadable)
-  beside-by true t (SignContract s) e = refl
-  beside-by false t (SignContract s) e = refl
-  beside-by true t (Failure s) e = refl
-  beside-by false t (Failure s) e = refl
-  beside-by true t (At p a) e = absurd (true≢false e)
-  beside-by false t (At p a) e = refl
-  beside-by true t Day e = refl
-  beside-by false t Day e = refl
+  beside-by true t (Action.SignContract s) e = refl
+  beside-by false t (Action.SignContract s) e = refl
+  beside-by true t (Action.Failure s) e = refl
+  beside-by false t (Action.Failure s) e = refl
+  beside-by true t (Action.At p a) e = absurd (true≢false e)
+  beside-by false t (Action.At p a) e = refl
+  beside-by true t Action.Day e = refl
+  beside-by false t Action.Day e = refl
 
   pub turn-named : (ready : Bool) (m : Message) (n : Named) → n ≡ namedIn ready m → n .is ≡ true →
       turned S day u (n .today) (n .point) (n .act) g ≡ turnOf S day u ready m g
@@ -251,9 +242,9 @@ module _ (S : Settings) (day : ℕ) (u : List Bool) (g : Point) where
     where
       go : (m : Message) → namedIn ready m .is ≡ true →
           turned S day u (namedIn ready m .today) (namedIn ready m .point) (namedIn ready m .act) g ≡ turnOf S day u ready m g
-      go (Open o) k = absurd (false≢true k)
-      go (Ask c) k = turn-by ready (c .today) (c .action) k
-      go Unreadable k = absurd (false≢true k)
+      go (Message.Open o) k = absurd (false≢true k)
+      go (Message.Ask c) k = turn-by ready (c .today) (c .action) k
+      go Message.Unreadable k = absurd (false≢true k)
 
   pub turn-beside : (ready : Bool) (m : Message) (n : Named) → n ≡ namedIn ready m → n .is ≡ false →
       leaves g (answerBeside ready day m) ≡ turnOf S day u ready m g
@@ -261,6 +252,6 @@ module _ (S : Settings) (day : ℕ) (u : List Bool) (g : Point) where
   turn-beside ready m n e i = go m (rw e at i)
     where
       go : (m : Message) → namedIn ready m .is ≡ false → leaves g (answerBeside ready day m) ≡ turnOf S day u ready m g
-      go (Open o) k = refl
-      go (Ask c) k = beside-by ready (c .today) (c .action) k
-      go Unreadable k = refl
+      go (Message.Open o) k = refl
+      go (Message.Ask c) k = beside-by ready (c .today) (c .action) k
+      go Message.Unreadable k = refl

@@ -1,42 +1,29 @@
--- A reading that is accepted and changes the newest period alone, as the daily readings do. How `replied` can then be had from the point's
--- fields and that period is proved in proofs/DailyReply. Definitions only.
+-- A reading that is accepted and changes the newest period alone, as the daily readings do. How `replied` can then be
+-- had from the point's fields and that period is proved in proofs/DailyReply. Definitions only.
 use mathlib.Core.Bool.{Bool, true, false, cond, _&&_}
 use Prim.Native.Nat.{ℕ}
 use lib.Dec.{ltb}
-use Rattle.rules.specs.declared.Fields.{Fields}
-use Rattle.rules.specs.declared.Period.{Period}
-use Rattle.rules.specs.declared.PointAction.{PointAction}
-use Rattle.rules.specs.declared.PointAction.the-variants.{
-  Enrol,
-  IntoService,
-  DefaultSupply,
-  AskSwitch,
-  Cancel,
-  Read,
-  ChangeMeter,
-  OutOfService,
-  Suspend,
-}
-use Rattle.point.specs.declared.Newest.{Newest}
+use Rattle.rules.specs.declared.{Fields.Fields, Period.Period, PointAction.PointAction}
+use Rattle.point.specs.declared.{Newest.Newest}
 use Rattle.point.specs.Newest.{leftNewest, readNewest}
-use Rattle.message.specs.declared.Message.{Message}
+use Rattle.message.specs.declared.{Message.Message}
 use Rattle.one_point.specs.declared.daily.Read as declared
-use Rattle.one_point.specs.declared.Named.{Named}
+use Rattle.one_point.specs.declared.{Named.Named}
 use Rattle.one_point.specs.Turns.{namedIn}
 
 abbrev pub noReading : declared.Read
 noReading = record { is = false; day = 0; index = 0; zero = 0 }
 
 abbrev pub readingBy : PointAction → declared.Read
-readingBy (Enrol b a x) = noReading
-readingBy (IntoService s k) = noReading
-readingBy (DefaultSupply k) = noReading
-readingBy (AskSwitch s k r) = noReading
-readingBy (Cancel s) = noReading
-readingBy (Read d x z) = record { is = true; day = d; index = x; zero = z }
-readingBy (ChangeMeter x z b a y) = noReading
-readingBy OutOfService = noReading
-readingBy (Suspend m) = noReading
+readingBy (PointAction.Enrol b a x) = noReading
+readingBy (PointAction.IntoService s k) = noReading
+readingBy (PointAction.DefaultSupply k) = noReading
+readingBy (PointAction.AskSwitch s k r) = noReading
+readingBy (PointAction.Cancel s) = noReading
+readingBy (PointAction.Read d x z) = record { is = true; day = d; index = x; zero = z }
+readingBy (PointAction.ChangeMeter x z b a y) = noReading
+readingBy PointAction.OutOfService = noReading
+readingBy (PointAction.Suspend m) = noReading
 
 abbrev pub dailyBy : ℕ → Named → declared.Read → ℕ → Fields → Period → Newest
 dailyBy day n x count f q =

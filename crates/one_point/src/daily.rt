@@ -77,7 +77,8 @@ fn as_it_is(f: Fields, q: Period) -> Newest
     }
 }
 
-// What a message makes of the fields f and the newest of count periods, where it is a reading that is accepted and changes no other.
+// What a message makes of the fields f and the newest of count periods, where it is a reading that is accepted and
+// changes no other.
 pub fn daily_of(ready: bool, day: u32, m: Message, count: usize, f: Fields, q: Period) -> Newest
     ensures { λ r. ⌜ r ≡ dailyOf ready day m count f q ⌝ }
 {

@@ -13,7 +13,8 @@ use rules::Point;
 use rules::PointAction;
 use rules::Settings;
 ghost use mathlib.Core.Path.{_≡_};
-ghost use Rattle.one_point.specs.Turns.{leaves, smallRange, plainAnswer, nonePoint, namedBy, namedIn, answerBeside, turnOf};
+ghost use Rattle.one_point.specs.Turns.{leaves, smallRange, plainAnswer, nonePoint, namedBy, namedIn};
+ghost use Rattle.one_point.specs.Turns.{answerBeside, turnOf};
 
 fn leave(g: Point, answer: Answer) -> Ruling
     ensures { λ r. ⌜ r ≡ leaves g answer ⌝ }

@@ -5,8 +5,7 @@ use Prim.Native.Nat.{ℕ, zero, suc, _-_, _≤_, _<_}
 use native.Mathlib.Omega.{arith}
 use lib.ListN.{getD, set}
 use borrow.Author.Tests.{le-leb, lt-leb}
-use Rattle.rules.specs.declared.Period.{Period}
-use Rattle.rules.specs.declared.Span.{Span}
+use Rattle.rules.specs.declared.{Period.Period, Span.Span}
 use Rattle.rules.specs.Register.{noPeriod, bookedPeriod, bookedSlots}
 
 module _ (s : Span) (e : ℕ) where

@@ -4,7 +4,7 @@ use mathlib.Core.Bool.{Bool, true, false, _&&_, false≢true}
 use lib.Dec.{leb, ltb}
 use borrow.Author.Tests.{ltb-true, leb-true}
 use Rattle.dates.specs.Dates.{lastDay}
-use Rattle.rules.specs.declared.Span.{Span}
+use Rattle.rules.specs.declared.{Span.Span}
 use Rattle.periods.specs.Fair.{Fair, isFair, mostAdvance}
 
 both : (a b : Bool) → (a && b) ≡ true → (a ≡ true) × (b ≡ true)

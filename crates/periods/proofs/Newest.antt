@@ -1,10 +1,9 @@
 -- A reading whose days all lie in the newest period changes that period alone.
 use mathlib.Core.Path.{_≡_, ap}
-use Prim.Native.Nat.{_-_, _≤_, _<_, min}
+use Prim.Native.Nat.{_-_, _≤_, _<_}
 use native.Mathlib.Omega.{arith}
 use lib.ListN.{set}
-use Rattle.rules.specs.declared.History.{History}
-use Rattle.rules.specs.declared.Span.{Span}
+use Rattle.rules.specs.declared.{History.History, Span.Span}
 use Rattle.rules.specs.Register.{used, newest, history, bookedPeriod, booked}
 use Rattle.periods.proofs.Booking.{slots-last}
 

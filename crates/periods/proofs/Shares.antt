@@ -1,9 +1,9 @@
 -- What a reading gives to the days before a day, at its ends and between them.
-use mathlib.Core.Path.{_≡_, refl, _∙_, ap}
+use mathlib.Core.Path.{_≡_}
 use Prim.Native.Nat.{ℕ, _-_, _*_, _/_, _≤_, _<_, _^_, min}
 use native.Mathlib.Omega.{arith}
 use native.Mathlib.Nat.{mul-zero, zero-div, mul-div-left, mul-le-mul, mul-le-mul-left, mul-comm, div-le-of-le-mul}
-use Rattle.rules.specs.declared.Span.{Span}
+use Rattle.rules.specs.declared.{Span.Span}
 use Rattle.rules.specs.Volumes.{upTo}
 use Rattle.rules.specs.Register.{sharesBefore}
 use Rattle.periods.specs.Fair.{Fair}

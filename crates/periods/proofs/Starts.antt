@@ -1,11 +1,11 @@
 -- A history whose newest period starts on a day has a period.
 use mathlib.Core.Path.{_≡_, refl}
 use mathlib.Core.Bool.{Bool, true, false, _&&_, false≢true}
-use Prim.Native.Nat.{ℕ, _<_, min}
+use Prim.Native.Nat.{ℕ, _<_}
 use native.Mathlib.Omega.{arith}
 use lib.Dec.{ltb, eqb}
 use borrow.Author.Tests.{ltb-true}
-use Rattle.rules.specs.declared.History.{History}
+use Rattle.rules.specs.declared.{History.History}
 use Rattle.rules.specs.Register.{used, newest, startsOn}
 
 and-left : (a b : Bool) → (a && b) ≡ true → a ≡ true

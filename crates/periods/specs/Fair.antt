@@ -3,13 +3,11 @@ use mathlib.Core.Bool.{Bool, cond, _&&_}
 use Prim.Native.Nat.{ℕ, _≤_, _<_}
 use lib.Dec.{leb, ltb}
 use Rattle.dates.specs.Dates.{lastDay}
-use Rattle.rules.specs.declared.History.{History}
-use Rattle.rules.specs.declared.Period.{Period}
-use Rattle.rules.specs.declared.Span.{Span}
+use Rattle.rules.specs.declared.{History.History, Period.Period, Span.Span}
 use Rattle.rules.specs.Register.{bookedPeriod, booked}
 
--- A reading goes forward to a day of the calendar, by at most two full turns of the largest meter, with a unit of at most a cubic metre:
--- its shares are then computed without overflow.
+-- A reading goes forward to a day of the calendar, by at most two full turns of the largest meter, with a unit of at
+-- most a cubic metre: its shares are then computed without overflow.
 abbrev pub mostAdvance : ℕ
 mostAdvance = 200000000000
 

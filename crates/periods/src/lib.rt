@@ -4,7 +4,8 @@ use rules::Period;
 use rules::Span;
 ghost use mathlib.Core.Path.{_≡_};
 ghost use Prim.Native.Nat.{_-_, _≤_, _<_, min};
-ghost use Rattle.rules.specs.Register.{used, startsOn, replaced as Register·replaced, appended as Register·appended, named as Register·named, sharesBefore, bookedPeriod, bookedSlots};
+ghost use Rattle.rules.specs.Register.{used, startsOn, replaced as Register·replaced, appended as Register·appended};
+ghost use Rattle.rules.specs.Register.{named as Register·named, sharesBefore, bookedPeriod, bookedSlots};
 ghost use Rattle.periods.specs.Fair.{Fair, isFair, bookedIfFair, bookedNewest};
 
 // How many slots are in use.

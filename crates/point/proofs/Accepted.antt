@@ -9,33 +9,10 @@ use native.Mathlib.Nat.{le-trans}
 use lib.Dec.{eqb, leb, ltb}
 use borrow.Author.Tests.{leb-false, ltb-false}
 use Rattle.dates.specs.Dates.{lastDay}
-use Rattle.rules.specs.declared.Fields.{Fields}
-use Rattle.rules.specs.declared.Point.{Point}
-use Rattle.rules.specs.declared.Settings.{Settings}
-use Rattle.rules.specs.declared.PointAction.{PointAction}
-use Rattle.rules.specs.declared.PointAction.the-variants.{
-  Enrol,
-  IntoService,
-  DefaultSupply,
-  AskSwitch,
-  Cancel,
-  Read,
-  ChangeMeter,
-  OutOfService,
-  Suspend,
-}
+use Rattle.rules.specs.declared.{Fields.Fields, Point.Point, Settings.Settings, PointAction.PointAction}
 use Rattle.rules.specs.Volumes.{fullTurn}
 use Rattle.rules.specs.Answers.{isAccepted}
-use Rattle.rules.specs.Rejections.{
-  indexDisagrees,
-  outOfRange,
-  offCalendar,
-  rows,
-  rowsAt,
-  acceptedAt,
-  accepted,
-  answerTo,
-}
+use Rattle.rules.specs.Rejections.{indexDisagrees, outOfRange, offCalendar, rows, rowsAt, accepted, answerTo}
 use Rattle.rules.proofs.Accept.{pass, neither}
 use Rattle.answers.specs.Ranges.{InRange}
 use Rattle.answers.specs.Ruling.{answerAt, rulingAt}
@@ -57,21 +34,21 @@ pub readable : (S : Settings) (u : List Bool) (t p : ℕ) (a : PointAction) (g :
     → isAccepted (rulingAt S u t p a g) ≡ true
     → Readable t a (g .fields)
 unfolding rulingAt rowsAt
-readable S u t p (Enrol b a x) g ok = tt
-readable S u t p (IntoService s k) g ok = tt
-readable S u t p (DefaultSupply k) g ok = tt
-readable S u t p (AskSwitch s k r) g ok = tt
-readable S u t p (Cancel s) g ok = tt
-readable S u t p (Read d x z) g ok =
+readable S u t p (PointAction.Enrol b a x) g ok = tt
+readable S u t p (PointAction.IntoService s k) g ok = tt
+readable S u t p (PointAction.DefaultSupply k) g ok = tt
+readable S u t p (PointAction.AskSwitch s k r) g ok = tt
+readable S u t p (PointAction.Cancel s) g ok = tt
+readable S u t p (PointAction.Read d x z) g ok =
     let k = pass _ _ _ _ (pass _ _ _ _ ok .1) in
     (reads-forward t d (g .fields .reading .day) (k .0), index-small (g .fields) x z (pass _ _ _ _ (k .1) .0))
-readable S u t p (ChangeMeter x z b a y) g ok =
+readable S u t p (PointAction.ChangeMeter x z b a y) g ok =
     let k = pass _ _ _ _ (pass _ _ _ _ ok .1) in (
       reads-forward t t (g .fields .reading .day) (k .0),
       index-small (g .fields) x z (neither (indexDisagrees (g .fields) x z) _ (pass _ _ _ _ (k .1) .0) .0),
     )
-readable S u t p OutOfService g ok = tt
-readable S u t p (Suspend m) g ok = tt
+readable S u t p PointAction.OutOfService g ok = tt
+readable S u t p (PointAction.Suspend m) g ok = tt
 
 pub record Passed (t : ℕ) (a : PointAction) (f : Fields) : Type 0 where
   pub calendar : t ≤ lastDay

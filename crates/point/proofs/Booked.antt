@@ -1,28 +1,14 @@
 -- A reading and a meter change do the same: the reading that they bring is booked, and the last reading and the meter become new.
 use mathlib.Core.Path.{_≡_, refl, sym, _∙_, ap}
-use mathlib.Core.Bool.{Bool, true, false, true≢false, false≢true}
+use mathlib.Core.Bool.{true, false, true≢false, false≢true}
 use Prim.Native.Nat.{ℕ, _≤_, _<_}
-use Rattle.rules.specs.declared.Point.{Point}
-use Rattle.rules.specs.declared.Fields.{Fields}
-use Rattle.rules.specs.declared.Settings.{Settings}
-use Rattle.rules.specs.declared.PointAction.{PointAction}
-use Rattle.rules.specs.declared.PointAction.the-variants.{
-  Enrol,
-  IntoService,
-  DefaultSupply,
-  AskSwitch,
-  Cancel,
-  Read,
-  ChangeMeter,
-  OutOfService,
-  Suspend,
-}
+use Rattle.rules.specs.declared.{Point.Point, Fields.Fields, Settings.Settings, PointAction.PointAction}
 use Rattle.rules.specs.Fields.{reading, withReading}
 use Rattle.rules.specs.Effects.{effectOf}
 use Rattle.rules.specs.Volumes.{spanTo, spansOf}
 use Rattle.rules.specs.Register.{acted, booked}
 use Rattle.answers.specs.Ranges.{InRange}
-use Rattle.point.specs.declared.readings.Brought.{Brought}
+use Rattle.point.specs.declared.{readings.Brought.Brought}
 use Rattle.point.specs.Ranges.{Readable}
 use Rattle.point.specs.Readings.{broughtBy}
 
@@ -31,15 +17,15 @@ Fair f b = (b .day ≤ 73048) × (b .index ≤ 100000000000) × (b .zero ≤ 1) 
 
 fair : (t : ℕ) (a : PointAction) (f : Fields) → t ≤ 73048 → InRange a → Readable t a f → broughtBy t (f .meter) a .is ≡ true →
     Fair f (broughtBy t (f .meter) a)
-fair t (Enrol b a x) f h k l e = absurd (false≢true e)
-fair t (IntoService s key) f h k l e = absurd (false≢true e)
-fair t (DefaultSupply key) f h k l e = absurd (false≢true e)
-fair t (AskSwitch s key r) f h k l e = absurd (false≢true e)
-fair t (Cancel s) f h k l e = absurd (false≢true e)
-fair t (Read d x z) f h k l e = (k .0, l .1, k .1, l .0)
-fair t (ChangeMeter x z b a y) f h k l e = (h, l .1, k .0, l .0)
-fair t OutOfService f h k l e = absurd (false≢true e)
-fair t (Suspend m) f h k l e = absurd (false≢true e)
+fair t (PointAction.Enrol b a x) f h k l e = absurd (false≢true e)
+fair t (PointAction.IntoService s key) f h k l e = absurd (false≢true e)
+fair t (PointAction.DefaultSupply key) f h k l e = absurd (false≢true e)
+fair t (PointAction.AskSwitch s key r) f h k l e = absurd (false≢true e)
+fair t (PointAction.Cancel s) f h k l e = absurd (false≢true e)
+fair t (PointAction.Read d x z) f h k l e = (k .0, l .1, k .1, l .0)
+fair t (PointAction.ChangeMeter x z b a y) f h k l e = (h, l .1, k .0, l .0)
+fair t PointAction.OutOfService f h k l e = absurd (false≢true e)
+fair t (PointAction.Suspend m) f h k l e = absurd (false≢true e)
 
 pub reading-fair : (t : ℕ) (a : PointAction) (f : Fields) (b : Brought) → t ≤ 73048 → InRange a → Readable t a f →
     b ≡ broughtBy t (f .meter) a → b .is ≡ true → Fair f b
@@ -55,15 +41,15 @@ bookedBy b g =
 books : (S : Settings) (t : ℕ) (a : PointAction) (g : Point) → broughtBy t (g .fields .meter) a .is ≡ true →
     bookedBy (broughtBy t (g .fields .meter) a) g ≡ acted S t a g
 unfolding acted effectOf spansOf
-books S t (Enrol b a x) g e = absurd (false≢true e)
-books S t (IntoService s key) g e = absurd (false≢true e)
-books S t (DefaultSupply key) g e = absurd (false≢true e)
-books S t (AskSwitch s key r) g e = absurd (false≢true e)
-books S t (Cancel s) g e = absurd (false≢true e)
-books S t (Read d x z) g e = refl
-books S t (ChangeMeter x z b a y) g e = refl
-books S t OutOfService g e = absurd (false≢true e)
-books S t (Suspend m) g e = absurd (false≢true e)
+books S t (PointAction.Enrol b a x) g e = absurd (false≢true e)
+books S t (PointAction.IntoService s key) g e = absurd (false≢true e)
+books S t (PointAction.DefaultSupply key) g e = absurd (false≢true e)
+books S t (PointAction.AskSwitch s key r) g e = absurd (false≢true e)
+books S t (PointAction.Cancel s) g e = absurd (false≢true e)
+books S t (PointAction.Read d x z) g e = refl
+books S t (PointAction.ChangeMeter x z b a y) g e = refl
+books S t PointAction.OutOfService g e = absurd (false≢true e)
+books S t (PointAction.Suspend m) g e = absurd (false≢true e)
 
 pub reading-acts : (S : Settings) (t : ℕ) (a : PointAction) (g : Point) (b : Brought) → b ≡ broughtBy t (g .fields .meter) a →
     b .is ≡ true → bookedBy b g ≡ acted S t a g

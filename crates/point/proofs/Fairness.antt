@@ -4,9 +4,7 @@ use mathlib.Core.Bool.{true}
 use Prim.Native.Nat.{_≤_, _<_}
 use borrow.Author.Tests.{lt-ltb, le-leb}
 use Rattle.dates.specs.Dates.{lastDay}
-use Rattle.rules.specs.declared.History.{History}
-use Rattle.rules.specs.declared.Period.{Period}
-use Rattle.rules.specs.declared.Span.{Span}
+use Rattle.rules.specs.declared.{History.History, Period.Period, Span.Span}
 use Rattle.rules.specs.Register.{bookedPeriod, booked}
 use Rattle.periods.specs.Fair.{mostAdvance, isFair, bookedIfFair, bookedNewest}
 

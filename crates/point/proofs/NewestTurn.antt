@@ -1,19 +1,12 @@
 -- A reading in the newest period is the point's turn.
-use mathlib.Core.Path.{_≡_, refl, sym, _∙_, ap}
+use mathlib.Core.Path.{_≡_, refl}
 use mathlib.Core.Bool.{Bool, true, false, cond, _&&_, false≢true}
 use mathlib.Core.List.{List, []}
 use Prim.Native.Nat.{ℕ, _-_, _≤_, _<_}
-use lib.Dec.{leb}
 use lib.ListN.{set}
 use borrow.Author.Tests.{leb-true, le-leb}
-use Rattle.rules.specs.declared.Fields.{Fields}
-use Rattle.rules.specs.declared.History.{History}
-use Rattle.rules.specs.declared.Period.{Period}
-use Rattle.rules.specs.declared.Point.{Point}
-use Rattle.rules.specs.declared.Settings.{Settings}
-use Rattle.rules.specs.declared.Answer.{Answer}
-use Rattle.rules.specs.declared.Answer.the-variants.{Accepted, AcceptedOn, Refused, RefusedUntil}
-use Rattle.rules.specs.declared.PointAction.the-variants.{Read}
+use Rattle.rules.specs.declared.{Fields.Fields, History.History, Period.Period, Point.Point, Settings.Settings}
+use Rattle.rules.specs.declared.{Answer.Answer, PointAction.PointAction}
 use Rattle.rules.specs.Answers.{isAccepted}
 use Rattle.rules.specs.Effects.{effectOf}
 use Rattle.rules.specs.Register.{used, newest, history, acted}
@@ -22,8 +15,7 @@ use Rattle.periods.proofs.Newest.{newest-booked}
 use Rattle.answers.specs.Ruling.{noSettings, bare, readAnswer}
 use Rattle.answers.proofs.Readings.{read-answer, read-plain}
 use Rattle.point.proofs.Accepted.{passed}
-use Rattle.point.specs.declared.Ruling.{Ruling}
-use Rattle.point.specs.declared.Newest.{Newest}
+use Rattle.point.specs.declared.{Newest.Newest}
 use Rattle.point.specs.Newest.{lies, leftNewest, readNewest}
 use Rattle.point.specs.Turn.{turned}
 
@@ -36,7 +28,7 @@ pub read-passed : (day t p d x z : ℕ) (f : Fields) (a : Answer) → a ≡ read
     (d ≤ 73048) × (z ≤ 1) × (f .reading .day < d) × (x ≤ 100000000000)
 unfolding readAnswer
 read-passed day t p d x z f a e b k ok =
-    let h = passed noSettings day [] t p (Read d x z) (bare f) (rw (← e, ← k) ok) in
+    let h = passed noSettings day [] t p (PointAction.Read d x z) (bare f) (rw (← e, ← k) ok) in
     (h .ranges .0, h .ranges .1, h .readable .0, h .readable .1)
 
 chosen : (b : Bool) (r : Newest) (f : Fields) (q : Period) → cond b r (leftNewest f q) .is ≡ true → b ≡ true
@@ -48,7 +40,7 @@ module _ (day t p d x z : ℕ) (f : Fields) (q : Period) (is : readNewest day t 
   unfolding readNewest
   met = chosen (isAccepted (readAnswer day t p d x z f) && lies f q) _ f q is
 
-  ok : readAnswer day t p d x z f ≡ Accepted
+  ok : readAnswer day t p d x z f ≡ Answer.Accepted
   ok = read-plain day t p d x z f (both _ (lies f q) met .0)
 
   within : q .start ≤ f .reading .day
@@ -61,9 +53,9 @@ module _ (day t p d x z : ℕ) (f : Fields) (q : Period) (is : readNewest day t 
     lies-in : newest h .start ≤ f .reading .day
     lies-in = rw last at within
 
-    pub newest-turn : turned S day u t p (Read d x z) g
+    pub newest-turn : turned S day u t p (PointAction.Read d x z) g
         ≡ record {
-          answer = Accepted;
+          answer = Answer.Accepted;
           point =
               record {
                 fields = readNewest day t p d x z f q .fields;

@@ -1,16 +1,15 @@
--- A reading that is accepted and whose days all lie in the newest period: it changes the point's fields and that period, and nothing
--- else of the point. Definitions only: proofs/Newest has it that this is the point's turn.
+-- A reading that is accepted and whose days all lie in the newest period: it changes the point's fields and that
+-- period, and nothing else of the point. Definitions only: proofs/Newest has it that this is the point's turn.
 use mathlib.Core.Bool.{Bool, true, false, cond, _&&_}
 use Prim.Native.Nat.{ℕ}
 use lib.Dec.{leb}
-use Rattle.rules.specs.declared.Fields.{Fields}
-use Rattle.rules.specs.declared.Period.{Period}
+use Rattle.rules.specs.declared.{Fields.Fields, Period.Period}
 use Rattle.rules.specs.Answers.{isAccepted}
 use Rattle.rules.specs.Fields.{reading, withReading}
 use Rattle.rules.specs.Register.{bookedPeriod}
 use Rattle.rules.specs.Volumes.{spanTo}
 use Rattle.answers.specs.Ruling.{readAnswer}
-use Rattle.point.specs.declared.Newest.{Newest}
+use Rattle.point.specs.declared.{Newest.Newest}
 
 abbrev pub leftNewest : Fields → Period → Newest
 leftNewest f q = record { is = false; fields = f; period = q }

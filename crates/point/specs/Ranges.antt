@@ -1,21 +1,6 @@
 -- A reading that a meter makes, and what the checks have seen to before it is booked. Definitions only.
 use Prim.Native.Nat.{ℕ, _≤_, _<_}
-use Rattle.rules.specs.declared.Fields.{Fields}
-use Rattle.rules.specs.declared.Meter.{Meter}
-use Rattle.rules.specs.declared.Reading.{Reading}
-use Rattle.rules.specs.declared.Span.{Span}
-use Rattle.rules.specs.declared.PointAction.{PointAction}
-use Rattle.rules.specs.declared.PointAction.the-variants.{
-  Enrol,
-  IntoService,
-  DefaultSupply,
-  AskSwitch,
-  Cancel,
-  Read,
-  ChangeMeter,
-  OutOfService,
-  Suspend,
-}
+use Rattle.rules.specs.declared.{Fields.Fields, Meter.Meter, Reading.Reading, Span.Span, PointAction.PointAction}
 use Rattle.rules.specs.Volumes.{fullTurn, unitOf, advanceOf}
 
 -- `spanTo`, by the meter read and the last reading.
@@ -25,12 +10,12 @@ spanBy m last d x z =
 
 -- Numbers 27 and 28 do not apply: a reading goes forward, and its index is below the largest full turn.
 abbrev pub Readable : ℕ → PointAction → Fields → Type 0
-Readable t (Enrol b a x) f = Unit {0}
-Readable t (IntoService s k) f = Unit {0}
-Readable t (DefaultSupply k) f = Unit {0}
-Readable t (AskSwitch s k r) f = Unit {0}
-Readable t (Cancel s) f = Unit {0}
-Readable t (Read d x z) f = (f .reading .day < d) × (x ≤ 100000000000)
-Readable t (ChangeMeter x z b a y) f = (f .reading .day < t) × (x ≤ 100000000000)
-Readable t OutOfService f = Unit {0}
-Readable t (Suspend m) f = Unit {0}
+Readable t (PointAction.Enrol b a x) f = Unit {0}
+Readable t (PointAction.IntoService s k) f = Unit {0}
+Readable t (PointAction.DefaultSupply k) f = Unit {0}
+Readable t (PointAction.AskSwitch s k r) f = Unit {0}
+Readable t (PointAction.Cancel s) f = Unit {0}
+Readable t (PointAction.Read d x z) f = (f .reading .day < d) × (x ≤ 100000000000)
+Readable t (PointAction.ChangeMeter x z b a y) f = (f .reading .day < t) × (x ≤ 100000000000)
+Readable t PointAction.OutOfService f = Unit {0}
+Readable t (PointAction.Suspend m) f = Unit {0}

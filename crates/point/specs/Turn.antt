@@ -4,16 +4,13 @@ use mathlib.Core.List.{List}
 use Prim.Native.Nat.{ℕ}
 use lib.Dec.{leb}
 use Rattle.dates.specs.Dates.{lastDay}
-use Rattle.rules.specs.declared.Point.{Point}
-use Rattle.rules.specs.declared.Settings.{Settings}
-use Rattle.rules.specs.declared.PointAction.{PointAction}
-use Rattle.rules.specs.declared.Answer.{Answer}
+use Rattle.rules.specs.declared.{Point.Point, Settings.Settings, PointAction.PointAction, Answer.Answer}
 use Rattle.rules.specs.Effects.{failed}
 use Rattle.rules.specs.Answers.{isAccepted}
 use Rattle.rules.specs.Rejections.{touches, isFull}
 use Rattle.rules.specs.Register.{catchUp, view, acted, failedPoint}
 use Rattle.answers.specs.Ruling.{answerAt}
-use Rattle.point.specs.declared.Ruling.{Ruling}
+use Rattle.point.specs.declared.{Ruling.Ruling}
 
 -- Past the calendar's end nothing falls due: no call looks there.
 unfoldable pub caughtUp : Settings → ℕ → Point → Point

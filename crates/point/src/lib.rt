@@ -27,7 +27,8 @@ pub struct Ruling {
     pub point: Point,
 }
 
-// Whether a reading is accepted and lies in the newest period; then the fields and that period after it, else as they were.
+// Whether a reading is accepted and lies in the newest period; then the fields and that period after it, else as they
+// were.
 pub struct Newest {
     pub is: bool,
     pub fields: Fields,

@@ -17,8 +17,8 @@ use Rattle.text.proofs.Spelling.{decimal-append}
 use Rattle.answer_lines.proofs.LineTexts.{digits-few}
 use Rattle.listing.specs.Listing.{AppendedWithin}
 use Rattle.listing.proofs.Growing.{within-more, within-length, within-end}
-use Rattle.rules.specs.declared.Register.{Register}
-use Rattle.question_words.specs.declared.Question.{Question}
+use Rattle.rules.specs.declared.{Register.Register}
+use Rattle.question_words.specs.declared.{Question.Question}
 use Rattle.question_lines.specs.Lines.{field, dateField, one, okPeriod, reply, head, line, OnePut, TwoPut}
 
 pub within : (m at : ℕ) (t o o₁ : List ℕ) (e : ℕ) → Appended at t o o₁ e → length t ≤ m → AppendedWithin m at t o o₁ e

@@ -6,7 +6,7 @@ use Rattle.rules.specs.declared.HolderAnswer.the-variants as holder
 use Rattle.rules.specs.declared.PeriodAnswer.the-variants as period
 use Rattle.rules.specs.declared.AdvanceAnswer.the-variants as advance
 use Rattle.text.specs.Ascii.{ascii}
-use Rattle.question_words.specs.declared.Question.the-variants.{Holder, Period, Advance}
+use Rattle.question_words.specs.declared.{Question.Question}
 use Rattle.question_lines.specs.Lines.{holderReply, periodReply, advanceReply, head}
 
 abbrev pub ended : List ℕ → List ℕ
@@ -23,6 +23,6 @@ pub record LinesExamples : Type 0 where
   pub period-refused : periodReply period.OffRange ≡ ended (ascii "refused;22")
   pub advance-20000 : advanceReply (advance.Volume 20000) ≡ ended (ascii "ok;20000")
   pub advance-refused : advanceReply advance.OffRange ≡ ended (ascii "refused;22")
-  pub holder-head : head (Holder 1 7674) ≡ ascii "holder;1;7674;"
-  pub period-head : head (Period 33 0) ≡ ascii "period;33;0;"
-  pub advance-head : head (Advance 0) ≡ ascii "advance;0;"
+  pub holder-head : head (Question.Holder 1 7674) ≡ ascii "holder;1;7674;"
+  pub period-head : head (Question.Period 33 0) ≡ ascii "period;33;0;"
+  pub advance-head : head (Question.Advance 0) ≡ ascii "advance;0;"

@@ -3,12 +3,10 @@
 use Prim.Native.Nat.{ℕ, _+_}
 use mathlib.Core.List.{List, [], _∷_, _++_}
 use lib.ListN.{length}
-use Rattle.rules.specs.declared.Register.{Register}
-use Rattle.rules.specs.declared.HolderAnswer.{HolderAnswer}
+use Rattle.rules.specs.declared.{Register.Register, HolderAnswer.HolderAnswer, PeriodAnswer.PeriodAnswer}
+use Rattle.rules.specs.declared.{AdvanceAnswer.AdvanceAnswer}
 use Rattle.rules.specs.declared.HolderAnswer.the-variants as holder
-use Rattle.rules.specs.declared.PeriodAnswer.{PeriodAnswer}
 use Rattle.rules.specs.declared.PeriodAnswer.the-variants as period
-use Rattle.rules.specs.declared.AdvanceAnswer.{AdvanceAnswer}
 use Rattle.rules.specs.declared.AdvanceAnswer.the-variants as advance
 use Rattle.rules.specs.Questions.{holderAnswer, periodAnswer, advanceAnswer}
 use Rattle.rules.specs.Answers.{holderNumber, periodNumber, advanceNumber}
@@ -16,8 +14,7 @@ use Rattle.text.specs.Ascii.{ascii}
 use Rattle.text.specs.Decimal.{decimal}
 use Rattle.text.specs.Days.{dayText}
 use Rattle.listing.specs.Listing.{AppendedWithin}
-use Rattle.question_words.specs.declared.Question.{Question}
-use Rattle.question_words.specs.declared.Question.the-variants.{Holder, Period, Advance}
+use Rattle.question_words.specs.declared.{Question.Question}
 
 -- A number and the byte behind it; 59 is `;`, 10 a line feed.
 abbrev pub field : ℕ → ℕ → List ℕ
@@ -61,15 +58,15 @@ advanceReply advance.OffRange = refusal (advanceNumber advance.OffRange)
 
 -- The line that answers a question.
 unfoldable pub reply : Register → Question → List ℕ
-reply r (Holder p d) = holderReply (holderAnswer r p d)
-reply r (Period p n) = periodReply (periodAnswer r p n)
-reply r (Advance p) = advanceReply (advanceAnswer r p)
+reply r (Question.Holder p d) = holderReply (holderAnswer r p d)
+reply r (Question.Period p n) = periodReply (periodAnswer r p n)
+reply r (Question.Advance p) = advanceReply (advanceAnswer r p)
 
 -- The question in front of its answer: `holder;P;DAY;`, `period;P;N;`, `advance;P;`, the day by its number.
 unfoldable pub head : Question → List ℕ
-head (Holder p d) = two (ascii "holder;") p d
-head (Period p n) = two (ascii "period;") p n
-head (Advance p) = one (ascii "advance;") p 59
+head (Question.Holder p d) = two (ascii "holder;") p d
+head (Question.Period p n) = two (ascii "period;") p n
+head (Question.Advance p) = one (ascii "advance;") p 59
 
 unfoldable pub line : Register → Question → List ℕ
 line r q = head q ++ reply r q

@@ -11,16 +11,15 @@ use Rattle.text.specs.Ascii.{ascii}
 use Rattle.reading.specs.Words.{isSame}
 use Rattle.reading.specs.Numbers.{Read, number, bad, fieldAt}
 use Rattle.reading.proofs.Places.{ends-short, Leaves}
-use Rattle.question_words.specs.declared.Value.the-variants.{Is, Nothing}
-use Rattle.question_words.specs.declared.Asked.the-variants.{Unknown}
+use Rattle.question_words.specs.declared.{Value.Value, Asked.Asked}
 use Rattle.question_words.specs.Asked.{valueOf, wholeOf, numberValue, dateValue, holderAsked, periodAsked}
 use Rattle.question_words.specs.Asked.{byOne, byTwo, byThree, askedBy}
 
 -- what was read of a word, where more follows it and where nothing does
-pub whole-more : (len v next : ℕ) → next < len → wholeOf len (field.Value v next) ≡ Nothing
+pub whole-more : (len v next : ℕ) → next < len → wholeOf len (field.Value v next) ≡ Value.Nothing
 whole-more len v next h = rw (lt-ltb next len h)
 
-pub whole-all : (len v next : ℕ) → len ≤ next → wholeOf len (field.Value v next) ≡ Is v
+pub whole-all : (len v next : ℕ) → len ≤ next → wholeOf len (field.Value v next) ≡ Value.Is v
 whole-all len v next h = rw (le-ltb next len h)
 
 pub whole-value : (w : List ℕ) (x : Read) → Leaves w x → wholeOf (length w) (fieldAt 0 w x) ≡ valueOf x
@@ -44,7 +43,7 @@ module _ (n : ℕ) (w a b : List ℕ) where
   unfolding askedBy
   asked-three h = rw h
 
-  pub asked-none : (n ≡ 1 → ⊥) → (n ≡ 2 → ⊥) → (n ≡ 3 → ⊥) → askedBy n w a b ≡ Unknown
+  pub asked-none : (n ≡ 1 → ⊥) → (n ≡ 2 → ⊥) → (n ≡ 3 → ⊥) → askedBy n w a b ≡ Asked.Unknown
   unfolding askedBy
   asked-none h j k = rw (ne-eqb n 1 h, ne-eqb n 2 j, ne-eqb n 3 k)
 

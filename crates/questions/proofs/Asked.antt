@@ -1,10 +1,10 @@
 -- A point that may be asked of is one of 1 to 32.
 use mathlib.Core.Path.{_≡_}
-use mathlib.Core.Bool.{Bool, false}
+use mathlib.Core.Bool.{false}
 use Prim.Native.Nat.{ℕ, _≤_}
 use lib.Dec.{ltb}
 use borrow.Author.Tests.{ltb-false}
-use Rattle.rules.specs.declared.Register.{Register}
+use Rattle.rules.specs.declared.{Register.Register}
 use Rattle.rules.specs.Rejections.{notPoint, outside}
 use Rattle.rules.specs.Questions.{unasked}
 use Rattle.rules.proofs.Accept.{neither}

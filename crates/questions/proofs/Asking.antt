@@ -1,40 +1,33 @@
 -- The questions after any list of calls. The statement is specs/Asking.antt.
-use mathlib.Core.Path.{_≡_, refl, sym, _∙_, ap}
+use mathlib.Core.Path.{_≡_, refl, _∙_, ap}
 use mathlib.Core.Bool.{Bool, true, false, cond, _&&_, _||_}
 use mathlib.Core.List.{List, [], _∷_, reverse}
-use mathlib.Core.Option.{Option, none, some}
+use mathlib.Core.Option.{none, some}
 use Prim.Native.Nat.{ℕ, zero, suc, _-_, _^_, _≤_, _<_}
 use native.Mathlib.Omega.{arith}
 use native.Mathlib.Decide.{decLe}
-use lib.Dec.{eqb, leb, ltb}
-use lib.ListN.{getD}
+use lib.Dec.{eqb, leb}
 use native.Mathlib.Nat.{not-suc-le-zero}
 use borrow.Author.Tests.{lt-ltb, le-ltb, le-leb, lt-leb, ne-eqb}
 use Rattle.dates.specs.Dates.{lastDay}
-use Rattle.rules.specs.declared.Opening.{Opening}
-use Rattle.rules.specs.declared.Call.{Call}
-use Rattle.rules.specs.declared.Register.{Register}
-use Rattle.rules.specs.declared.Span.{Span}
-use Rattle.rules.specs.declared.Period.{Period}
-use Rattle.rules.specs.declared.Point.{Point}
-use Rattle.rules.specs.declared.HolderAnswer.{HolderAnswer}
+use Rattle.rules.specs.declared.{Opening.Opening, Call.Call, Register.Register, Span.Span, Point.Point}
+use Rattle.rules.specs.declared.{HolderAnswer.HolderAnswer, PeriodAnswer.PeriodAnswer, AdvanceAnswer.AdvanceAnswer}
 use Rattle.rules.specs.declared.HolderAnswer.the-variants as holder
-use Rattle.rules.specs.declared.PeriodAnswer.{PeriodAnswer}
 use Rattle.rules.specs.declared.PeriodAnswer.the-variants as period
-use Rattle.rules.specs.declared.AdvanceAnswer.{AdvanceAnswer}
 use Rattle.rules.specs.declared.AdvanceAnswer.the-variants as advance
 use Rattle.rules.specs.Volumes.{volume, registered}
 use Rattle.rules.specs.Answers.{isAccepted, holderNumber, holderTold, periodNumber, periodTold, advanceNumber, advanceTold}
 use Rattle.rules.specs.Rejections.{openingAnswer, notPoint}
-use Rattle.rules.specs.Register.{noPeriod, used, pointAt}
-use Rattle.rules.specs.Questions.{unasked, holderIn, holderAnswer, periodAnswer, advanceAnswer}
+use Rattle.rules.specs.Register.{used, pointAt}
+use Rattle.rules.specs.Questions.{holderAnswer, periodAnswer, advanceAnswer}
 use Rattle.rules.specs.DayBook.{opened, readings, enrolments, Page}
-use Rattle.rules.specs.Demand3.{PointAgrees, periodsOf, holderOn, book, register}
-use Rattle.rules.proofs.Tally.{tally-desc, live-runs, Desc}
-use Rattle.rules.proofs.Slots.{listed, Sized, used-count, take-listed}
-use Rattle.rules.proofs.Tied.{Tied, Since}
-use Rattle.rules.proofs.Run.{run-agrees}
-use Rattle.rules.proofs.Theorem.{day-book-agrees}
+use Rattle.rules.specs.Periods.{periodsOf, holderOn, book, register}
+use Rattle.agreement.specs.Demand3.{PointAgrees}
+use Rattle.agreement.proofs.Tally.{tally-desc, live-runs, Desc}
+use Rattle.agreement.proofs.Slots.{listed, Sized, used-count, take-listed}
+use Rattle.agreement.proofs.Tied.{Tied, Since}
+use Rattle.agreement.proofs.Run.{run-agrees}
+use Rattle.agreement.proofs.Theorem.{day-book-agrees}
 use Rattle.rules.proofs.Seen.{pending-unseen, request-unseen}
 use Rattle.questions.specs.ByBook.{
   periodsIn,
@@ -46,7 +39,7 @@ use Rattle.questions.specs.ByBook.{
   bookPeriod,
   bookAdvance,
 }
-use Rattle.questions.specs.Asking.{Asked, Asking}
+use Rattle.questions.specs.Asking.{Asking}
 use Rattle.questions.proofs.Asked.{range-in}
 use Rattle.questions.proofs.Calendar.{run-day}
 use Rattle.questions.proofs.Covers.{Tells, among-covered, among-before, sum-exact}

@@ -1,19 +1,18 @@
 -- A point's periods are those that the day book's cells and the list's readings give.
 use mathlib.Core.Path.{_≡_, refl}
 use mathlib.Core.Bool.{true, false}
-use mathlib.Core.List.{List, [], _∷_, reverse, reverseAux}
-use mathlib.Core.Option.{Option, none, some}
+use mathlib.Core.List.{List, [], _∷_, reverseAux}
+use mathlib.Core.Option.{none, some}
 use Prim.Native.Nat.{ℕ, zero, suc, _+_, _-_, _≤_, _<_}
 use native.Mathlib.Omega.{arith}
 use lib.ListN.{length, getD, take}
-use Rattle.rules.specs.declared.Period.{Period}
-use Rattle.rules.specs.declared.Point.{Point}
+use Rattle.rules.specs.declared.{Period.Period, Point.Point}
 use Rattle.rules.specs.Register.{period, noPeriod}
 use Rattle.rules.specs.DayBook.{Cell, cell}
-use Rattle.rules.specs.Demand3.{periodsOf, sumDays}
-use Rattle.rules.proofs.Tally.{tally, Runs, Live, live-runs}
-use Rattle.rules.proofs.Slots.{listed, Sized, take-listed}
-use Rattle.rules.proofs.Theorem.Cover.{sumDays-none, sumDays-more}
+use Rattle.rules.specs.Periods.{periodsOf, sumDays}
+use Rattle.agreement.proofs.Tally.{tally, Runs, Live, live-runs}
+use Rattle.agreement.proofs.Slots.{listed, Sized, take-listed}
+use Rattle.agreement.proofs.Cover.{sumDays-none, sumDays-more}
 use Rattle.questions.specs.ByBook.{periodsIn, nth}
 
 -- a is what the days from e on to the day `end` give

@@ -1,28 +1,24 @@
 -- The register's day stays on the calendar.
-use mathlib.Core.Path.{_≡_, refl, _∙_}
+use mathlib.Core.Path.{_≡_, refl}
 use mathlib.Core.Bool.{Bool, true, false, cond}
 use mathlib.Core.List.{List, [], _∷_, map}
 use Prim.Native.Nat.{ℕ, _≤_}
-use lib.Dec.{eqb, ltb}
+use lib.Dec.{eqb}
 use borrow.Author.Tests.{eqb-true, ltb-false}
 use Rattle.dates.specs.Dates.{lastDay}
-use Rattle.rules.specs.declared.Register.{Register}
-use Rattle.rules.specs.declared.Opening.{Opening}
-use Rattle.rules.specs.declared.Call.{Call}
-use Rattle.rules.specs.declared.Action.{Action}
-use Rattle.rules.specs.declared.Action.the-variants.{SignContract, Failure, At, Day}
+use Rattle.rules.specs.declared.{Register.Register, Opening.Opening, Call.Call, Action.Action}
 use Rattle.rules.specs.Answers.{isAccepted}
 use Rattle.rules.specs.Rejections.{answer, openingAnswer}
 use Rattle.rules.specs.Register.{register, catchUp, advanced, says, done, applied, after, opened}
 use Rattle.rules.proofs.Accept.{pass}
-use Rattle.rules.proofs.Theorem.Answered.{passed}
+use Rattle.rules.proofs.Views.{passed}
 
 done-day : (t : ℕ) (a : Action) (r : Register) → done t a r .day ≡ r .day
 unfolding done
-done-day t (SignContract s) r = refl
-done-day t (Failure s) r = refl
-done-day t (At p a) r = refl
-done-day t Day r = refl
+done-day t (Action.SignContract s) r = refl
+done-day t (Action.Failure s) r = refl
+done-day t (Action.At p a) r = refl
+done-day t Action.Day r = refl
 
 advanced-day : (t : ℕ) (r : Register) → advanced t r .day ≡ t
 unfolding advanced

@@ -3,23 +3,22 @@ use mathlib.Core.Path.{_≡_, refl, sym, _∙_, ap}
 use mathlib.Core.Bool.{Bool, true, false, cond, _&&_}
 use mathlib.Core.List.{List, [], _∷_, _++_, map, append-nil}
 use mathlib.Core.Option.{Option, none, some}
-use Prim.Native.Nat.{ℕ, zero, suc, _+_, _-_, _^_, _≤_, _<_}
+use Prim.Native.Nat.{ℕ, zero, suc, _^_, _≤_, _<_}
 use native.Mathlib.Omega.{arith}
 use native.Mathlib.Decide.{decLe}
-use native.Mathlib.Nat.{mod-eq-of-lt, le-trans}
+use native.Mathlib.Nat.{mod-eq-of-lt}
 use lib.Dec.{leb}
 use lib.ListN.{length, getD, take}
 use lib.Seq.{take-suc, append-snoc}
 use borrow.Author.Tests.{le-leb, lt-leb, lt-ltb}
-use Rattle.rules.specs.declared.Period.{Period}
-use Rattle.rules.specs.declared.HolderAnswer.{HolderAnswer}
+use Rattle.rules.specs.declared.{Period.Period, HolderAnswer.HolderAnswer}
 use Rattle.rules.specs.declared.HolderAnswer.the-variants as holder
 use Rattle.rules.specs.Answers.{holderNumber, holderTold}
 use Rattle.rules.specs.Register.{noPeriod}
 use Rattle.rules.specs.Questions.{holderAmong, sumOf}
-use Rattle.rules.specs.Demand3.{covering, isBeforeNext}
-use Rattle.rules.proofs.Tally.{sumVolumes, oldest, Desc, desc-up, oldest-le}
-use Rattle.rules.proofs.Slots.{recent}
+use Rattle.rules.specs.Periods.{covering, isBeforeNext}
+use Rattle.agreement.proofs.Tally.{sumVolumes, oldest, Desc, desc-up, oldest-le}
+use Rattle.agreement.proofs.Slots.{recent}
 
 abbrev holders : List Period → List (Option ℕ)
 holders ps = map (λ (q : Period). some (q .holder)) ps

@@ -1,12 +1,12 @@
 -- The walks of the questions over a point's periods, one turn of each loop.
-use mathlib.Core.Path.{_≡_, refl, ap}
+use mathlib.Core.Path.{_≡_, refl}
 use mathlib.Core.List.{List}
 use Prim.Native.Nat.{ℕ, zero, suc, _+_, _-_, _%_, _^_, _≤_, _<_}
 use native.Mathlib.Omega.{arith}
 use native.Mathlib.Numerals.{add-one}
 use lib.ListN.{getD}
 use borrow.Author.Tests.{le-leb, lt-leb}
-use Rattle.rules.specs.declared.Period.{Period}
+use Rattle.rules.specs.declared.{Period.Period}
 use Rattle.rules.specs.declared.HolderAnswer.the-variants as holder
 use Rattle.rules.specs.Register.{noPeriod}
 use Rattle.rules.specs.Questions.{holderAmong, sumOf}

@@ -5,8 +5,7 @@ use mathlib.Core.Path.{_≡_}
 use mathlib.Core.Bool.{true}
 use mathlib.Core.List.{List, [], _∷_}
 use Prim.Native.Nat.{ℕ, _≤_}
-use Rattle.rules.specs.declared.Opening.{Opening}
-use Rattle.rules.specs.declared.Call.{Call}
+use Rattle.rules.specs.declared.{Opening.Opening, Call.Call}
 use Rattle.rules.specs.Answers.{
   isAccepted,
   holderNumber,
@@ -19,7 +18,7 @@ use Rattle.rules.specs.Answers.{
 use Rattle.rules.specs.Rejections.{openingAnswer}
 use Rattle.rules.specs.Questions.{holderAnswer, periodAnswer, advanceAnswer}
 use Rattle.rules.specs.DayBook.{opened, enrolments}
-use Rattle.rules.specs.Demand3.{register}
+use Rattle.rules.specs.Periods.{register}
 use Rattle.rules.specs.Seen.{PendingUnseen, RequestUnseen}
 use Rattle.questions.specs.ByBook.{askedNumber, bookHolder, bookPeriod, bookAdvance}
 

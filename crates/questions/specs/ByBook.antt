@@ -1,26 +1,24 @@
--- 01, "Volumes": the questions by the day book and the list alone, as functions of the opening and the calls; none where a
--- question is off its range or on a point not enrolled. Nothing here looks at the register. Definitions only.
+-- 01, "Volumes": the questions by the day book and the list alone, as functions of the opening and the calls; none
+-- where a question is off its range or on a point not enrolled. Nothing here looks at the register. Definitions only.
 --
 -- bookPeriods   the periods of a point: its marked cells, each with the sum of its days' volumes
 -- bookHolder, bookPeriod, bookAdvance   what the three questions tell
 -- askedNumber   the number that goes with it
-use mathlib.Core.Bool.{Bool, true, false, cond, _&&_, _||_}
+use mathlib.Core.Bool.{true, false, cond, _&&_, _||_}
 use mathlib.Core.List.{List, [], _∷_}
 use mathlib.Core.Option.{Option, none, some}
 use Prim.Native.Nat.{ℕ, zero, suc, _-_}
 use lib.Dec.{eqb, leb}
-use Rattle.rules.specs.declared.Period.{Period}
-use Rattle.rules.specs.declared.Opening.{Opening}
-use Rattle.rules.specs.declared.Call.{Call}
+use Rattle.rules.specs.declared.{Period.Period, Opening.Opening, Call.Call}
 use Rattle.rules.specs.Volumes.{volume, registered}
 use Rattle.rules.specs.Rejections.{notPoint}
 use Rattle.rules.specs.Register.{period}
 use Rattle.rules.specs.DayBook.{Cell, cell, opened, readings, enrolments}
-use Rattle.rules.specs.Demand3.{holderOn, sumDays, book}
+use Rattle.rules.specs.Periods.{holderOn, sumDays, book}
 
--- "The register's periods are the marked cells: each starts at one and runs to the next, the last without end." The cells stand
--- newest first; the next period starts on day `end`, and l are the later periods.
--- "A period's booked volume is the sum over its days."
+-- "The register's periods are the marked cells: each starts at one and runs to the next, the last without end." The
+-- cells stand newest first; the next period starts on day `end`, and l are the later periods. "A period's booked
+-- volume is the sum over its days."
 unfoldable pub periodsIn : (ℕ → ℕ) → ℕ → List Cell → List Period → List Period
 periodsIn vol end [] l = l
 periodsIn vol end (cell d h true ∷ cs) l = periodsIn vol d cs (period d h (sumDays vol d (end - d)) ∷ l)

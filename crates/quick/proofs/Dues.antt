@@ -1,24 +1,18 @@
 -- Before anything falls due, bringing points up to a day changes nothing.
 use mathlib.Core.Path.{_≡_, refl, sym, _∙_, ap, ap₂}
-use mathlib.Core.Bool.{Bool, true, false, cond, not, _&&_}
+use mathlib.Core.Bool.{Bool, true, false, cond, _&&_}
 use mathlib.Core.List.{List, [], _∷_, map}
 use Prim.Native.Nat.{ℕ, zero, suc, _-_, _≤_, _<_, min}
 use native.Mathlib.Omega.{arith}
 use native.Mathlib.Nat.{not-suc-le-zero}
-use borrow.Author.Tests.{lt-leb, le-leb, eqb-true, ne-eqb}
-use lib.Dec.{eqb, leb}
+use borrow.Author.Tests.{lt-leb, le-leb, eqb-true}
+use lib.Dec.{eqb}
 use lib.ListN.{length, drop, getD, set}
 use lib.Seq.{drop-length}
 use Rattle.dates.specs.Dates.{lastDay}
-use Rattle.rules.specs.declared.Point.{Point}
-use Rattle.rules.specs.declared.Register.{Register}
-use Rattle.rules.specs.declared.Settings.{Settings}
-use Rattle.rules.specs.declared.SupplyKind.{SupplyKind}
-use Rattle.rules.specs.declared.SupplyKind.the-variants.{None, Contract, Default, LastResort}
-use Rattle.rules.specs.declared.Pending.{Pending}
-use Rattle.rules.specs.declared.Pending.the-variants.{Nothing, Request}
+use Rattle.rules.specs.declared.{Point.Point, Register.Register, Settings.Settings, SupplyKind.SupplyKind}
+use Rattle.rules.specs.declared.{Pending.Pending, Answer.Answer}
 use Rattle.rules.specs.declared.Due.the-variants as event
-use Rattle.rules.specs.declared.Answer.{Answer}
 use Rattle.rules.specs.Answers.{isAccepted}
 use Rattle.rules.specs.Register.{expiryBy, dueBy, happened, nextEvent, catchUp, register, advanced, noPoint}
 use Rattle.quick.specs.Quick.{never, kindEnds, requestFalls, dueDay, firstDue, dayBy}
@@ -26,15 +20,15 @@ use Rattle.quick.specs.Quick.{never, kindEnds, requestFalls, dueDay, fir
 module _ (S : Settings) (t : ℕ) where
   nothing-ends : (k : SupplyKind) → t < kindEnds k → expiryBy S t k ≡ event.Nothing
   unfolding expiryBy
-  nothing-ends None h = refl
-  nothing-ends Contract h = refl
-  nothing-ends (Default d) h = rw (lt-leb d t h)
-  nothing-ends (LastResort d) h = rw (lt-leb d t h)
+  nothing-ends SupplyKind.None h = refl
+  nothing-ends SupplyKind.Contract h = refl
+  nothing-ends (SupplyKind.Default d) h = rw (lt-leb d t h)
+  nothing-ends (SupplyKind.LastResort d) h = rw (lt-leb d t h)
 
   nothing-due : (k : SupplyKind) (q : Pending) → t < kindEnds k → t < requestFalls q → dueBy S t k q ≡ event.Nothing
   unfolding dueBy
-  nothing-due k Nothing h j = nothing-ends k h
-  nothing-due k (Request s e) h j = rw (lt-leb e t j, nothing-ends k h)
+  nothing-due k Pending.Nothing h j = nothing-ends k h
+  nothing-due k (Pending.Request s e) h j = rw (lt-leb e t j, nothing-ends k h)
 
   quiet-event : (g : Point) → t < dueDay (g .fields .supply) → nextEvent S t g ≡ g
   unfolding nextEvent dueDay happened

@@ -5,11 +5,9 @@ use Prim.Native.Nat.{ℕ, _-_, _≤_, _<_}
 use native.Mathlib.Omega.{arith}
 use borrow.Author.Tests.{ltb-false}
 use lib.Dec.{ltb}
-use Rattle.rules.specs.declared.Action.{Action}
-use Rattle.rules.specs.declared.Action.the-variants.{SignContract, Failure, At, Day}
+use Rattle.rules.specs.declared.{Action.Action}
 use Rattle.rules.specs.Rejections.{notPoint}
-use Rattle.message.specs.declared.Message.{Message}
-use Rattle.message.specs.declared.Message.the-variants.{Open, Ask, Unreadable}
+use Rattle.message.specs.declared.{Message.Message}
 use Rattle.quick.specs.Quick.{placeIn, placeOf, supplierIn, supplierOf}
 
 pub point-least : (p : ℕ) → notPoint p ≡ false → 1 ≤ p
@@ -20,10 +18,10 @@ point-least p e = go (ltb p 1) refl (ltb 32 p) e
     go false u y k = ltb-false p 1 u
 
 place-lt-in : (a : Action) → placeIn a < 32
-place-lt-in (SignContract s) = omega arith
-place-lt-in (Failure s) = omega arith
-place-lt-in Day = omega arith
-place-lt-in (At p a) = go (ltb p 1) refl (ltb 32 p) refl
+place-lt-in (Action.SignContract s) = omega arith
+place-lt-in (Action.Failure s) = omega arith
+place-lt-in Action.Day = omega arith
+place-lt-in (Action.At p a) = go (ltb p 1) refl (ltb 32 p) refl
   where
     go : (x : Bool) → ltb p 1 ≡ x → (y : Bool) → ltb 32 p ≡ y → cond (x || y) 0 (p - 1) < 32
     go true u y v = omega arith
@@ -32,15 +30,15 @@ place-lt-in (At p a) = go (ltb p 1) refl (ltb 32 p) refl
 
 pub place-lt : (m : Message) → placeOf m < 32
 unfolding placeOf
-place-lt (Open o) = omega arith
-place-lt (Ask c) = place-lt-in (c .action)
-place-lt Unreadable = omega arith
+place-lt (Message.Open o) = omega arith
+place-lt (Message.Ask c) = place-lt-in (c .action)
+place-lt Message.Unreadable = omega arith
 
 supplier-lt-in : (a : Action) → supplierIn a < 100
-supplier-lt-in (Failure s) = omega arith
-supplier-lt-in (At p a) = omega arith
-supplier-lt-in Day = omega arith
-supplier-lt-in (SignContract s) = go (ltb s 1) refl (ltb 99 s) refl
+supplier-lt-in (Action.Failure s) = omega arith
+supplier-lt-in (Action.At p a) = omega arith
+supplier-lt-in Action.Day = omega arith
+supplier-lt-in (Action.SignContract s) = go (ltb s 1) refl (ltb 99 s) refl
   where
     go : (x : Bool) → ltb s 1 ≡ x → (y : Bool) → ltb 99 s ≡ y → cond (x || y) 0 s < 100
     go true u y v = omega arith
@@ -49,6 +47,6 @@ supplier-lt-in (SignContract s) = go (ltb s 1) refl (ltb 99 s) refl
 
 pub supplier-lt : (m : Message) → supplierOf m < 100
 unfolding supplierOf
-supplier-lt (Open o) = omega arith
-supplier-lt (Ask c) = supplier-lt-in (c .action)
-supplier-lt Unreadable = omega arith
+supplier-lt (Message.Open o) = omega arith
+supplier-lt (Message.Ask c) = supplier-lt-in (c .action)
+supplier-lt Message.Unreadable = omega arith

@@ -1,37 +1,30 @@
--- Messages that concern one point at the most, on a day on which nothing has fallen due anywhere: they need no look at the other points.
--- How `replied` can then be had from that point alone is proved in crate `one_point`. Definitions only.
+-- Messages that concern one point at the most, on a day on which nothing has fallen due anywhere: they need no look
+-- at the other points. How `replied` can then be had from that point alone is proved in crate `one_point`.
+-- Definitions only.
 use mathlib.Core.Bool.{Bool, true, false, cond, not, _&&_, _||_}
 use mathlib.Core.List.{List, [], _∷_}
 use Prim.Native.Nat.{ℕ, _-_, min}
 use lib.Dec.{ltb, leb}
 use Rattle.dates.specs.Dates.{lastDay}
-use Rattle.rules.specs.declared.Point.{Point}
-use Rattle.rules.specs.declared.Supply.{Supply}
-use Rattle.rules.specs.declared.SupplyKind.{SupplyKind}
-use Rattle.rules.specs.declared.SupplyKind.the-variants.{None, Contract, Default, LastResort}
-use Rattle.rules.specs.declared.Pending.{Pending}
-use Rattle.rules.specs.declared.Pending.the-variants.{Nothing, Request}
-use Rattle.rules.specs.declared.Action.{Action}
-use Rattle.rules.specs.declared.Action.the-variants.{SignContract, Failure, At, Day}
-use Rattle.rules.specs.declared.Answer.{Answer}
+use Rattle.rules.specs.declared.{Point.Point, Supply.Supply, SupplyKind.SupplyKind, Pending.Pending, Action.Action}
+use Rattle.rules.specs.declared.{Answer.Answer}
 use Rattle.rules.specs.Answers.{isAccepted}
 use Rattle.rules.specs.Rejections.{notPoint, notSupplier}
-use Rattle.message.specs.declared.Message.{Message}
-use Rattle.message.specs.declared.Message.the-variants.{Open, Ask, Unreadable}
+use Rattle.message.specs.declared.{Message.Message}
 
 -- The first day past the calendar: nothing falls due on it.
 abbrev pub never : ℕ
 never = 73049
 
 abbrev pub kindEnds : SupplyKind → ℕ
-kindEnds None = never
-kindEnds Contract = never
-kindEnds (Default d) = d
-kindEnds (LastResort d) = d
+kindEnds SupplyKind.None = never
+kindEnds SupplyKind.Contract = never
+kindEnds (SupplyKind.Default d) = d
+kindEnds (SupplyKind.LastResort d) = d
 
 abbrev pub requestFalls : Pending → ℕ
-requestFalls Nothing = never
-requestFalls (Request s e) = e
+requestFalls Pending.Nothing = never
+requestFalls (Pending.Request s e) = e
 
 -- The first day on which something falls due at a point.
 unfoldable pub dueDay : Supply → ℕ
@@ -44,58 +37,58 @@ firstDue (g ∷ gs) = min (dueDay (g .fields .supply)) (firstDue gs)
 
 -- What a call may touch: one point, who is under contract, or the day alone. A failure looks at every point.
 abbrev pub isSmall : Action → Bool
-isSmall (SignContract s) = true
-isSmall (Failure s) = false
-isSmall (At p a) = not (notPoint p)
-isSmall Day = true
+isSmall (Action.SignContract s) = true
+isSmall (Action.Failure s) = false
+isSmall (Action.At p a) = not (notPoint p)
+isSmall Action.Day = true
 
 -- Nothing falls due before the day quiet.
 unfoldable pub isQuick : Bool → ℕ → Message → Bool
-isQuick ready quiet (Open o) = ready
-isQuick ready quiet (Ask c) = not ready || (isSmall (c .action) && ltb (c .today) quiet)
-isQuick ready quiet Unreadable = true
+isQuick ready quiet (Message.Open o) = ready
+isQuick ready quiet (Message.Ask c) = not ready || (isSmall (c .action) && ltb (c .today) quiet)
+isQuick ready quiet Message.Unreadable = true
 
 -- The place of the point that a message names; the first where it names none.
 abbrev pub placeIn : Action → ℕ
-placeIn (SignContract s) = 0
-placeIn (Failure s) = 0
-placeIn (At p a) = cond (notPoint p) 0 (p - 1)
-placeIn Day = 0
+placeIn (Action.SignContract s) = 0
+placeIn (Action.Failure s) = 0
+placeIn (Action.At p a) = cond (notPoint p) 0 (p - 1)
+placeIn Action.Day = 0
 
 unfoldable pub placeOf : Message → ℕ
-placeOf (Open o) = 0
-placeOf (Ask c) = placeIn (c .action)
-placeOf Unreadable = 0
+placeOf (Message.Open o) = 0
+placeOf (Message.Ask c) = placeIn (c .action)
+placeOf Message.Unreadable = 0
 
 -- The place of the supplier that a call puts under contract; 0, which is no supplier, where it puts none.
 abbrev pub supplierIn : Action → ℕ
-supplierIn (SignContract s) = cond (notSupplier s) 0 s
-supplierIn (Failure s) = 0
-supplierIn (At p a) = 0
-supplierIn Day = 0
+supplierIn (Action.SignContract s) = cond (notSupplier s) 0 s
+supplierIn (Action.Failure s) = 0
+supplierIn (Action.At p a) = 0
+supplierIn Action.Day = 0
 
 unfoldable pub supplierOf : Message → ℕ
-supplierOf (Open o) = 0
-supplierOf (Ask c) = supplierIn (c .action)
-supplierOf Unreadable = 0
+supplierOf (Message.Open o) = 0
+supplierOf (Message.Ask c) = supplierIn (c .action)
+supplierOf Message.Unreadable = 0
 
 -- That place after the answer, where it held b.
 abbrev pub signsIn : Action → Answer → Bool → Bool
-signsIn (SignContract s) a b = isAccepted a || b
-signsIn (Failure s) a b = b
-signsIn (At p x) a b = b
-signsIn Day a b = b
+signsIn (Action.SignContract s) a b = isAccepted a || b
+signsIn (Action.Failure s) a b = b
+signsIn (Action.At p x) a b = b
+signsIn Action.Day a b = b
 
 unfoldable pub signedAfter : Message → Answer → Bool → Bool
-signedAfter (Open o) a b = b
-signedAfter (Ask c) a b = signsIn (c .action) a b
-signedAfter Unreadable a b = b
+signedAfter (Message.Open o) a b = b
+signedAfter (Message.Ask c) a b = signsIn (c .action) a b
+signedAfter Message.Unreadable a b = b
 
 abbrev pub dayBy : ℕ → ℕ → Answer → ℕ
 dayBy day t a = cond (isAccepted a && leb t lastDay) t day
 
 -- The register's day after the answer.
 unfoldable pub dayAfter : ℕ → Message → Answer → ℕ
-dayAfter day (Open o) a = day
-dayAfter day (Ask c) a = dayBy day (c .today) a
-dayAfter day Unreadable a = day
+dayAfter day (Message.Open o) a = day
+dayAfter day (Message.Ask c) a = dayBy day (c .today) a
+dayAfter day Message.Unreadable a = day

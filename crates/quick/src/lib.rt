@@ -11,7 +11,8 @@ use rules::Supply;
 use rules::SupplyKind;
 ghost use mathlib.Core.Path.{_≡_};
 ghost use Prim.Native.Nat.{min};
-ghost use Rattle.quick.specs.Quick.{dueDay, firstDue, kindEnds, requestFalls, isSmall, isQuick, placeIn, placeOf, supplierIn, supplierOf, signsIn, signedAfter, dayBy, dayAfter};
+ghost use Rattle.quick.specs.Quick.{dueDay, firstDue, kindEnds, requestFalls, isSmall, isQuick, placeIn};
+ghost use Rattle.quick.specs.Quick.{placeOf, supplierIn, supplierOf, signsIn, signedAfter, dayBy, dayAfter};
 
 // The first day past the calendar: nothing falls due on it.
 const NEVER: u32 = 73049;

@@ -4,10 +4,7 @@ use mathlib.Core.Path.{_≡_, refl, ap, _∙_}
 use mathlib.Core.List.{List}
 use native.Mathlib.Omega.{arith}
 use borrow.Author.Tests.{le-leb}
-use Rattle.dates.specs.declared.Date.{Date}
-use Rattle.dates.specs.declared.DayAnswer.{DayAnswer}
-use Rattle.dates.specs.declared.DayAnswer.the-variants.{Day, NoDate}
-use Rattle.dates.specs.declared.DateAnswer.the-variants.{On}
+use Rattle.dates.specs.declared.{Date.Date, DayAnswer.DayAnswer, DateAnswer.DateAnswer}
 use Rattle.dates.specs.Dates.{lastDay, leapRow, date, dateOf}
 use Rattle.dates.specs.Numbers.{dayAnswer, dateAnswer}
 use Rattle.dates.proofs.Months.{row-is, length-bounds}
@@ -20,7 +17,7 @@ use Rattle.reading.specs.Days.{andThen, dayRead, dayIn}
 use Rattle.reading.proofs.Fixed.{fixed-back, fixed-only}
 
 -- the text of a day of the calendar is that of its date
-pub on-calendar : (n : ℕ) → n ≤ lastDay → dateAnswer n ≡ On (dateOf n)
+pub on-calendar : (n : ℕ) → n ≤ lastDay → dateAnswer n ≡ DateAnswer.On (dateOf n)
 unfolding dateAnswer
 on-calendar n h = rw (le-leb n lastDay h)
 
@@ -55,11 +52,11 @@ module _ (n : ℕ) (l r : List ℕ) where
       fixedOf 2 0 l₂ ≡ number d l₃ → dayRead (dayAnswer y m d) l₃ ≡ number n r → (l ≡ dayText n r) × (n ≤ lastDay)
   date-was y m d l₁ l₂ l₃ ey em ed e = go (dayAnswer y m d) refl e where
     go : (a : DayAnswer) → dayAnswer y m d ≡ a → dayRead a l₃ ≡ number n r → (l ≡ dayText n r) × (n ≤ lastDay)
-    go NoDate p q = absurd (let z : _≡_ {A = ℕ} 0 1 = cc in omega arith)
-    go (Day k) p q =
+    go DayAnswer.NoDate p q = absurd (let z : _≡_ {A = ℕ} 0 1 = cc in omega arith)
+    go (DayAnswer.Day k) p q =
         let same : k ≡ n = cc in
         let rest : l₃ ≡ r = cc in
-        let has = one-to-one .day-has-date y m d n (p ∙ ap Day same) in
+        let has = one-to-one .day-has-date y m d n (p ∙ ap DayAnswer.Day same) in
         let text : dayText n r ≡ dateText (date y m d) r = rw (on-calendar n (has .0), has .1) in (
           fixed-only 4 y l l₁ ey .0 ∙ ap (fixed 4 y) (fixed-only 2 m l₁ l₂ em .0 ∙ ap (fixed 2 m) (fixed-only 2 d l₂ l₃ ed .0)) ∙
               rw (rest, text),

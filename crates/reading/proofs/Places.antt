@@ -7,11 +7,9 @@ use native.Mathlib.Omega.{arith}
 use lib.Dec.{ltb, eqb}
 use lib.ListN.{length, drop, length-append, length-drop}
 use lib.Seq.{drop-drop, drop-at}
-use Rattle.dates.specs.declared.DayAnswer.{DayAnswer}
-use Rattle.dates.specs.declared.DayAnswer.the-variants.{Day, NoDate}
+use Rattle.dates.specs.declared.{DayAnswer.DayAnswer}
 use Rattle.dates.specs.Numbers.{dayAnswer}
-use Rattle.reading.specs.declared.Field.{Field}
-use Rattle.reading.specs.declared.Field.the-variants.{Value, Bad}
+use Rattle.reading.specs.declared.{Field.Field}
 use Rattle.reading.specs.Numbers.{Read, number, bad, isDigit, moreOf, numberOf, fixedOf, fieldAt, numberAt}
 use Rattle.reading.specs.Days.{andThen, dayRead, dayIn}
 
@@ -81,8 +79,8 @@ fixed-leaves (suc k) v (c ∷ l) = go (fixed-leaves k (v * 10 + (c - 48)) l) (is
   go ih false = tt
 
 answer-leaves : (a : DayAnswer) (l : List ℕ) → Leaves l (dayRead a l)
-answer-leaves (Day n) l = ends-self l
-answer-leaves NoDate l = tt
+answer-leaves (DayAnswer.Day n) l = ends-self l
+answer-leaves DayAnswer.NoDate l = tt
 
 pub day-leaves : (l : List ℕ) → Leaves l (dayIn l)
 unfolding dayIn
@@ -115,14 +113,14 @@ end-place s at r e =
 
 -- what is handed back: a value and the position behind it, or none
 pub field-value : (s : List ℕ) (at i v : ℕ) (x : Read) → x ≡ number v (drop i s) → Within s at i →
-    Value v i ≡ fieldAt at (drop at s) x
-field-value s at i v x e w = ap (Value v) (sym (place s at i w)) ∙ ap (fieldAt at (drop at s)) (sym e)
+    Field.Value v i ≡ fieldAt at (drop at s) x
+field-value s at i v x e w = ap (Field.Value v) (sym (place s at i w)) ∙ ap (fieldAt at (drop at s)) (sym e)
 
-pub field-bad : (s : List ℕ) (at : ℕ) (x : Read) → x ≡ bad → Bad ≡ fieldAt at (drop at s) x
+pub field-bad : (s : List ℕ) (at : ℕ) (x : Read) → x ≡ bad → Field.Bad ≡ fieldAt at (drop at s) x
 field-bad s at x e = ap (fieldAt at (drop at s)) (sym e)
 
 -- and what was read, from what is handed back
-value-was : (s : List ℕ) (at i v : ℕ) (x : Read) → Leaves (drop at s) x → fieldAt at (drop at s) x ≡ Value v i →
+value-was : (s : List ℕ) (at i v : ℕ) (x : Read) → Leaves (drop at s) x → fieldAt at (drop at s) x ≡ Field.Value v i →
     (x ≡ number v (drop i s)) × Within s at i
 value-was s at i v (number n r) e p =
     let same : n ≡ v = cc in
@@ -131,17 +129,17 @@ value-was s at i v (number n r) e p =
     (ap (λ (m : ℕ). number m r) same ∙ ap (number v) (sym (w .0) ∙ ap (λ (j : ℕ). drop j s) there), rw there at (w .1))
 value-was s at i v bad e p = absurd (let z : _≡_ {A = ℕ} 0 1 = cc in omega arith)
 
-bad-was : (at : ℕ) (l : List ℕ) (x : Read) → fieldAt at l x ≡ Bad → x ≡ bad
+bad-was : (at : ℕ) (l : List ℕ) (x : Read) → fieldAt at l x ≡ Field.Bad → x ≡ bad
 bad-was at l (number n r) p = absurd (let z : _≡_ {A = ℕ} 0 1 = cc in omega arith)
 bad-was at l bad p = refl
 
 pub fixed-was : (k : ℕ) (s : List ℕ) (at i v : ℕ) (f : Field) → f ≡ fieldAt at (drop at s) (fixedOf k 0 (drop at s)) →
-    f ≡ Value v i → (fixedOf k 0 (drop at s) ≡ number v (drop i s)) × Within s at i
+    f ≡ Field.Value v i → (fixedOf k 0 (drop at s) ≡ number v (drop i s)) × Within s at i
 fixed-was k s at i v f e p =
     value-was s at i v (fixedOf k 0 (drop at s)) (fixed-leaves k 0 (drop at s)) (sym e ∙ p)
 
 pub fixed-was-bad : (k : ℕ) (s : List ℕ) (at : ℕ) (f : Field) → f ≡ fieldAt at (drop at s) (fixedOf k 0 (drop at s)) →
-    f ≡ Bad → fixedOf k 0 (drop at s) ≡ bad
+    f ≡ Field.Bad → fixedOf k 0 (drop at s) ≡ bad
 fixed-was-bad k s at f e p = bad-was at (drop at s) (fixedOf k 0 (drop at s)) (sym e ∙ p)
 
 -- what is read behind one byte more
@@ -151,7 +149,7 @@ field-step s at (number v r) h e =
     let short = ends-short (drop (at + 1) s) r e in
     let here = length-drop at s in
     let there = length-drop (at + 1) s in
-    ap (Value v) (omega arith)
+    ap (Field.Value v) (omega arith)
 field-step s at bad h e = refl
 
 pub number-field : (s : List ℕ) (at v : ℕ) (f : Field) → at < length s →

@@ -10,7 +10,7 @@ use lib.Dec.{eqb}
 use lib.ListN.{length, drop, getD, drop-of-length-le}
 use lib.Seq.{drop-cons}
 use borrow.Author.Tests.{lt-ltb, le-ltb, le-leb, lt-leb, eqb-true, eq-eqb, ne-eqb}
-use Rattle.dates.specs.declared.DayAnswer.{DayAnswer}
+use Rattle.dates.specs.declared.{DayAnswer.DayAnswer}
 use Rattle.dates.specs.Numbers.{dayAnswer}
 use Rattle.dates.proofs.Every.{and-left, and-right}
 use Rattle.reading.specs.Words.{isSame}

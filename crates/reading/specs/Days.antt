@@ -2,10 +2,9 @@
 use Prim.Native.Nat.{ℕ}
 use mathlib.Core.List.{List}
 use lib.ListN.{drop}
-use Rattle.dates.specs.declared.DayAnswer.{DayAnswer}
-use Rattle.dates.specs.declared.DayAnswer.the-variants.{Day, NoDate}
+use Rattle.dates.specs.declared.{DayAnswer.DayAnswer}
 use Rattle.dates.specs.Numbers.{dayAnswer}
-use Rattle.reading.specs.declared.Field.{Field}
+use Rattle.reading.specs.declared.{Field.Field}
 use Rattle.reading.specs.Numbers.{fixedOf, Read, number, bad, fieldAt}
 
 -- Reading one thing after another.
@@ -14,8 +13,8 @@ andThen (number n l) f = f n l
 andThen bad f = bad
 
 abbrev pub dayRead : DayAnswer → List ℕ → Read
-dayRead (Day n) l = number n l
-dayRead NoDate l = bad
+dayRead (DayAnswer.Day n) l = number n l
+dayRead DayAnswer.NoDate l = bad
 
 -- The day of the date that a text begins with.
 unfoldable pub dayIn : List ℕ → Read

@@ -4,8 +4,7 @@ use mathlib.Core.Bool.{Bool, cond, _&&_}
 use mathlib.Core.List.{List, [], _∷_}
 use lib.Dec.{ltb, leb, eqb}
 use lib.ListN.{length, drop}
-use Rattle.reading.specs.declared.Field.{Field}
-use Rattle.reading.specs.declared.Field.the-variants.{Value, Bad}
+use Rattle.reading.specs.declared.{Field.Field}
 
 -- What a text begins with: a number and what follows it, or none.
 pub data Read : Type 0 where
@@ -35,8 +34,8 @@ fixedOf (suc k) v (c ∷ l) = cond (isDigit c) (fixedOf k (v * 10 + (c - 48)) l)
 -- What the code hands back of what is read from a position on, l being the text from there on: the value, and the
 -- position behind it, as many bytes on as were read.
 abbrev pub fieldAt : ℕ → List ℕ → Read → Field
-fieldAt at l (number v rest) = Value v (at + (length l - length rest))
-fieldAt at l bad = Bad
+fieldAt at l (number v rest) = Field.Value v (at + (length l - length rest))
+fieldAt at l bad = Field.Bad
 
 -- The number at a position of a text.
 abbrev pub numberAt : List ℕ → ℕ → Field

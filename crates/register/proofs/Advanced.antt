@@ -3,14 +3,11 @@ use mathlib.Core.Path.{_≡_, refl, sym, _∙_, ap, fun-ext}
 use mathlib.Core.Bool.{Bool, true, false, cond}
 use mathlib.Core.List.{List, map}
 use Prim.Native.Nat.{ℕ, _-_, _≤_, _<_}
-use native.Mathlib.Omega.{arith}
-use lib.Dec.{eqb, leb}
+use lib.Dec.{leb}
 use lib.ListN.{getD, List·getD-map}
 use borrow.Author.Tests.{le-leb, lt-leb, eq-eqb, ne-eqb}
 use Rattle.dates.specs.Dates.{lastDay}
-use Rattle.rules.specs.declared.Point.{Point}
-use Rattle.rules.specs.declared.Register.{Register}
-use Rattle.rules.specs.declared.Settings.{Settings}
+use Rattle.rules.specs.declared.{Point.Point, Register.Register, Settings.Settings}
 use Rattle.rules.specs.Register.{catchUp, nextEvent, dueBy, expiryBy, happened, register, pointAt, noPoint, advanced}
 use Rattle.point.specs.Turn.{caughtUp}
 use Rattle.register.specs.Calls.{advancedTo}

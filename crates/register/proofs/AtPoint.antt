@@ -1,26 +1,22 @@
 -- A call that names a point, on the whole register: the answer is that of the point as the call finds it, and the register after an
 -- accepted call has that point stored.
-use mathlib.Core.Path.{_≡_, refl, sym, _∙_, ap}
+use mathlib.Core.Path.{_≡_, refl, _∙_, ap}
 use mathlib.Core.Bool.{Bool, true, false, cond}
-use mathlib.Core.List.{List, map}
-use Prim.Native.Nat.{ℕ, _-_, _≤_, _<_}
+use mathlib.Core.List.{map}
+use Prim.Native.Nat.{ℕ, _-_, _≤_}
 use native.Mathlib.Omega.{arith}
 use native.Mathlib.Decide.{decLe}
-use lib.Dec.{eqb, leb, ltb}
+use lib.Dec.{eqb, leb}
 use lib.ListN.{set}
 use borrow.Author.Tests.{le-leb, lt-ltb, le-ltb}
 use Rattle.dates.specs.Dates.{lastDay}
-use Rattle.rules.specs.declared.Point.{Point}
-use Rattle.rules.specs.declared.Register.{Register}
-use Rattle.rules.specs.declared.Outcome.{Outcome}
-use Rattle.rules.specs.declared.Answer.{Answer}
-use Rattle.rules.specs.declared.Action.the-variants.{At}
-use Rattle.rules.specs.declared.PointAction.{PointAction}
+use Rattle.rules.specs.declared.{Point.Point, Register.Register, Answer.Answer, Action.Action}
+use Rattle.rules.specs.declared.{PointAction.PointAction}
 use Rattle.rules.specs.Answers.{isAccepted}
 use Rattle.rules.specs.Rejections.{View, blankView, notPoint, shown, answerTo, answer}
 use Rattle.rules.specs.Register.{catchUp, startsOn, view, blankPoint, register, pointAt, advanced, says, acted, done, outcome, applied}
-use Rattle.rules.proofs.Theorem.Answered.{answer-off, answer-at, accepted-point}
-use Rattle.point.specs.declared.Ruling.{Ruling}
+use Rattle.rules.proofs.Views.{answer-off, answer-at, accepted-point}
+use Rattle.point.specs.declared.{Ruling.Ruling}
 use Rattle.point.specs.Turn.{turned}
 use Rattle.register.specs.Calls.{callAt, advancedTo, pointOn}
 
@@ -53,7 +49,7 @@ module _ (r : Register) (t p : ℕ) (a : PointAction) where
   found q = view t (pointOn t p r)
 
   abbrev ruling : Answer
-  ruling = answerTo (r .settings) (r .day) (r .contracts) t (At p a) found
+  ruling = answerTo (r .settings) (r .day) (r .contracts) t (Action.At p a) found
 
   shown-found : t ≤ lastDay → shown every p ≡ found p
   unfolding shown pointOn startsOn
@@ -67,7 +63,7 @@ module _ (r : Register) (t p : ℕ) (a : PointAction) where
   unfolding says answer
   at-says = elim (decLe t lastDay) [
     | yes h ↦ answer-at (r .settings) (r .day) (r .contracts) t p a (shown every) found (shown-found h)
-    | no h ↦ answer-off (r .settings) (r .day) (r .contracts) t (At p a) (shown every) found (lt-ltb lastDay t (omega arith))
+    | no h ↦ answer-off (r .settings) (r .day) (r .contracts) t (Action.At p a) (shown every) found (lt-ltb lastDay t (omega arith))
   ]
 
   pub at-refused : isAccepted ruling ≡ false → outcome ruling r ≡ applied r (callAt t p a)
@@ -97,7 +93,7 @@ module _ (r : Register) (t p : ℕ) (a : PointAction) where
   module _ (g : Point) (x : Ruling) (e : g ≡ pointOn t p r) (q : x ≡ turned (r .settings) (r .day) (r .contracts) t p a g) where
     answer-is : x .answer ≡ ruling
     unfolding turned
-    answer-is = ap (λ (y : Ruling). y .answer) q ∙ ap (λ (h : Point). answerTo (r .settings) (r .day) (r .contracts) t (At p a) (λ q. view t h)) e
+    answer-is = ap (λ (y : Ruling). y .answer) q ∙ ap (λ (h : Point). answerTo (r .settings) (r .day) (r .contracts) t (Action.At p a) (λ q. view t h)) e
 
     pub turn-refused : isAccepted (x .answer) ≡ false → outcome (x .answer) r ≡ applied r (callAt t p a)
     turn-refused z = rw answer-is (at-refused (rw answer-is at z))

@@ -1,19 +1,13 @@
 -- A failure on the whole register, once its first checks are passed.
-use mathlib.Core.Path.{_≡_, refl, sym, _∙_, ap, fun-ext}
-use mathlib.Core.Bool.{Bool, true, false, cond, not, _||_, _&&_}
-use mathlib.Core.List.{List, [], _∷_, map}
+use mathlib.Core.Path.{_≡_, refl, fun-ext}
+use mathlib.Core.Bool.{Bool, true, false, _||_, _&&_}
+use mathlib.Core.List.{[], _∷_}
 use Prim.Native.Nat.{ℕ, zero, suc, _+_, _≤_, _<_}
 use native.Mathlib.Omega.{arith}
-use native.Mathlib.Nat.{le-trans}
-use lib.Dec.{eqb, leb, ltb}
+use lib.Dec.{eqb, ltb}
 use borrow.Author.Tests.{le-leb, le-ltb, ltb-false, eq-eqb, ne-eqb}
 use Rattle.dates.specs.Dates.{lastDay}
-use Rattle.rules.specs.declared.Point.{Point}
-use Rattle.rules.specs.declared.Register.{Register}
-use Rattle.rules.specs.declared.Settings.{Settings}
-use Rattle.rules.specs.declared.Answer.{Answer}
-use Rattle.rules.specs.declared.Answer.the-variants.{Accepted}
-use Rattle.rules.specs.declared.Action.the-variants.{Failure}
+use Rattle.rules.specs.declared.{Register.Register, Settings.Settings, Answer.Answer, Action.Action}
 use Rattle.rules.specs.Effects.{failed}
 use Rattle.rules.specs.Rejections.{
   View,
@@ -33,7 +27,7 @@ use Rattle.rules.specs.Rejections.{
 }
 use Rattle.rules.specs.Register.{view, pointAt, advanced, says, failedPoint}
 use Rattle.rules.proofs.Accept.{neither}
-use Rattle.rules.proofs.Theorem.Answered.{shown-in}
+use Rattle.rules.proofs.Views.{shown-in}
 use Rattle.point.specs.Turn.{failureFills, failedBy}
 use Rattle.register.specs.Calls.{call}
 use Rattle.register.specs.Failure.{FailureOn}
@@ -61,8 +55,8 @@ module _ (t s : ℕ) (r : Register) (h : FailureOn t s r) where
   unfolding failureFills
   any-fills = any-ext 32 1 _ _ (λ q lo hi. rw (shown-in every q lo (omega arith)))
 
-  pub failure-says : says r (call t (Failure s))
-      ≡ firstOf ((eqb s (r .settings .default) || eqb s (r .settings .resort) ⇒ 29) ∷ (fills ⇒ 30) ∷ []) Accepted
+  pub failure-says : says r (call t (Action.Failure s))
+      ≡ firstOf ((eqb s (r .settings .default) || eqb s (r .settings .resort) ⇒ 29) ∷ (fills ⇒ 30) ∷ []) Answer.Accepted
   unfolding says answer answerTo outOfRange offCalendar rows accepted firstOf
   failure-says =
       rw (

@@ -1,11 +1,9 @@
 -- The numbers of an accepted opening are in range.
 use mathlib.Core.Path.{_≡_}
-use mathlib.Core.Bool.{true, false}
-use Prim.Native.Nat.{ℕ, _≤_}
-use lib.Dec.{ltb}
+use mathlib.Core.Bool.{true}
 use borrow.Author.Tests.{ltb-false}
 use Rattle.dates.specs.Dates.{lastDay}
-use Rattle.rules.specs.declared.Opening.{Opening}
+use Rattle.rules.specs.declared.{Opening.Opening}
 use Rattle.rules.specs.Answers.{isAccepted}
 use Rattle.rules.specs.Rejections.{openingAnswer}
 use Rattle.rules.proofs.Accept.{pass}

@@ -3,12 +3,7 @@ use mathlib.Core.Bool.{cond}
 use Prim.Native.Nat.{ℕ}
 use lib.Dec.{leb}
 use Rattle.dates.specs.Dates.{lastDay}
-use Rattle.rules.specs.declared.Point.{Point}
-use Rattle.rules.specs.declared.Register.{Register}
-use Rattle.rules.specs.declared.Call.{Call}
-use Rattle.rules.specs.declared.Action.{Action}
-use Rattle.rules.specs.declared.Action.the-variants.{At}
-use Rattle.rules.specs.declared.PointAction.{PointAction}
+use Rattle.rules.specs.declared.{Point.Point, Register.Register, Call.Call, Action.Action, PointAction.PointAction}
 use Rattle.rules.specs.Rejections.{notPoint}
 use Rattle.rules.specs.Register.{blankPoint, pointAt, advanced}
 
@@ -16,7 +11,7 @@ abbrev pub call : ℕ → Action → Call
 call t a = record { today = t; action = a }
 
 abbrev pub callAt : ℕ → ℕ → PointAction → Call
-callAt t p a = call t (At p a)
+callAt t p a = call t (Action.At p a)
 
 -- The register brought up to a day of the calendar; no call goes past its end.
 unfoldable pub advancedTo : ℕ → Register → Register

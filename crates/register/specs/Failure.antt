@@ -4,7 +4,7 @@ use mathlib.Core.Bool.{true, false}
 use Prim.Native.Nat.{ℕ, _+_, _≤_}
 use lib.ListN.{getD}
 use Rattle.dates.specs.Dates.{lastDay}
-use Rattle.rules.specs.declared.Register.{Register}
+use Rattle.rules.specs.declared.{Register.Register}
 
 pub record FailureOn (t s : ℕ) (r : Register) : Type 0 where
   pub least : 1 ≤ s

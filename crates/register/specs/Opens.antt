@@ -1,11 +1,9 @@
 -- 01, "What the register holds": the answer to an opening, and the register after it. Definitions only.
 use mathlib.Core.Bool.{false, cond}
-use Prim.Native.Nat.{ℕ, _≤_}
+use Prim.Native.Nat.{_≤_}
 use lib.ListN.{replicate}
 use Rattle.dates.specs.Dates.{lastDay}
-use Rattle.rules.specs.declared.Register.{Register}
-use Rattle.rules.specs.declared.Opening.{Opening}
-use Rattle.rules.specs.declared.Outcome.{Outcome}
+use Rattle.rules.specs.declared.{Register.Register, Opening.Opening, Outcome.Outcome}
 use Rattle.rules.specs.Answers.{isAccepted}
 use Rattle.rules.specs.Rejections.{openingAnswer}
 use Rattle.rules.specs.Register.{blankPoint, register, outcome, opened}
@@ -16,7 +14,9 @@ openedOver r o = outcome (openingAnswer o) (cond (isAccepted (openingAnswer o)) 
 
 -- What stands where no register is open: nobody is under contract, no point is enrolled, and nothing looks at it.
 unfoldable pub noRegister : Register
-noRegister = register (record { w = 0; a = 0; b = 0; default = 0; resort = 0 }) 0 (replicate 100 false) (replicate 32 blankPoint)
+noRegister =
+    register (record { w = 0; a = 0; b = 0; default = 0; resort = 0 }) 0 (replicate 100 false)
+    (replicate 32 blankPoint)
 
 -- The numbers of an opening fit the fields that keep them.
 pub record InRange (o : Opening) : Type 0 where

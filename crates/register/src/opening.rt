@@ -110,7 +110,8 @@ pub fn no_register() -> Register
     }
 }
 
-// An opening with any numbers: its answer, and the register after it. A refused one opens none: the register stays as it came.
+// An opening with any numbers: its answer, and the register after it. A refused one opens none: the register stays as
+// it came.
 pub fn open(r: Register, o: Opening) -> Outcome
     ensures { λ x. ⌜ x ≡ openedOver r o ⌝ }
 {

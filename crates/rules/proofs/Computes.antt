@@ -14,7 +14,7 @@ use Rattle.rules.specs.Opening
 use Rattle.rules.specs.Register
 use Rattle.rules.specs.Questions
 use Rattle.rules.specs.DayBook
-use Rattle.rules.specs.Demand3
+use Rattle.rules.specs.Periods
 
 unfoldable pub calendar : ℕ
 unfolding Dates.weekday Dates.leapRow Dates.monthLength Dates.next Numbers.monthStart Numbers.yearStart
@@ -59,13 +59,13 @@ unfolding DayBook.newDay DayBook.goOn DayBook.says DayBook.next DayBook.answers 
     DayBook.readings DayBook.enrolsAt DayBook.enrols DayBook.enrolments
 dayBook = 0
 
-unfoldable pub demand3 : ℕ
-unfolding Demand3.markedDays Demand3.holderOn Demand3.covering Demand3.sumDays Demand3.dailySums Demand3.total
-demand3 = 0
+unfoldable pub periods : ℕ
+unfolding Periods.markedDays Periods.holderOn Periods.covering Periods.sumDays Periods.dailySums Periods.total
+periods = 0
 
 -- The two machines alone; and all, with the dates counted on from the first.
 unfoldable pub machines : ℕ
-unfolding effects volumes rejections register questions dayBook demand3
+unfolding effects volumes rejections register questions dayBook periods
 machines = 0
 
 unfoldable pub computes : ℕ

@@ -2,7 +2,7 @@
 -- No day is counted up to.
 use mathlib.Core.Path.{_≡_, refl}
 use Prim.Native.Nat.{ℕ}
-use Rattle.dates.specs.declared.DayAnswer.the-variants.{Day}
+use Rattle.dates.specs.declared.{DayAnswer.DayAnswer}
 use Rattle.dates.specs.Dates.{date, dateOf}
 use Rattle.dates.specs.Numbers.{dayAnswer}
 use Rattle.dates.specs.Months.{threeMonthsAfter}
@@ -10,7 +10,7 @@ use Rattle.dates.proofs.OneToOne.{one-to-one}
 use Rattle.holidays.specs.Working.{workingBetween}
 use Rattle.rules.proofs.Computes.{calendar, workingDays}
 
-date-of : (y m d n : ℕ) → dayAnswer y m d ≡ Day n → dateOf n ≡ date y m d
+date-of : (y m d n : ℕ) → dayAnswer y m d ≡ DayAnswer.Day n → dateOf n ≡ date y m d
 date-of y m d n e = one-to-one .day-has-date y m d n e .1
 
 pub three-months-after-may-3 : threeMonthsAfter 7793 ≡ 7885

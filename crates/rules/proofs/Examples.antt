@@ -5,8 +5,7 @@ use mathlib.Core.Bool.{true, false}
 use Prim.Native.Nat.{ℕ}
 use lib.Dec.{ltb}
 use Rattle.dates.specs.Dates.{dateOf}
-use Rattle.rules.specs.declared.Pending.the-variants.{Request}
-use Rattle.rules.specs.declared.Answer.the-variants.{Accepted, Refused}
+use Rattle.rules.specs.declared.{Pending.Pending, Answer.Answer}
 use Rattle.rules.specs.Opening.{settingsOf}
 use Rattle.rules.specs.Rejections.{tooLate}
 use Rattle.rules.specs.Examples.{opens, cancelledOn, PExamples}
@@ -23,18 +22,18 @@ use Rattle.rules.proofs.DatesOn.{
 }
 
 -- The working days decide whether a cancel comes too late.
-in-time-on-19-may : tooLate (settingsOf (opens 7792)) 7809 (Request 6 7815) ≡ false
+in-time-on-19-may : tooLate (settingsOf (opens 7792)) 7809 (Pending.Request 6 7815) ≡ false
 in-time-on-19-may = ap (λ (n : ℕ). ltb n 2) working-days-after-19-may
 
-too-late-on-20-may : tooLate (settingsOf (opens 7792)) 7810 (Request 6 7815) ≡ true
+too-late-on-20-may : tooLate (settingsOf (opens 7792)) 7810 (Pending.Request 6 7815) ≡ true
 too-late-on-20-may = ap (λ (n : ℕ). ltb n 2) working-days-after-20-may
 
 -- The day book's answers to a request and the cancel are the register's.
-alike-on-19-may : BothAlike (opens 7792) (cancelledOn 7809 Accepted)
+alike-on-19-may : BothAlike (opens 7792) (cancelledOn 7809 Answer.Accepted)
 unfolding machines calendar dateOf
 alike-on-19-may = refl
 
-alike-on-20-may : BothAlike (opens 7792) (cancelledOn 7810 (Refused 26))
+alike-on-20-may : BothAlike (opens 7792) (cancelledOn 7810 (Answer.Refused 26))
 unfolding machines calendar dateOf
 alike-on-20-may = refl
 

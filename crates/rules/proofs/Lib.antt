@@ -1,14 +1,8 @@
 pub mod Computes
 pub mod Scenes
 pub mod DatesOn
-pub mod RowExamples
 pub mod Examples
-pub mod Shares
-pub mod Tally
-pub mod Slots
+pub mod RowExamples
 pub mod Accept
-pub mod Tied
-pub mod Step
-pub mod Run
-pub mod Theorem
+pub mod Views
 pub mod Seen

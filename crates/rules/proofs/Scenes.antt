@@ -1,7 +1,7 @@
 -- How a list with its answers is proved: the register gives them, and the day book gives the same.
 use mathlib.Core.Path.{_≡_, _∙_}
 use mathlib.Core.List.{List}
-use Rattle.rules.specs.declared.Opening.{Opening}
+use Rattle.rules.specs.declared.{Opening.Opening}
 use Rattle.rules.specs.Register
 use Rattle.rules.specs.DayBook
 use Rattle.rules.specs.Scenes.{Line, calls, said, Plays}

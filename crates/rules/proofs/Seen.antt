@@ -4,16 +4,11 @@ use mathlib.Core.Bool.{Bool, true, false, cond}
 use mathlib.Core.List.{List, map}
 use Prim.Native.Nat.{ℕ, _-_}
 use borrow.Author.Tests.{le-ltb}
-use lib.ListN.{getD, set, List·getD-map}
+use lib.ListN.{set, List·getD-map}
 use lib.Seq.{map-set-same}
 use Rattle.dates.specs.Dates.{lastDay}
-use Rattle.rules.specs.declared.Point.{Point}
-use Rattle.rules.specs.declared.Register.{Register}
-use Rattle.rules.specs.declared.Pending.{Pending}
-use Rattle.rules.specs.declared.Pending.the-variants.{Nothing, Request}
-use Rattle.rules.specs.declared.Action.{Action}
-use Rattle.rules.specs.declared.Action.the-variants.{At, Day}
-use Rattle.rules.specs.declared.PointAction.the-variants.{AskSwitch, Cancel}
+use Rattle.rules.specs.declared.{Point.Point, Register.Register, Pending.Pending, Action.Action}
+use Rattle.rules.specs.declared.{PointAction.PointAction}
 use Rattle.rules.specs.Fields.{withPending}
 use Rattle.rules.specs.Effects.{effectiveDay, effectOf}
 use Rattle.rules.specs.Volumes.{spansOf}
@@ -22,8 +17,8 @@ use Rattle.rules.specs.Rejections.{firstOf, outOfRange, offCalendar, row
 use Rattle.rules.specs.Register.{noPoint, pointAt, view, advanced, says, acted, done, applied}
 use Rattle.rules.specs.Scenes.{on}
 use Rattle.rules.specs.Questions.{holderAnswer, periodAnswer, advanceAnswer}
-use Rattle.rules.specs.Seen.{notAsked, withoutPending, SameAnswers, PendingUnseen, onlyDay, RequestUnseen}
-use Rattle.rules.proofs.Theorem.Answered.{passed}
+use Rattle.rules.specs.Seen.{notAsked, withoutPending, PendingUnseen, onlyDay, RequestUnseen}
+use Rattle.rules.proofs.Views.{passed}
 
 -- The point that stands for none has no request already.
 point-unseen : (p : ℕ) (ps : List Point) → pointAt p (map notAsked ps) ≡ notAsked (pointAt p ps)
@@ -55,16 +50,16 @@ stored-unseen : (p : ℕ) (q : Pending) (ps : List Point)
     ≡ map notAsked ps
 stored-unseen p q ps = map-set-same notAsked ps (p - 1) _ noPoint refl
 
-request-done : (r : Register) (t p s k d : ℕ) → withoutPending (done t (At p (AskSwitch s k d)) r) ≡ withoutPending r
+request-done : (r : Register) (t p s k d : ℕ) → withoutPending (done t (Action.At p (PointAction.AskSwitch s k d)) r) ≡ withoutPending r
 unfolding withoutPending done acted effectOf spansOf
-request-done r t p s k d = rw (stored-unseen p (Request s (effectiveDay t d)) (r .points))
+request-done r t p s k d = rw (stored-unseen p (Pending.Request s (effectiveDay t d)) (r .points))
 
-cancel-done : (r : Register) (t p s : ℕ) → withoutPending (done t (At p (Cancel s)) r) ≡ withoutPending r
+cancel-done : (r : Register) (t p s : ℕ) → withoutPending (done t (Action.At p (PointAction.Cancel s)) r) ≡ withoutPending r
 unfolding withoutPending done acted effectOf spansOf
-cancel-done r t p s = rw (stored-unseen p Nothing (r .points))
+cancel-done r t p s = rw (stored-unseen p Pending.Nothing (r .points))
 
 -- Where a call on a day is accepted, so is the day alone.
-day-accepted : (r : Register) (t : ℕ) (a : Action) → isAccepted (says r (on t a)) ≡ true → isAccepted (says r (on t Day)) ≡ true
+day-accepted : (r : Register) (t : ℕ) (a : Action) → isAccepted (says r (on t a)) ≡ true → isAccepted (says r (on t Action.Day)) ≡ true
 unfolding says answer answerTo firstOf outOfRange offCalendar rows accepted
 day-accepted r t a ok =
     let w = passed (r .settings) (r .day) (r .contracts) t a (shown (λ p. view t (pointAt p (advanced t r .points)))) ok in
@@ -78,7 +73,7 @@ applied-unseen r t a e = go (isAccepted (says r (on t a))) refl
   where
     go : (b : Bool) → isAccepted (says r (on t a)) ≡ b
         → withoutPending (cond b (done t a (advanced t r)) r)
-        ≡ withoutPending (cond b (cond (isAccepted (says r (on t Day))) (done t Day (advanced t r)) r) r)
+        ≡ withoutPending (cond b (cond (isAccepted (says r (on t Action.Day))) (done t Action.Day (advanced t r)) r) r)
     go true ok = rw (day-accepted r t a ok) e
     go false ok = refl
 
@@ -86,6 +81,6 @@ pub request-unseen : RequestUnseen
 request-unseen =
     record {
       request = λ r t p s k d. pending-unseen _ _
-          (applied-unseen r t (At p (AskSwitch s k d)) (request-done (advanced t r) t p s k d));
-      cancel = λ r t p s. pending-unseen _ _ (applied-unseen r t (At p (Cancel s)) (cancel-done (advanced t r) t p s));
+          (applied-unseen r t (Action.At p (PointAction.AskSwitch s k d)) (request-done (advanced t r) t p s k d));
+      cancel = λ r t p s. pending-unseen _ _ (applied-unseen r t (Action.At p (PointAction.Cancel s)) (cancel-done (advanced t r) t p s));
     }

@@ -12,26 +12,8 @@ use mathlib.Core.List.{List, [], _∷_, _++_}
 use Prim.Native.Nat.{ℕ, zero, suc, _-_}
 use lib.Dec.{eqb}
 use lib.ListN.{set}
-use Rattle.rules.specs.declared.Fields.{Fields}
-use Rattle.rules.specs.declared.Settings.{Settings}
-use Rattle.rules.specs.declared.Span.{Span}
-use Rattle.rules.specs.declared.Opening.{Opening}
-use Rattle.rules.specs.declared.Call.{Call}
-use Rattle.rules.specs.declared.Action.{Action}
-use Rattle.rules.specs.declared.Action.the-variants.{SignContract, Failure, At, Day}
-use Rattle.rules.specs.declared.PointAction.{PointAction}
-use Rattle.rules.specs.declared.PointAction.the-variants.{
-  Enrol,
-  IntoService,
-  DefaultSupply,
-  AskSwitch,
-  Cancel,
-  Read,
-  ChangeMeter,
-  OutOfService,
-  Suspend,
-}
-use Rattle.rules.specs.declared.Answer.{Answer}
+use Rattle.rules.specs.declared.{Fields.Fields, Settings.Settings, Span.Span, Opening.Opening, Call.Call}
+use Rattle.rules.specs.declared.{Action.Action, PointAction.PointAction, Answer.Answer}
 use Rattle.rules.specs.Fields.{blank}
 use Rattle.rules.specs.Effects.{Effect, keep, name, event, effect}
 use Rattle.rules.specs.Volumes.{spans}
@@ -101,10 +83,10 @@ says b c = answer (b .settings) (b .day) (b .contracts) c (λ p. look (upToDay (
 
 -- 1: "s is under contract"; 2: "s loses its contract"
 abbrev pub signed : Action → List Bool → List Bool
-signed (SignContract s) u = set u s true
-signed (Failure s) u = set u s false
-signed (At p a) u = u
-signed Day u = u
+signed (Action.SignContract s) u = set u s true
+signed (Action.Failure s) u = set u s false
+signed (Action.At p a) u = u
+signed Action.Day u = u
 
 -- "Then the call."
 abbrev pub entered : Call → Book → Book
@@ -147,21 +129,21 @@ readings b (c ∷ cs) p =
 
 -- "A point's enrolment is the day of its accepted call 3."
 unfoldable pub enrolsAt : PointAction → Bool
-enrolsAt (Enrol b a x) = true
-enrolsAt (IntoService s k) = false
-enrolsAt (DefaultSupply k) = false
-enrolsAt (AskSwitch s k r) = false
-enrolsAt (Cancel s) = false
-enrolsAt (Read d x z) = false
-enrolsAt (ChangeMeter x z b a y) = false
-enrolsAt OutOfService = false
-enrolsAt (Suspend m) = false
+enrolsAt (PointAction.Enrol b a x) = true
+enrolsAt (PointAction.IntoService s k) = false
+enrolsAt (PointAction.DefaultSupply k) = false
+enrolsAt (PointAction.AskSwitch s k r) = false
+enrolsAt (PointAction.Cancel s) = false
+enrolsAt (PointAction.Read d x z) = false
+enrolsAt (PointAction.ChangeMeter x z b a y) = false
+enrolsAt PointAction.OutOfService = false
+enrolsAt (PointAction.Suspend m) = false
 
 unfoldable pub enrols : Action → ℕ → Bool
-enrols (SignContract s) p = false
-enrols (Failure s) p = false
-enrols (At q a) p = cond (eqb p q) (enrolsAt a) false
-enrols Day p = false
+enrols (Action.SignContract s) p = false
+enrols (Action.Failure s) p = false
+enrols (Action.At q a) p = cond (eqb p q) (enrolsAt a) false
+enrols Action.Day p = false
 
 -- The days of the accepted enrolments of point p.
 unfoldable pub enrolments : Book → List Call → ℕ → List ℕ

@@ -2,38 +2,24 @@
 -- it; the sample input of "Message lines"; and the right result beside each mistake seen. proofs/Examples.antt proves
 -- it. Definitions only.
 use mathlib.Core.Path.{_≡_}
-use mathlib.Core.Bool.{Bool, true, false}
+use mathlib.Core.Bool.{true, false}
 use mathlib.Core.List.{List, [], _∷_, _++_}
 use Prim.Native.Nat.{ℕ, _+_}
-use Rattle.dates.specs.declared.DayAnswer.the-variants.{Day, NoDate}
-use Rattle.dates.specs.declared.DateAnswer.the-variants.{On}
+use Rattle.dates.specs.declared.{DayAnswer.DayAnswer, DateAnswer.DateAnswer}
 use Rattle.dates.specs.Dates.{date}
 use Rattle.dates.specs.Numbers.{dayAnswer, dateAnswer}
 use Rattle.dates.specs.Months.{threeMonthsAfter}
 use Rattle.holidays.specs.Easter.{monthDay, easterSunday, easterDay}
 use Rattle.holidays.specs.Holidays.{isFixedHoliday, isAfterEaster}
 use Rattle.holidays.specs.Working.{isWorking, workingBetween}
-use Rattle.rules.specs.declared.Span.{Span}
-use Rattle.rules.specs.declared.Opening.{Opening}
-use Rattle.rules.specs.declared.Pending.the-variants.{Request}
-use Rattle.rules.specs.declared.Action.the-variants.{SignContract, At}
+use Rattle.rules.specs.declared.{Span.Span, Opening.Opening, Pending.Pending, Action.Action}
+use Rattle.rules.specs.declared.{PointAction.PointAction, Answer.Answer}
 use Rattle.rules.specs.declared.Action.the-variants as action
-use Rattle.rules.specs.declared.PointAction.the-variants.{
-  Enrol,
-  IntoService,
-  DefaultSupply,
-  AskSwitch,
-  Cancel,
-  Read,
-  OutOfService,
-}
-use Rattle.rules.specs.declared.Answer.{Answer}
-use Rattle.rules.specs.declared.Answer.the-variants.{Accepted, AcceptedOn, Refused, RefusedUntil}
 use Rattle.rules.specs.Volumes.{dayVolume}
 use Rattle.rules.specs.Opening.{settingsOf}
 use Rattle.rules.specs.Rejections.{openingAnswer, tooLate}
 use Rattle.rules.specs.Register.{period}
-use Rattle.rules.specs.Demand3.{sumDays}
+use Rattle.rules.specs.Periods.{sumDays}
 use Rattle.rules.specs.Scenes.{Line, _gives_, opening, on, Plays, Shows}
 
 -- W = 2, A = 30, B = 40; 1 is the default supplier, 2 the last-resort supplier.
@@ -43,39 +29,42 @@ opens d = opening d 2 30 40 1 2
 -- Point 1, enrolled and taken into service with supplier 5 on day d.
 abbrev served : ℕ → List Line
 served d =
-    on d (SignContract 5) gives Accepted ∷ on d (SignContract 6) gives Accepted ∷
-    on d (At 1 (Enrol 3 0 990)) gives Accepted ∷
-    on d (At 1 (IntoService 5 77)) gives Accepted ∷ []
+    on d (Action.SignContract 5) gives Answer.Accepted ∷ on d (Action.SignContract 6) gives Answer.Accepted ∷
+    on d (Action.At 1 (PointAction.Enrol 3 0 990)) gives Answer.Accepted ∷
+    on d (Action.At 1 (PointAction.IntoService 5 77)) gives Answer.Accepted ∷ []
 
 -- A request of supplier 6 there on 1 June 2021 (7,822), which asks for day r.
 abbrev requestFor : ℕ → Answer → List Line
-requestFor r a = served 7820 ++ (on 7822 (At 1 (AskSwitch 6 77 r)) gives a ∷ [])
+requestFor r a = served 7820 ++ (on 7822 (Action.At 1 (PointAction.AskSwitch 6 77 r)) gives a ∷ [])
 
 -- A request of supplier 6 on 3 May 2021 for 25 May.
 abbrev pub asked : List Line
-asked = served 7792 ++ (on 7793 (At 1 (AskSwitch 6 77 7815)) gives AcceptedOn 7815 ∷ [])
+asked = served 7792 ++ (on 7793 (Action.At 1 (PointAction.AskSwitch 6 77 7815)) gives Answer.AcceptedOn 7815 ∷ [])
 
 abbrev pub cancelledOn : ℕ → Answer → List Line
-cancelledOn t a = asked ++ (on t (At 1 (Cancel 6)) gives a ∷ [])
+cancelledOn t a = asked ++ (on t (Action.At 1 (PointAction.Cancel 6)) gives a ∷ [])
 
 -- Point 1, enrolled and taken over by the default supplier on day 8,000.
 abbrev defaulted : List Line
 defaulted =
-    on 8000 (SignContract 5) gives Accepted ∷ on 8000 (At 1 (Enrol 3 0 990)) gives Accepted ∷
-    on 8000 (At 1 (DefaultSupply 77)) gives Accepted ∷ []
+    on 8000 (Action.SignContract 5) gives Answer.Accepted ∷
+    on 8000 (Action.At 1 (PointAction.Enrol 3 0 990)) gives Answer.Accepted ∷
+    on 8000 (Action.At 1 (PointAction.DefaultSupply 77)) gives Answer.Accepted ∷ []
 
 -- What follows the default on 8,000: a day, or a request of supplier 5.
 abbrev thenDay : ℕ → List Line
-thenDay t = defaulted ++ (on t action.Day gives Accepted ∷ [])
+thenDay t = defaulted ++ (on t action.Day gives Answer.Accepted ∷ [])
 
 abbrev thenRequest : ℕ → Answer → List Line
-thenRequest t a = defaulted ++ (on t (At 1 (AskSwitch 5 77 t)) gives a ∷ [])
+thenRequest t a = defaulted ++ (on t (Action.At 1 (PointAction.AskSwitch 5 77 t)) gives a ∷ [])
 
 -- A meter with three wheels after the comma, so that U = 1; 7 units in 10 days, and a new holder on the day k = 3.
 abbrev sevenInTen : List Line
 sevenInTen =
-    on 8000 (SignContract 5) gives Accepted ∷ on 8000 (At 1 (Enrol 4 3 100)) gives Accepted ∷
-    on 8003 (At 1 (IntoService 5 77)) gives Accepted ∷ on 8010 (At 1 (Read 8010 107 0)) gives Accepted ∷ []
+    on 8000 (Action.SignContract 5) gives Answer.Accepted ∷
+    on 8000 (Action.At 1 (PointAction.Enrol 4 3 100)) gives Answer.Accepted ∷
+    on 8003 (Action.At 1 (PointAction.IntoService 5 77)) gives Answer.Accepted ∷
+    on 8010 (Action.At 1 (PointAction.Read 8010 107 0)) gives Answer.Accepted ∷ []
 
 abbrev sevenSpan : Span
 sevenSpan = record { from = 8000; to = 8010; advance = 7; unit = 1 }
@@ -83,50 +72,52 @@ sevenSpan = record { from = 8000; to = 8010; advance = 7; unit = 1 }
 -- The sample input, from its second line on.
 abbrev sample : List Line
 sample =
-    on 7671 (SignContract 5) gives Accepted ∷ on 7671 (At 1 (Enrol 3 0 990)) gives Accepted ∷
-    on 7674 (At 1 (IntoService 5 77)) gives Accepted ∷ on 7674 (At 1 (DefaultSupply 77)) gives Refused 24 ∷
-    on 7684 (At 1 (Read 7684 10 1)) gives Accepted ∷ []
+    on 7671 (Action.SignContract 5) gives Answer.Accepted ∷
+    on 7671 (Action.At 1 (PointAction.Enrol 3 0 990)) gives Answer.Accepted ∷
+    on 7674 (Action.At 1 (PointAction.IntoService 5 77)) gives Answer.Accepted ∷
+    on 7674 (Action.At 1 (PointAction.DefaultSupply 77)) gives Answer.Refused 24 ∷
+    on 7684 (Action.At 1 (PointAction.Read 7684 10 1)) gives Answer.Accepted ∷ []
 
 pub record PExamples : Type 0 where
   -- "29 February 2020 is 7,364; there is no 29 February 2100."
-  pub february-29-2020 : dayAnswer 2020 2 29 ≡ Day 7364
-  pub day-7364 : dateAnswer 7364 ≡ On (date 2020 2 29)
-  pub no-february-29-2100 : dayAnswer 2100 2 29 ≡ NoDate
-  pub february-28-2100 : dayAnswer 2100 2 28 ≡ Day 36583
-  pub march-1-2100 : dayAnswer 2100 3 1 ≡ Day 36584
+  pub february-29-2020 : dayAnswer 2020 2 29 ≡ DayAnswer.Day 7364
+  pub day-7364 : dateAnswer 7364 ≡ DateAnswer.On (date 2020 2 29)
+  pub no-february-29-2100 : dayAnswer 2100 2 29 ≡ DayAnswer.NoDate
+  pub february-28-2100 : dayAnswer 2100 2 28 ≡ DayAnswer.Day 36583
+  pub march-1-2100 : dayAnswer 2100 3 1 ≡ DayAnswer.Day 36584
   -- "Easter 2021 is 4 April, day 7,764. In 2008 Ascension is 1 May."
   pub easter-2021 : easterSunday 2021 ≡ monthDay 4 4
-  pub easter-2021-day : easterDay 2021 ≡ Day 7764
-  pub easter-2008-day : easterDay 2008 ≡ Day 3004
-  pub ascension-2008 : dateAnswer (3004 + 39) ≡ On (date 2008 5 1)
+  pub easter-2021-day : easterDay 2021 ≡ DayAnswer.Day 7764
+  pub easter-2008-day : easterDay 2008 ≡ DayAnswer.Day 3004
+  pub ascension-2008 : dateAnswer (3004 + 39) ≡ DateAnswer.On (date 2008 5 1)
   -- so 1 May 2008, a Thursday, is a holiday twice over and no working day; the Friday after it is one
   pub ascension-2008-after-easter : isAfterEaster 3043 (easterDay 2008) ≡ true
   pub may-1-2008-fixed : isFixedHoliday (date 2008 5 1) ≡ true
   pub may-1-2008-not-working : isWorking 3043 ≡ false
   pub may-2-2008-working : isWorking 3044 ≡ true
   -- "Request on 1 June 2021 (7,822): r = 7,843 and r = 7,842 both give e = 7,843."
-  pub june-1-2021 : dayAnswer 2021 6 1 ≡ Day 7822
-  pub request-for-7843 : Plays (opens 7820) (requestFor 7843 (AcceptedOn 7843))
-  pub request-for-7842 : Plays (opens 7820) (requestFor 7842 (AcceptedOn 7843))
-  pub request-for-7844 : Plays (opens 7820) (requestFor 7844 (AcceptedOn 7844))
+  pub june-1-2021 : dayAnswer 2021 6 1 ≡ DayAnswer.Day 7822
+  pub request-for-7843 : Plays (opens 7820) (requestFor 7843 (Answer.AcceptedOn 7843))
+  pub request-for-7842 : Plays (opens 7820) (requestFor 7842 (Answer.AcceptedOn 7843))
+  pub request-for-7844 : Plays (opens 7820) (requestFor 7844 (Answer.AcceptedOn 7844))
   -- "r = 7,914 (1 September) is accepted, 7,915 gets 3."
-  pub september-1-2021 : dayAnswer 2021 9 1 ≡ Day 7914
+  pub september-1-2021 : dayAnswer 2021 9 1 ≡ DayAnswer.Day 7914
   pub three-months-after-june-1 : threeMonthsAfter 7822 ≡ 7914
-  pub request-for-7914 : Plays (opens 7820) (requestFor 7914 (AcceptedOn 7914))
-  pub request-for-7915 : Plays (opens 7820) (requestFor 7915 (Refused 3))
+  pub request-for-7914 : Plays (opens 7820) (requestFor 7914 (Answer.AcceptedOn 7914))
+  pub request-for-7915 : Plays (opens 7820) (requestFor 7915 (Answer.Refused 3))
   -- "Three months after 30 November 2021 is 28 February 2022."
-  pub november-30-2021 : dayAnswer 2021 11 30 ≡ Day 8004
+  pub november-30-2021 : dayAnswer 2021 11 30 ≡ DayAnswer.Day 8004
   pub three-months-after-november-30 : threeMonthsAfter 8004 ≡ 8094
-  pub february-28-2022 : dayAnswer 2022 2 28 ≡ Day 8094
+  pub february-28-2022 : dayAnswer 2022 2 28 ≡ DayAnswer.Day 8094
   -- "W = 2, e = 25 May 2021: cancel on 19 May accepted, on 20 May 26 (24 May is Whit Monday)."
-  pub may-25-2021 : dayAnswer 2021 5 25 ≡ Day 7815
+  pub may-25-2021 : dayAnswer 2021 5 25 ≡ DayAnswer.Day 7815
   pub whit-monday-2021 : isAfterEaster 7814 (easterDay 2021) ≡ true
   pub working-days-after-19-may : workingBetween 7809 7815 ≡ 2
   pub working-days-after-20-may : workingBetween 7810 7815 ≡ 1
-  pub in-time-on-19-may : tooLate (settingsOf (opens 7792)) 7809 (Request 6 7815) ≡ false
-  pub too-late-on-20-may : tooLate (settingsOf (opens 7792)) 7810 (Request 6 7815) ≡ true
-  pub cancel-on-19-may-accepted : Plays (opens 7792) (cancelledOn 7809 Accepted)
-  pub cancel-on-20-may-too-late : Plays (opens 7792) (cancelledOn 7810 (Refused 26))
+  pub in-time-on-19-may : tooLate (settingsOf (opens 7792)) 7809 (Pending.Request 6 7815) ≡ false
+  pub too-late-on-20-may : tooLate (settingsOf (opens 7792)) 7810 (Pending.Request 6 7815) ≡ true
+  pub cancel-on-19-may-accepted : Plays (opens 7792) (cancelledOn 7809 Answer.Accepted)
+  pub cancel-on-20-may-too-late : Plays (opens 7792) (cancelledOn 7810 (Answer.Refused 26))
   -- "V = 7, D = 10, U = 1, new holder at k = 3: 2 and 5."
   pub seven-in-ten : Plays (opens 8000) sevenInTen
   pub seven-in-ten-booked : Shows (opens 8000) sevenInTen 1 (period 8000 0 2 ∷ period 8003 5 5 ∷ []) 7
@@ -137,13 +128,13 @@ pub record PExamples : Type 0 where
   pub starts-8000-8030-8070 : Shows (opens 8000) (thenDay 9000) 1
       (period 8000 1 0 ∷ period 8030 2 0 ∷ period 8070 0 0 ∷ []) 0
   -- "A request on 8,008 passes check 8; on 8,009 it gets 8 with 8,030."
-  pub request-on-8008 : Plays (opens 8000) (thenRequest 8008 (AcceptedOn 8029))
-  pub request-on-8009 : Plays (opens 8000) (thenRequest 8009 (RefusedUntil 8030))
+  pub request-on-8008 : Plays (opens 8000) (thenRequest 8008 (Answer.AcceptedOn 8029))
+  pub request-on-8009 : Plays (opens 8000) (thenRequest 8009 (Answer.RefusedUntil 8030))
   -- The sample input of "Message lines": its days, its answers and its closing lines.
-  pub january-1-2021 : dayAnswer 2021 1 1 ≡ Day 7671
-  pub january-4-2021 : dayAnswer 2021 1 4 ≡ Day 7674
-  pub january-14-2021 : dayAnswer 2021 1 14 ≡ Day 7684
-  pub sample-opening : openingAnswer (opens 7671) ≡ Accepted
+  pub january-1-2021 : dayAnswer 2021 1 1 ≡ DayAnswer.Day 7671
+  pub january-4-2021 : dayAnswer 2021 1 4 ≡ DayAnswer.Day 7674
+  pub january-14-2021 : dayAnswer 2021 1 14 ≡ DayAnswer.Day 7684
+  pub sample-opening : openingAnswer (opens 7671) ≡ Answer.Accepted
   pub sample-answers : Plays (opens 7671) sample
   pub sample-periods : Shows (opens 7671) sample 1 (period 7671 0 4000 ∷ period 7674 5 16000 ∷ []) 20000
   -- Mistakes seen: "rounding each supplier's share by itself (2 and 4 above)": 2 and 5 above, which add up to the 7
@@ -154,10 +145,11 @@ pub record PExamples : Type 0 where
   pub one-event-by-8069 : Shows (opens 8000) (thenDay 8069) 1
       (period 8000 1 0 ∷ period 8030 2 0 ∷ []) 0
   -- "reading the 21 days as working days": 7,843 above is 22 June 2021, 21 days after 1 June.
-  pub june-22-2021 : dayAnswer 2021 6 22 ≡ Day (7822 + 21)
+  pub june-22-2021 : dayAnswer 2021 6 22 ≡ DayAnswer.Day (7822 + 21)
   -- "a period of no days left by two holders on one day": there is one period for each day on which a holder was named.
   pub two-holders-on-one-day : Shows (opens 7820)
       (served 7820 ++
-      (on 7825 (At 1 OutOfService) gives Accepted ∷ on 7825 (At 1 (IntoService 6 77)) gives Accepted ∷
-      on 7830 action.Day gives Accepted ∷ [])) 1
+      (on 7825 (Action.At 1 PointAction.OutOfService) gives Answer.Accepted ∷
+      on 7825 (Action.At 1 (PointAction.IntoService 6 77)) gives Answer.Accepted ∷
+      on 7830 action.Day gives Answer.Accepted ∷ [])) 1
       (period 7820 5 0 ∷ period 7825 6 0 ∷ []) 0

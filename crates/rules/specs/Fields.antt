@@ -1,15 +1,9 @@
 -- Document 01, "What the register holds": a point's fields, which the register and the day book both keep.
 -- Each record of the types is written out once, so that a new field is added in one place. Definitions only.
-use mathlib.Core.Bool.{Bool, true, false}
+use mathlib.Core.Bool.{Bool, false}
 use Prim.Native.Nat.{ℕ}
-use Rattle.rules.specs.declared.Fields.{Fields}
-use Rattle.rules.specs.declared.Supply.{Supply}
-use Rattle.rules.specs.declared.SupplyKind.{SupplyKind}
-use Rattle.rules.specs.declared.SupplyKind.the-variants.{None}
-use Rattle.rules.specs.declared.Pending.{Pending}
-use Rattle.rules.specs.declared.Pending.the-variants.{Nothing}
-use Rattle.rules.specs.declared.Meter.{Meter}
-use Rattle.rules.specs.declared.Reading.{Reading}
+use Rattle.rules.specs.declared.{Fields.Fields, Supply.Supply, SupplyKind.SupplyKind, Pending.Pending}
+use Rattle.rules.specs.declared.{Meter.Meter, Reading.Reading}
 
 abbrev pub supply : ℕ → SupplyKind → Pending → Supply
 supply h k q = record { holder = h; kind = k; pending = q }
@@ -41,7 +35,7 @@ withReading f w r = fields (f .enrolled) (f .supply) (f .key) (f .mark) w r
 
 -- No holder but the operator's account, nothing running, nothing pending.
 abbrev pub unsupplied : Supply
-unsupplied = supply 0 None Nothing
+unsupplied = supply 0 SupplyKind.None Pending.Nothing
 
 -- A point that was never enrolled.
 abbrev pub blank : Fields

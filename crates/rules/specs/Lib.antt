@@ -7,7 +7,7 @@ pub mod Opening
 pub mod Register
 pub mod Questions
 pub mod DayBook
-pub mod Demand3
+pub mod Periods
 pub mod Scenes
 pub mod Examples
 pub mod RowExamples

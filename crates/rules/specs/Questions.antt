@@ -1,18 +1,13 @@
 -- Document 01, "Volumes": the questions, which change nothing. Definitions only.
-use mathlib.Core.Bool.{Bool, true, false, cond, not, _||_}
-use mathlib.Core.List.{List, [], _∷_}
+use mathlib.Core.Bool.{Bool, cond, not, _||_}
+use mathlib.Core.List.{List}
 use Prim.Native.Nat.{ℕ, zero, suc, _+_, _-_, _%_, _^_}
 use lib.Dec.{leb, ltb}
 use lib.ListN.{getD}
-use Rattle.rules.specs.declared.Period.{Period}
-use Rattle.rules.specs.declared.History.{History}
-use Rattle.rules.specs.declared.Point.{Point}
-use Rattle.rules.specs.declared.Register.{Register}
-use Rattle.rules.specs.declared.HolderAnswer.{HolderAnswer}
+use Rattle.rules.specs.declared.{Period.Period, History.History, Register.Register, HolderAnswer.HolderAnswer}
+use Rattle.rules.specs.declared.{PeriodAnswer.PeriodAnswer, AdvanceAnswer.AdvanceAnswer}
 use Rattle.rules.specs.declared.HolderAnswer.the-variants as holder
-use Rattle.rules.specs.declared.PeriodAnswer.{PeriodAnswer}
 use Rattle.rules.specs.declared.PeriodAnswer.the-variants as period
-use Rattle.rules.specs.declared.AdvanceAnswer.{AdvanceAnswer}
 use Rattle.rules.specs.declared.AdvanceAnswer.the-variants as advance
 use Rattle.rules.specs.Rejections.{notPoint, outside}
 use Rattle.rules.specs.Register.{noPeriod, used, pointAt}

@@ -1,6 +1,7 @@
--- Document 01, "What the register holds" and the twelve calls, as the register does them: periods in slots, caught up from event to event.
--- Total for every value of the types: a count past 24 counts as 24, a volume wraps at 2^64; on every register that calls reach neither
--- happens (Demand3). Slots beyond the count keep what they hold. Definitions only.
+-- Document 01, "What the register holds" and the twelve calls, as the register does them: periods in slots, caught up
+-- from event to event. Total for every value of the types: a count past 24 counts as 24, a volume wraps at 2^64; on
+-- every register that calls reach neither happens (Demand3). Slots beyond the count keep what they hold. Definitions
+-- only.
 --
 -- named     a holder is named on a day: a new period, or the newest replaced where it starts on that day
 -- catchUp   a point brought up to a day by the events that fell due
@@ -12,26 +13,12 @@ use mathlib.Core.List.{List, [], _∷_, map}
 use Prim.Native.Nat.{ℕ, zero, suc, _+_, _-_, _*_, _%_, _^_, min}
 use lib.Dec.{eqb, leb, ltb}
 use lib.ListN.{getD, set, replicate}
-use Rattle.rules.specs.declared.Period.{Period}
-use Rattle.rules.specs.declared.History.{History}
-use Rattle.rules.specs.declared.Point.{Point}
-use Rattle.rules.specs.declared.Register.{Register}
-use Rattle.rules.specs.declared.Settings.{Settings}
-use Rattle.rules.specs.declared.Supply.{Supply}
-use Rattle.rules.specs.declared.SupplyKind.{SupplyKind}
-use Rattle.rules.specs.declared.SupplyKind.the-variants.{None, Contract, Default, LastResort}
-use Rattle.rules.specs.declared.Pending.{Pending}
+use Rattle.rules.specs.declared.{Period.Period, History.History, Point.Point, Register.Register}
+use Rattle.rules.specs.declared.{Settings.Settings, SupplyKind.SupplyKind, Pending.Pending, Due.Due, Span.Span}
+use Rattle.rules.specs.declared.{Opening.Opening, Call.Call, Action.Action, PointAction.PointAction}
+use Rattle.rules.specs.declared.{Answer.Answer, Outcome.Outcome}
 use Rattle.rules.specs.declared.Pending.the-variants as pending
-use Rattle.rules.specs.declared.Due.{Due}
 use Rattle.rules.specs.declared.Due.the-variants as event
-use Rattle.rules.specs.declared.Span.{Span}
-use Rattle.rules.specs.declared.Opening.{Opening}
-use Rattle.rules.specs.declared.Call.{Call}
-use Rattle.rules.specs.declared.Action.{Action}
-use Rattle.rules.specs.declared.Action.the-variants.{SignContract, Failure, At, Day}
-use Rattle.rules.specs.declared.PointAction.{PointAction}
-use Rattle.rules.specs.declared.Answer.{Answer}
-use Rattle.rules.specs.declared.Outcome.{Outcome}
 use Rattle.rules.specs.Fields.{supply, withSupply, blank}
 use Rattle.rules.specs.Effects.{Effect, keep, name, effectOf, failed}
 use Rattle.rules.specs.Volumes.{upTo, spansOf}
@@ -74,23 +61,24 @@ entered d (name f) h = record { fields = f; history = named d (f .supply .holder
 
 -- What ends a supply kind by day t.
 unfoldable pub expiryBy : Settings → ℕ → SupplyKind → Due
-expiryBy S t None = event.Nothing
-expiryBy S t Contract = event.Nothing
-expiryBy S t (Default d) = cond (leb d t) (event.Fallback d (S .resort) (LastResort (d + S .b))) event.Nothing
-expiryBy S t (LastResort d) = cond (leb d t) (event.End d 0 None) event.Nothing
+expiryBy S t SupplyKind.None = event.Nothing
+expiryBy S t SupplyKind.Contract = event.Nothing
+expiryBy S t (SupplyKind.Default d) =
+    cond (leb d t) (event.Fallback d (S .resort) (SupplyKind.LastResort (d + S .b))) event.Nothing
+expiryBy S t (SupplyKind.LastResort d) = cond (leb d t) (event.End d 0 SupplyKind.None) event.Nothing
 
 -- A supply kind ends before day e.
 unfoldable pub endsBefore : SupplyKind → ℕ → Bool
-endsBefore None e = false
-endsBefore Contract e = false
-endsBefore (Default d) e = ltb d e
-endsBefore (LastResort d) e = ltb d e
+endsBefore SupplyKind.None e = false
+endsBefore SupplyKind.Contract e = false
+endsBefore (SupplyKind.Default d) e = ltb d e
+endsBefore (SupplyKind.LastResort d) e = ltb d e
 
 -- What falls due first by day t; a request and a deadline on one day: the request.
 unfoldable pub dueBy : Settings → ℕ → SupplyKind → Pending → Due
 dueBy S t k pending.Nothing = expiryBy S t k
 dueBy S t k (pending.Request s e) =
-    cond (leb e t && not (endsBefore k e)) (event.Switch e s Contract) (expiryBy S t k)
+    cond (leb e t && not (endsBefore k e)) (event.Switch e s SupplyKind.Contract) (expiryBy S t k)
 
 unfoldable pub happened : Due → Point → Point
 happened event.Nothing g = g
@@ -102,7 +90,8 @@ happened (event.End d h k) g = entered d (name (withSupply (g .fields) (supply h
 unfoldable pub nextEvent : Settings → ℕ → Point → Point
 nextEvent S t g = happened (dueBy S t (g .fields .supply .kind) (g .fields .supply .pending)) g
 
--- A switch and the end of last resort leave nothing due, and default supply goes over to last resort: two events at the most.
+-- A switch and the end of last resort leave nothing due, and default supply goes over to last resort: two events at
+-- the most.
 unfoldable pub catchUp : Settings → ℕ → Point → Point
 catchUp S t g = nextEvent S t (nextEvent S t g)
 
@@ -115,7 +104,8 @@ unfoldable pub bookedPeriod : Span → ℕ → Period → Period
 bookedPeriod s e q =
     period (q .start) (q .holder) ((q .volume + (sharesBefore s e - sharesBefore s (q .start)) * s .unit) % 2 ^ 64)
 
--- The first n slots, the newest first; done with the period that holds the reading's first day. e is where the n-th ends.
+-- The first n slots, the newest first; done with the period that holds the reading's first day. e is where the n-th
+-- ends.
 unfoldable pub bookedSlots : Span → ℕ → ℕ → List Period → List Period
 bookedSlots s e zero ps = ps
 bookedSlots s e (suc n) ps =
@@ -165,13 +155,13 @@ failedPoint S t s g = entered t (failed S t s (g .fields)) (g .history)
 
 -- An accepted call on a register that has been brought up to today.
 unfoldable pub done : ℕ → Action → Register → Register
-done t (SignContract s) r = register (r .settings) (r .day) (set (r .contracts) s true) (r .points)
-done t (Failure s) r =
+done t (Action.SignContract s) r = register (r .settings) (r .day) (set (r .contracts) s true) (r .points)
+done t (Action.Failure s) r =
     register (r .settings) (r .day) (set (r .contracts) s false) (map (failedPoint (r .settings) t s) (r .points))
-done t (At p a) r =
+done t (Action.At p a) r =
     register (r .settings) (r .day) (r .contracts)
     (set (r .points) (p - 1) (acted (r .settings) t a (pointAt p (r .points))))
-done t Day r = r
+done t Action.Day r = r
 
 abbrev pub outcome : Answer → Register → Outcome
 outcome a r = record { answer = a; register = r }

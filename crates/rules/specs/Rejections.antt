@@ -1,4 +1,5 @@
--- Document 01, "Rejection codes": for each call the rows of the table that it has, and the answer that they give. Definitions only.
+-- Document 01, "Rejection codes": for each call the rows of the table that it has, and the answer that they give.
+-- Definitions only.
 --
 -- View      what the checks may look at of a point: its fields, its marks, whether today's cell is marked
 -- _⇒_       a row: where the condition holds, the number is given
@@ -14,31 +15,9 @@ use lib.ListN.{getD}
 use Rattle.dates.specs.Dates.{lastDay}
 use Rattle.dates.specs.Months.{threeMonthsAfter}
 use Rattle.holidays.specs.Working.{workingBetween}
-use Rattle.rules.specs.declared.Fields.{Fields}
-use Rattle.rules.specs.declared.Settings.{Settings}
-use Rattle.rules.specs.declared.Supply.{Supply}
-use Rattle.rules.specs.declared.SupplyKind.{SupplyKind}
-use Rattle.rules.specs.declared.SupplyKind.the-variants.{None, Contract, Default, LastResort}
-use Rattle.rules.specs.declared.Pending.{Pending}
-use Rattle.rules.specs.declared.Pending.the-variants.{Nothing, Request}
-use Rattle.rules.specs.declared.Opening.{Opening}
-use Rattle.rules.specs.declared.Call.{Call}
-use Rattle.rules.specs.declared.Action.{Action}
-use Rattle.rules.specs.declared.Action.the-variants.{SignContract, Failure, At, Day}
-use Rattle.rules.specs.declared.PointAction.{PointAction}
-use Rattle.rules.specs.declared.PointAction.the-variants.{
-  Enrol,
-  IntoService,
-  DefaultSupply,
-  AskSwitch,
-  Cancel,
-  Read,
-  ChangeMeter,
-  OutOfService,
-  Suspend,
-}
-use Rattle.rules.specs.declared.Answer.{Answer}
-use Rattle.rules.specs.declared.Answer.the-variants.{Accepted, AcceptedOn, Refused, RefusedUntil}
+use Rattle.rules.specs.declared.{Fields.Fields, Settings.Settings, Supply.Supply, SupplyKind.SupplyKind}
+use Rattle.rules.specs.declared.{Pending.Pending, Opening.Opening, Call.Call, Action.Action}
+use Rattle.rules.specs.declared.{PointAction.PointAction, Answer.Answer}
 use Rattle.rules.specs.Fields.{meter, blank}
 use Rattle.rules.specs.Effects.{Effect, keep, name, fieldsOf, notice, effectiveDay, effectOf, failed}
 use Rattle.rules.specs.Volumes.{fullTurn}
@@ -60,7 +39,7 @@ pub record Row : Type 0 where
 
 infix 20 _⇒_
 abbrev pub _⇒_ : Bool → ℕ → Row
-b ⇒ n = record { applies = b; gives = Refused n }
+b ⇒ n = record { applies = b; gives = Answer.Refused n }
 
 -- "then the lowest number that applies": the rows stand in the paper's order
 unfoldable pub firstOf : List Row → Answer → Answer
@@ -70,7 +49,8 @@ firstOf (r ∷ rs) a = cond (r .applies) (r .gives) (firstOf rs a)
 abbrev pub outside : ℕ → ℕ → ℕ → Bool
 outside lo hi n = ltb n lo || ltb hi n
 
--- "Suppliers are 1 to 99", "a customer key, 1 to 999,999,999", "wheels before the comma 1 to 8, after it 0 to 3", "Points are 1 to 32"
+-- "Suppliers are 1 to 99", "a customer key, 1 to 999,999,999", "wheels before the comma 1 to 8, after it 0 to 3",
+-- "Points are 1 to 32"
 abbrev pub notSupplier : ℕ → Bool
 notSupplier s = outside 1 99 s
 
@@ -89,40 +69,40 @@ notMark m = outside 0 1 m
 
 -- 22: "s, key, wheels, z, mark or a setting outside its range"
 unfoldable pub outOfRangeAt : PointAction → Bool
-outOfRangeAt (Enrol b a x) = notWheels b a
-outOfRangeAt (IntoService s k) = notSupplier s || notKey k
-outOfRangeAt (DefaultSupply k) = notKey k
-outOfRangeAt (AskSwitch s k r) = notSupplier s || notKey k
-outOfRangeAt (Cancel s) = notSupplier s
-outOfRangeAt (Read d x z) = notMark z
-outOfRangeAt (ChangeMeter x z b a y) = notMark z || notWheels b a
-outOfRangeAt OutOfService = false
-outOfRangeAt (Suspend m) = notMark m
+outOfRangeAt (PointAction.Enrol b a x) = notWheels b a
+outOfRangeAt (PointAction.IntoService s k) = notSupplier s || notKey k
+outOfRangeAt (PointAction.DefaultSupply k) = notKey k
+outOfRangeAt (PointAction.AskSwitch s k r) = notSupplier s || notKey k
+outOfRangeAt (PointAction.Cancel s) = notSupplier s
+outOfRangeAt (PointAction.Read d x z) = notMark z
+outOfRangeAt (PointAction.ChangeMeter x z b a y) = notMark z || notWheels b a
+outOfRangeAt PointAction.OutOfService = false
+outOfRangeAt (PointAction.Suspend m) = notMark m
 
 unfoldable pub outOfRange : Action → Bool
-outOfRange (SignContract s) = notSupplier s
-outOfRange (Failure s) = notSupplier s
-outOfRange (At p a) = outOfRangeAt a
-outOfRange Day = false
+outOfRange (Action.SignContract s) = notSupplier s
+outOfRange (Action.Failure s) = notSupplier s
+outOfRange (Action.At p a) = outOfRangeAt a
+outOfRange Action.Day = false
 
--- 20: "a day given is past 73,048; default: today + A + B is; failure: today + B is"; r of a request and d of a reading are given beside
--- today.
+-- 20: "a day given is past 73,048; default: today + A + B is; failure: today + B is"; r of a request and d of a
+-- reading are given beside today.
 unfoldable pub offCalendarAt : Settings → ℕ → PointAction → Bool
-offCalendarAt S t (Enrol b a x) = false
-offCalendarAt S t (IntoService s k) = false
-offCalendarAt S t (DefaultSupply k) = ltb lastDay (t + S .a + S .b)
-offCalendarAt S t (AskSwitch s k r) = ltb lastDay r
-offCalendarAt S t (Cancel s) = false
-offCalendarAt S t (Read d x z) = ltb lastDay d
-offCalendarAt S t (ChangeMeter x z b a y) = false
-offCalendarAt S t OutOfService = false
-offCalendarAt S t (Suspend m) = false
+offCalendarAt S t (PointAction.Enrol b a x) = false
+offCalendarAt S t (PointAction.IntoService s k) = false
+offCalendarAt S t (PointAction.DefaultSupply k) = ltb lastDay (t + S .a + S .b)
+offCalendarAt S t (PointAction.AskSwitch s k r) = ltb lastDay r
+offCalendarAt S t (PointAction.Cancel s) = false
+offCalendarAt S t (PointAction.Read d x z) = ltb lastDay d
+offCalendarAt S t (PointAction.ChangeMeter x z b a y) = false
+offCalendarAt S t PointAction.OutOfService = false
+offCalendarAt S t (PointAction.Suspend m) = false
 
 unfoldable pub offCalendar : Settings → ℕ → Action → Bool
-offCalendar S t (SignContract s) = false
-offCalendar S t (Failure s) = ltb lastDay (t + S .b)
-offCalendar S t (At p a) = offCalendarAt S t a
-offCalendar S t Day = false
+offCalendar S t (Action.SignContract s) = false
+offCalendar S t (Action.Failure s) = ltb lastDay (t + S .b)
+offCalendar S t (Action.At p a) = offCalendarAt S t a
+offCalendar S t Action.Day = false
 
 -- 1: "failure, into service, request: s not under contract"
 abbrev pub noContract : List Bool → ℕ → Bool
@@ -138,25 +118,25 @@ badDay t r = ltb r t || ltb (threeMonthsAfter t) r || ltb lastDay (effectiveDay 
 
 -- 5: "request: one is pending"
 abbrev pub isPending : Pending → Bool
-isPending Nothing = false
-isPending (Request s e) = true
+isPending Pending.Nothing = false
+isPending (Pending.Request s e) = true
 
 -- 8: "request: kind default and today + 21 at or past the deadline; the answer carries the deadline"
 abbrev pub lastResortNear : ℕ → SupplyKind → Row
-lastResortNear t None = record { applies = false; gives = Refused 8 }
-lastResortNear t Contract = record { applies = false; gives = Refused 8 }
-lastResortNear t (Default d) = record { applies = leb d (t + notice); gives = RefusedUntil d }
-lastResortNear t (LastResort d) = record { applies = false; gives = Refused 8 }
+lastResortNear t SupplyKind.None = record { applies = false; gives = Answer.Refused 8 }
+lastResortNear t SupplyKind.Contract = record { applies = false; gives = Answer.Refused 8 }
+lastResortNear t (SupplyKind.Default d) = record { applies = leb d (t + notice); gives = Answer.RefusedUntil d }
+lastResortNear t (SupplyKind.LastResort d) = record { applies = false; gives = Answer.Refused 8 }
 
 -- 25: "cancel: none by s"
 abbrev pub isBy : ℕ → Pending → Bool
-isBy s Nothing = false
-isBy s (Request q e) = eqb q s
+isBy s Pending.Nothing = false
+isBy s (Pending.Request q e) = eqb q s
 
 -- 26: "cancel: fewer than W working days"; 7: "at least W working days lie after today and before e"
 abbrev pub tooLate : Settings → ℕ → Pending → Bool
-tooLate S t Nothing = false
-tooLate S t (Request q e) = ltb (workingBetween t e) (S .w)
+tooLate S t Pending.Nothing = false
+tooLate S t (Pending.Request q e) = ltb (workingBetween t e) (S .w)
 
 -- 27: "d (or today, for a meter change) not after the last reading's day, or d past today"
 abbrev pub outOfTime : ℕ → ℕ → Fields → Bool
@@ -165,19 +145,20 @@ outOfTime t d f = leb d (f .reading .day) || ltb t d
 -- 28: "an index at or past 10^w; z = 0 and x below the last index; z = 1 and x not below it"
 abbrev pub indexDisagrees : Fields → ℕ → ℕ → Bool
 indexDisagrees f x z =
-    leb (fullTurn (f .meter)) x || (eqb z 0 && ltb x (f .reading .index)) || (eqb z 1 && not (ltb x (f .reading .index)))
+    leb (fullTurn (f .meter)) x || (eqb z 0 && ltb x (f .reading .index))
+    || (eqb z 1 && not (ltb x (f .reading .index)))
 
--- 30: "after the call a point's marks and those due exceed 24 (due: pending 1, default 2, last resort 1)"; a second holder on one day
--- replaces the first, so today's mark counts once.
+-- 30: "after the call a point's marks and those due exceed 24 (due: pending 1, default 2, last resort 1)"; a second
+-- holder on one day replaces the first, so today's mark counts once.
 abbrev pub kindDue : SupplyKind → ℕ
-kindDue None = 0
-kindDue Contract = 0
-kindDue (Default d) = 2
-kindDue (LastResort d) = 1
+kindDue SupplyKind.None = 0
+kindDue SupplyKind.Contract = 0
+kindDue (SupplyKind.Default d) = 2
+kindDue (SupplyKind.LastResort d) = 1
 
 abbrev pub pendingDue : Pending → ℕ
-pendingDue Nothing = 0
-pendingDue (Request s e) = 1
+pendingDue Pending.Nothing = 0
+pendingDue (Pending.Request s e) = 1
 
 abbrev pub due : Supply → ℕ
 due s = pendingDue (s .pending) + kindDue (s .kind)
@@ -200,56 +181,58 @@ anyPoint p (suc n) test = test p || anyPoint (suc p) n test
 
 -- The rows of the calls that name a point p, which shows v; u says who is under contract, t is today.
 unfoldable pub rowsAt : Settings → List Bool → ℕ → ℕ → PointAction → View → List Row
-rowsAt S u t p (Enrol b a x) v =
+rowsAt S u t p (PointAction.Enrol b a x) v =
     (notPoint p ⇒ 2) ∷ (v .fields .enrolled ⇒ 23) ∷ (leb (fullTurn (meter b a)) x ⇒ 28) ∷ []
-rowsAt S u t p (IntoService s k) v =
+rowsAt S u t p (PointAction.IntoService s k) v =
     (noContract u s ⇒ 1) ∷ (notEnrolled p v ⇒ 2) ∷ (ltb 0 (v .fields .supply .holder) ⇒ 24)
-    ∷ (isFull v (effectOf S t (IntoService s k) (v .fields)) ⇒ 30) ∷ []
-rowsAt S u t p (DefaultSupply k) v =
+    ∷ (isFull v (effectOf S t (PointAction.IntoService s k) (v .fields)) ⇒ 30) ∷ []
+rowsAt S u t p (PointAction.DefaultSupply k) v =
     (notEnrolled p v ⇒ 2) ∷ (ltb 0 (v .fields .supply .holder) ⇒ 24)
-    ∷ (isFull v (effectOf S t (DefaultSupply k) (v .fields)) ⇒ 30) ∷ []
-rowsAt S u t p (AskSwitch s k r) v =
+    ∷ (isFull v (effectOf S t (PointAction.DefaultSupply k) (v .fields)) ⇒ 30) ∷ []
+rowsAt S u t p (PointAction.AskSwitch s k r) v =
     (noContract u s ⇒ 1) ∷ (notEnrolled p v ⇒ 2) ∷ (badDay t r ⇒ 3) ∷ (not (eqb k (v .fields .key)) ⇒ 4)
-    ∷ (isPending (v .fields .supply .pending) ⇒ 5) ∷ (eqb (v .fields .supply .holder) 0 ⇒ 6) ∷ (eqb (v .fields .mark) 1 ⇒ 7)
-    ∷ lastResortNear t (v .fields .supply .kind) ∷ (isFull v (effectOf S t (AskSwitch s k r) (v .fields)) ⇒ 30) ∷ []
-rowsAt S u t p (Cancel s) v =
-    (notEnrolled p v ⇒ 2) ∷ (not (isBy s (v .fields .supply .pending)) ⇒ 25) ∷ (tooLate S t (v .fields .supply .pending) ⇒ 26) ∷ []
-rowsAt S u t p (Read d x z) v =
+    ∷ (isPending (v .fields .supply .pending) ⇒ 5) ∷ (eqb (v .fields .supply .holder) 0 ⇒ 6)
+    ∷ (eqb (v .fields .mark) 1 ⇒ 7) ∷ lastResortNear t (v .fields .supply .kind)
+    ∷ (isFull v (effectOf S t (PointAction.AskSwitch s k r) (v .fields)) ⇒ 30) ∷ []
+rowsAt S u t p (PointAction.Cancel s) v =
+    (notEnrolled p v ⇒ 2) ∷ (not (isBy s (v .fields .supply .pending)) ⇒ 25)
+    ∷ (tooLate S t (v .fields .supply .pending) ⇒ 26) ∷ []
+rowsAt S u t p (PointAction.Read d x z) v =
     (notEnrolled p v ⇒ 2) ∷ (outOfTime t d (v .fields) ⇒ 27) ∷ (indexDisagrees (v .fields) x z ⇒ 28) ∷ []
-rowsAt S u t p (ChangeMeter x z b a y) v =
+rowsAt S u t p (PointAction.ChangeMeter x z b a y) v =
     (notEnrolled p v ⇒ 2) ∷ (outOfTime t t (v .fields) ⇒ 27)
     ∷ (indexDisagrees (v .fields) x z || leb (fullTurn (meter b a)) y ⇒ 28) ∷ []
-rowsAt S u t p OutOfService v =
+rowsAt S u t p PointAction.OutOfService v =
     (notEnrolled p v ⇒ 2) ∷ (eqb (v .fields .supply .holder) 0 ⇒ 6)
-    ∷ (isFull v (effectOf S t OutOfService (v .fields)) ⇒ 30) ∷ []
-rowsAt S u t p (Suspend m) v = (notEnrolled p v ⇒ 2) ∷ []
+    ∷ (isFull v (effectOf S t PointAction.OutOfService (v .fields)) ⇒ 30) ∷ []
+rowsAt S u t p (PointAction.Suspend m) v = (notEnrolled p v ⇒ 2) ∷ []
 
 -- 29: "failure of the default or last-resort supplier"
 unfoldable pub rows : Settings → List Bool → ℕ → Action → (ℕ → View) → List Row
-rows S u t (SignContract s) v = []
-rows S u t (Failure s) v =
+rows S u t (Action.SignContract s) v = []
+rows S u t (Action.Failure s) v =
     (noContract u s ⇒ 1) ∷ (eqb s (S .default) || eqb s (S .resort) ⇒ 29)
     ∷ (anyPoint 1 32 (λ p. touches s (v p .fields) && isFull (v p) (failed S t s (v p .fields))) ⇒ 30) ∷ []
-rows S u t (At p a) v = rowsAt S u t p a (v p)
-rows S u t Day v = []
+rows S u t (Action.At p a) v = rowsAt S u t p a (v p)
+rows S u t Action.Day v = []
 
 -- The answer where no row applies: a request's carries e.
 unfoldable pub acceptedAt : ℕ → PointAction → Answer
-acceptedAt t (Enrol b a x) = Accepted
-acceptedAt t (IntoService s k) = Accepted
-acceptedAt t (DefaultSupply k) = Accepted
-acceptedAt t (AskSwitch s k r) = AcceptedOn (effectiveDay t r)
-acceptedAt t (Cancel s) = Accepted
-acceptedAt t (Read d x z) = Accepted
-acceptedAt t (ChangeMeter x z b a y) = Accepted
-acceptedAt t OutOfService = Accepted
-acceptedAt t (Suspend m) = Accepted
+acceptedAt t (PointAction.Enrol b a x) = Answer.Accepted
+acceptedAt t (PointAction.IntoService s k) = Answer.Accepted
+acceptedAt t (PointAction.DefaultSupply k) = Answer.Accepted
+acceptedAt t (PointAction.AskSwitch s k r) = Answer.AcceptedOn (effectiveDay t r)
+acceptedAt t (PointAction.Cancel s) = Answer.Accepted
+acceptedAt t (PointAction.Read d x z) = Answer.Accepted
+acceptedAt t (PointAction.ChangeMeter x z b a y) = Answer.Accepted
+acceptedAt t PointAction.OutOfService = Answer.Accepted
+acceptedAt t (PointAction.Suspend m) = Answer.Accepted
 
 unfoldable pub accepted : ℕ → Action → Answer
-accepted t (SignContract s) = Accepted
-accepted t (Failure s) = Accepted
-accepted t (At p a) = acceptedAt t a
-accepted t Day = Accepted
+accepted t (Action.SignContract s) = Answer.Accepted
+accepted t (Action.Failure s) = Answer.Accepted
+accepted t (Action.At p a) = acceptedAt t a
+accepted t Action.Day = Answer.Accepted
 
 -- "Order: 31, 22, 20, 21, then the lowest number that applies." 31 is for lines. 21: "today before the register's day".
 unfoldable pub answerTo : Settings → ℕ → List Bool → ℕ → Action → (ℕ → View) → Answer
@@ -265,11 +248,13 @@ shown v p = cond (notPoint p) blankView (v p)
 unfoldable pub answer : Settings → ℕ → List Bool → Call → (ℕ → View) → Answer
 answer S day u c v = answerTo S day u (c .today) (c .action) (shown v)
 
--- "W (0 to 10 working days to cancel), A and B (1 to 400 calendar days ..), and the default and last-resort suppliers, two different
--- ones"; 22: "a setting outside its range, equal suppliers at opening"; 20: the first day is a day given.
+-- "W (0 to 10 working days to cancel), A and B (1 to 400 calendar days ..), and the default and last-resort
+-- suppliers, two different ones"; 22: "a setting outside its range, equal suppliers at opening"; 20: the first day is
+-- a day given.
 unfoldable pub openingAnswer : Opening → Answer
 openingAnswer o =
     firstOf
-    ((outside 0 10 (o .w) ⇒ 22) ∷ (outside 1 400 (o .a) ⇒ 22) ∷ (outside 1 400 (o .b) ⇒ 22) ∷ (notSupplier (o .default) ⇒ 22)
+    ((outside 0 10 (o .w) ⇒ 22) ∷ (outside 1 400 (o .a) ⇒ 22) ∷ (outside 1 400 (o .b) ⇒ 22)
+    ∷ (notSupplier (o .default) ⇒ 22)
     ∷ (notSupplier (o .resort) ⇒ 22) ∷ (eqb (o .default) (o .resort) ⇒ 22) ∷ (ltb lastDay (o .day) ⇒ 20) ∷ [])
-    Accepted
+    Answer.Accepted

@@ -4,12 +4,8 @@ use mathlib.Core.Path.{_≡_}
 use mathlib.Core.Bool.{cond}
 use mathlib.Core.List.{map}
 use Prim.Native.Nat.{ℕ}
-use Rattle.rules.specs.declared.Point.{Point}
-use Rattle.rules.specs.declared.Register.{Register}
-use Rattle.rules.specs.declared.Pending.the-variants.{Nothing}
-use Rattle.rules.specs.declared.Action.{Action}
-use Rattle.rules.specs.declared.Action.the-variants.{At, Day}
-use Rattle.rules.specs.declared.PointAction.the-variants.{AskSwitch, Cancel}
+use Rattle.rules.specs.declared.{Point.Point, Register.Register, Pending.Pending, Action.Action}
+use Rattle.rules.specs.declared.{PointAction.PointAction}
 use Rattle.rules.specs.Fields.{withPending}
 use Rattle.rules.specs.Answers.{isAccepted}
 use Rattle.rules.specs.Register.{register, applied}
@@ -18,7 +14,7 @@ use Rattle.rules.specs.Scenes.{on}
 
 -- A point without its pending request, and a register without any.
 abbrev pub notAsked : Point → Point
-notAsked g = record { fields = withPending (g .fields) Nothing; history = g .history }
+notAsked g = record { fields = withPending (g .fields) Pending.Nothing; history = g .history }
 
 unfoldable pub withoutPending : Register → Register
 withoutPending r = register (r .settings) (r .day) (r .contracts) (map notAsked (r .points))
@@ -33,12 +29,16 @@ pub record SameAnswers (r r′ : Register) : Type 0 where
 abbrev pub PendingUnseen : Type 0
 PendingUnseen = (r r′ : Register) → withoutPending r ≡ withoutPending r′ → SameAnswers r r′
 
--- The register that a call which does nothing else on its day would leave: brought up to that day where it is accepted, else as it was.
+-- The register that a call which does nothing else on its day would leave: brought up to that day where it is
+-- accepted, else as it was.
 abbrev pub onlyDay : Register → ℕ → Action → Register
-onlyDay r t a = cond (isAccepted (applied r (on t a) .answer)) (applied r (on t Day) .register) r
+onlyDay r t a = cond (isAccepted (applied r (on t a) .answer)) (applied r (on t Action.Day) .register) r
 
 -- So a request, on whatever day, changes no answer that the day itself does not change; nor does its cancel.
 pub record RequestUnseen : Type 0 where
   pub request : (r : Register) (t p s k d : ℕ)
-      → SameAnswers (applied r (on t (At p (AskSwitch s k d))) .register) (onlyDay r t (At p (AskSwitch s k d)))
-  pub cancel : (r : Register) (t p s : ℕ) → SameAnswers (applied r (on t (At p (Cancel s))) .register) (onlyDay r t (At p (Cancel s)))
+      → SameAnswers (applied r (on t (Action.At p (PointAction.AskSwitch s k d))) .register)
+      (onlyDay r t (Action.At p (PointAction.AskSwitch s k d)))
+  pub cancel : (r : Register) (t p s : ℕ) → SameAnswers
+      (applied r (on t (Action.At p (PointAction.Cancel s))) .register)
+      (onlyDay r t (Action.At p (PointAction.Cancel s)))

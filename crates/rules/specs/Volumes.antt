@@ -1,31 +1,17 @@
--- Document 01, "Volumes": what a reading advances, the shares of its days, and the volumes that a list of readings gives. Definitions only.
+-- Document 01, "Volumes": what a reading advances, the shares of its days, and the volumes that a list of readings
+-- gives. Definitions only.
 --
 -- Span        a reading from the day of the last one to its own: V and U with the two days
 -- dayVolume   the volume of one gas day by one reading; `volume`: by all readings of a list
 -- registered  the registered advance: the sum of V × U
-use mathlib.Core.Bool.{Bool, true, false, cond, _&&_}
+use mathlib.Core.Bool.{cond, _&&_}
 use mathlib.Core.List.{List, [], _∷_}
-use Prim.Native.Nat.{ℕ, zero, suc, _+_, _-_, _*_, _/_, _^_, min}
+use Prim.Native.Nat.{ℕ, suc, _+_, _-_, _*_, _/_, _^_, min}
 use lib.Dec.{eqb, leb, ltb}
-use Rattle.rules.specs.declared.Fields.{Fields}
-use Rattle.rules.specs.declared.Meter.{Meter}
-use Rattle.rules.specs.declared.Span.{Span}
-use Rattle.rules.specs.declared.Action.{Action}
-use Rattle.rules.specs.declared.Action.the-variants.{SignContract, Failure, At, Day}
-use Rattle.rules.specs.declared.PointAction.{PointAction}
-use Rattle.rules.specs.declared.PointAction.the-variants.{
-  Enrol,
-  IntoService,
-  DefaultSupply,
-  AskSwitch,
-  Cancel,
-  Read,
-  ChangeMeter,
-  OutOfService,
-  Suspend,
-}
+use Rattle.rules.specs.declared.{Fields.Fields, Meter.Meter, Span.Span, Action.Action, PointAction.PointAction}
 
--- 10^w, "w their sum". No accepted meter has more than 8 + 3 wheels; past that the turn stays 10^11, so that it is small for any value.
+-- 10^w, "w their sum". No accepted meter has more than 8 + 3 wheels; past that the turn stays 10^11, so that it is
+-- small for any value.
 unfoldable pub fullTurn : Meter → ℕ
 fullTurn m = 10 ^ min (m .before + m .after) 11
 
@@ -70,19 +56,19 @@ registered (s ∷ l) = s .advance * s .unit + registered l
 
 -- The readings that an accepted call makes at the point that it names, whose fields are f: none or one.
 unfoldable pub spansOf : ℕ → PointAction → Fields → List Span
-spansOf t (Enrol b a x) f = []
-spansOf t (IntoService s k) f = []
-spansOf t (DefaultSupply k) f = []
-spansOf t (AskSwitch s k r) f = []
-spansOf t (Cancel s) f = []
-spansOf t (Read d x z) f = spanTo f d x z ∷ []
-spansOf t (ChangeMeter x z b a y) f = spanTo f t x z ∷ []
-spansOf t OutOfService f = []
-spansOf t (Suspend m) f = []
+spansOf t (PointAction.Enrol b a x) f = []
+spansOf t (PointAction.IntoService s k) f = []
+spansOf t (PointAction.DefaultSupply k) f = []
+spansOf t (PointAction.AskSwitch s k r) f = []
+spansOf t (PointAction.Cancel s) f = []
+spansOf t (PointAction.Read d x z) f = spanTo f d x z ∷ []
+spansOf t (PointAction.ChangeMeter x z b a y) f = spanTo f t x z ∷ []
+spansOf t PointAction.OutOfService f = []
+spansOf t (PointAction.Suspend m) f = []
 
 -- The same at point p.
 unfoldable pub spans : ℕ → Action → ℕ → Fields → List Span
-spans t (SignContract s) p f = []
-spans t (Failure s) p f = []
-spans t (At q a) p f = cond (eqb p q) (spansOf t a f) []
-spans t Day p f = []
+spans t (Action.SignContract s) p f = []
+spans t (Action.Failure s) p f = []
+spans t (Action.At q a) p f = cond (eqb p q) (spansOf t a f) []
+spans t Action.Day p f = []

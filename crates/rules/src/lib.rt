@@ -141,7 +141,8 @@ pub enum PointAction {
     },
 }
 
-// The answer to a call: accepted, accepted with its effective day, refused with a number, or refused with number 8 and the deadline.
+// The answer to a call: accepted, accepted with its effective day, refused with a number, or refused with number 8
+// and the deadline.
 pub enum Answer {
     Accepted,
     AcceptedOn(u32),

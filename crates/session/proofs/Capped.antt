@@ -1,20 +1,19 @@
 -- The first 97 bytes of a line say what the line says: one that is longer than 96 bytes is unreadable.
-use Prim.Native.Nat.{ℕ, _+_, _≤_, _<_, min}
-use mathlib.Core.Path.{_≡_, refl, sym, ap, _∙_}
-use mathlib.Core.List.{List, [], _++_}
+use Prim.Native.Nat.{ℕ, _<_}
+use mathlib.Core.Path.{_≡_, sym, ap, _∙_}
+use mathlib.Core.List.{List, _++_}
 use native.Mathlib.Omega.{arith}
 use native.Mathlib.Decide.{decLe}
 use borrow.Author.Tests.{lt-leb}
 use lib.ListN.{length, take, length-take}
 use lib.Seq.{take-all}
-use Rattle.message.specs.declared.Message.{Message}
-use Rattle.message.specs.declared.Message.the-variants.{Unreadable}
+use Rattle.message.specs.declared.{Message.Message}
 use Rattle.message.specs.Reading.{readLine}
-use Rattle.input.specs.declared.Part.{Part}
+use Rattle.input.specs.declared.{Part.Part}
 use Rattle.input.specs.Part.{capped, kept, partOf}
 use Rattle.input.proofs.Parts.{capped-le, kept-partOf}
 
-too-long : (l : List ℕ) → 96 < length l → readLine l ≡ Unreadable
+too-long : (l : List ℕ) → 96 < length l → readLine l ≡ Message.Unreadable
 unfolding readLine
 too-long l h = rw (lt-leb (length l) 96 h)
 

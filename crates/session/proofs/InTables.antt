@@ -1,40 +1,32 @@
 -- A line answered where the points stand in tables.
 use Prim.Native.Nat.{ℕ, _+_, _-_, _*_, _≤_, _<_, min}
-use mathlib.Core.Path.{_≡_, refl, sym, ap, _∙_}
+use mathlib.Core.Path.{_≡_, sym, ap, _∙_}
 use mathlib.Core.Bool.{Bool, true, false}
-use mathlib.Core.List.{List, [], _∷_, _++_}
+use mathlib.Core.List.{List, [], _++_}
 use native.Mathlib.Omega.{arith}
 use lib.ListN.{length, take, drop, getD, set, length-set}
-use Rattle.rules.specs.declared.Answer.the-variants.{Accepted}
-use Rattle.rules.specs.declared.Fields.{Fields}
-use Rattle.rules.specs.declared.History.{History}
-use Rattle.rules.specs.declared.Period.{Period}
-use Rattle.rules.specs.declared.Point.{Point}
-use Rattle.rules.specs.declared.Register.{Register}
-use Rattle.rules.specs.declared.Settings.{Settings}
+use Rattle.rules.specs.declared.{Answer.Answer, Fields.Fields, History.History, Period.Period, Point.Point}
+use Rattle.rules.specs.declared.{Register.Register, Settings.Settings}
 use Rattle.rules.specs.Register.{noPoint, noPeriod, history, newest, register}
-use Rattle.point.specs.declared.Newest.{Newest}
-use Rattle.point.specs.declared.Ruling.{Ruling}
+use Rattle.point.specs.declared.{Newest.Newest, Ruling.Ruling}
 use Rattle.tables.specs.Tables.{fieldsOf, countsOf, slotsOf, joined, pointsOf}
 use Rattle.tables.proofs.Tables.{points-back, points-set, points-set-kept, points-get}
 use Rattle.text.specs.Appending.{Appended}
-use Rattle.message.specs.declared.Message.{Message}
+use Rattle.message.specs.declared.{Message.Message}
 use Rattle.message.specs.Lines.{kindOf}
 use Rattle.message.specs.Reading.{readLine}
 use Rattle.answer_lines.specs.Answers.{answerLine}
-use Rattle.input.specs.declared.Part.{Part}
+use Rattle.input.specs.declared.{Part.Part}
 use Rattle.input.specs.Lines.{untilFeed, feeds}
 use Rattle.input.specs.Part.{capped, kept}
-use Rattle.desk.specs.declared.Desk.{Desk}
-use Rattle.desk.specs.declared.Reply.{Reply}
+use Rattle.desk.specs.declared.{Desk.Desk, Reply.Reply}
 use Rattle.desk.specs.Desk.{desk, replied}
 use Rattle.quick.specs.Quick.{dueDay, firstDue, isQuick, placeOf, supplierOf, signedAfter, dayAfter}
 use Rattle.one_point.specs.Turns.{turnOf}
 use Rattle.one_point.specs.Daily.{dailyOf}
 use Rattle.quick.proofs.Places.{place-lt}
 use Rattle.one_point.proofs.DailyReply.{stored, daily-reply, daily-calm}
-use Rattle.session.specs.declared.Session.{Session}
-use Rattle.session.specs.declared.pieces.Answered.{Answered}
+use Rattle.session.specs.declared.{Session.Session, pieces.Answered.Answered}
 use Rattle.session.specs.Session.{answeredWith, AnsweredBy}
 use Rattle.session.proofs.Turns.{Going, emptied, line-turn, quick-turn, going-start, going-end}
 
@@ -73,8 +65,8 @@ module _ (piece out₀ : List ℕ) (d₀ : Desk) (part₀ out : List ℕ) (part 
   -- a daily reading: the fields and one period are stored
   module _ (quick : isQuick ready quiet m ≡ true) (i k : ℕ) (hi : i ≡ placeOf m) (hk : k ≡ min (getD ns i 0) 24 - 1) (f₀ : Fields)
       (x : Newest) (hears : x ≡ dailyOf ready day m (getD ns i 0) (getD fs i f₀) (getD (getD ss i []) k noPeriod)) (does : x .is ≡ true)
-      (day′ : ℕ) (hd : day′ ≡ dayAfter day m Accepted) (out′ : List ℕ) (written′ : ℕ)
-      (w : Appended written (answerLine (kindOf m) Accepted) out out′ written′) where
+      (day′ : ℕ) (hd : day′ ≡ dayAfter day m Answer.Accepted) (out′ : List ℕ) (written′ : ℕ)
+      (w : Appended written (answerLine (kindOf m) Answer.Accepted) out out′ written′) where
     abbrev h : History
     h = history (getD ns i 0) (getD ss i [])
 
@@ -97,7 +89,7 @@ module _ (piece out₀ : List ℕ) (d₀ : Desk) (part₀ out : List ℕ) (part 
     daily-turn =
         rw placed
         (line-turn piece out₀ d₀ part₀ out part ready r quiet at written g end stops more m says
-        (record { answer = Accepted; desk = desk ready after }) (daily-reply r quiet (g .calm) ready m quick f h is x heard does) quiet
+        (record { answer = Answer.Accepted; desk = desk ready after }) (daily-reply r quiet (g .calm) ready m quick f h is x heard does) quiet
         (daily-calm r quiet (g .calm) ready m quick f h is x heard does) out′ written′ w)
 
   -- another quick line: one point and one supplier are stored

@@ -1,40 +1,36 @@
 -- A line of a piece answered, on plain values: what is written so far, then the run from here, is the whole run.
 use Prim.Native.Nat.{ℕ, suc, _+_, _-_, _*_, _/_, _≤_, _<_, min}
-use mathlib.Core.Path.{_≡_, refl, sym, ap, ap₂, _∙_}
-use mathlib.Core.Bool.{Bool, true, false}
-use mathlib.Core.List.{List, [], _∷_, _++_, append-assoc, append-nil}
+use mathlib.Core.Path.{_≡_, refl, sym, ap, _∙_}
+use mathlib.Core.Bool.{Bool, true}
+use mathlib.Core.List.{List, [], _++_, append-assoc, append-nil}
 use native.Mathlib.Omega.{arith}
 use native.Mathlib.Nat.{zero-add}
-use lib.ListN.{length, take, drop, getD, set, length-drop, length-take, take-append-drop}
-use lib.Seq.{drop-drop, take-all, length-take-le}
-use Rattle.rules.specs.declared.Register.{Register}
-use Rattle.rules.specs.declared.Answer.{Answer}
-use Rattle.point.specs.declared.Ruling.{Ruling}
+use lib.ListN.{length, take, drop, length-drop, take-append-drop}
+use lib.Seq.{drop-drop, length-take-le}
+use Rattle.rules.specs.declared.{Register.Register}
+use Rattle.point.specs.declared.{Ruling.Ruling}
 use Rattle.text.specs.Appending.{put, Appended}
 use Rattle.text.proofs.Appends.{room-put, put-drop, appended-take, appended-length}
-use Rattle.message.specs.declared.Message.{Message}
+use Rattle.message.specs.declared.{Message.Message}
 use Rattle.message.specs.Lines.{kindOf}
 use Rattle.message.specs.Reading.{readLine}
 use Rattle.answer_lines.specs.Answers.{answerLine}
 use Rattle.answer_lines.proofs.LineTexts.{answer-short}
-use Rattle.input.specs.declared.Part.{Part}
+use Rattle.input.specs.declared.{Part.Part}
 use Rattle.input.specs.Lines.{untilFeed, feeds, fitting}
-use Rattle.input.specs.Part.{capped, kept, partOf}
-use Rattle.input.specs.Machine.{Run, behind, run}
+use Rattle.input.specs.Part.{capped, kept}
+use Rattle.input.specs.Machine.{Run, behind}
 use Rattle.input.proofs.Feeds.{feeds-behind, fitting-feeds}
 use Rattle.input.proofs.Parts.{kept-le}
 use Rattle.input.proofs.Runs.{run-found, run-none}
-use Rattle.desk.specs.declared.Desk.{Desk}
-use Rattle.desk.specs.declared.Reply.{Reply}
+use Rattle.desk.specs.declared.{Desk.Desk, Reply.Reply}
 use Rattle.desk.specs.Desk.{desk, answerOf, deskAfter, replied}
 use Rattle.quick.specs.Quick.{dueDay, firstDue, isQuick, placeOf, supplierOf, signedAfter, dayAfter}
 use Rattle.one_point.specs.Turns.{turnOf}
 use Rattle.desk.proofs.Tabled.{every-answer-tabled, tabled-small}
 use Rattle.quick.proofs.Dues.{first-set}
 use Rattle.one_point.proofs.OnePoint.{placed, pointIn, signedIn, quick-reply}
-use Rattle.session.specs.declared.Session.{Session}
-use Rattle.session.specs.declared.Fed.{Fed}
-use Rattle.session.specs.declared.pieces.Answered.{Answered}
+use Rattle.session.specs.declared.{Session.Session, pieces.Answered.Answered}
 use Rattle.session.specs.Session.{nextDesk, sayLine, runOf, runFrom, answeredWith, AnsweredBy, fedAs, FedBy}
 
 -- What holds at the loop's head.

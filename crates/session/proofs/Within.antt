@@ -1,12 +1,11 @@
 -- What is written stands within the buffer.
 use Prim.Native.Nat.{ℕ, _+_, _≤_}
-use mathlib.Core.Path.{_≡_, sym, ap, _∙_}
-use mathlib.Core.List.{List, _++_}
+use mathlib.Core.Path.{_≡_, ap}
+use mathlib.Core.List.{List}
 use native.Mathlib.Omega.{arith}
 use lib.ListN.{length, drop, length-append}
 use Rattle.text.specs.Appending.{put}
-use Rattle.session.specs.declared.Session.{Session}
-use Rattle.session.specs.declared.Fed.{Fed}
+use Rattle.session.specs.declared.{Session.Session, Fed.Fed}
 use Rattle.session.specs.Session.{fedRun, fedAs, FedBy}
 
 pub put-within : (t o after : List ℕ) → after ≡ put 0 t o → length t ≤ length after

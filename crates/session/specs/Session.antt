@@ -1,22 +1,21 @@
--- 01, Message lines: what is written for the lines of an input, and what a piece of it does to a session. Definitions only.
+-- 01, Message lines: what is written for the lines of an input, and what a piece of it does to a session. Definitions
+-- only.
 use Prim.Native.Nat.{ℕ, _/_}
 use mathlib.Core.Path.{_≡_}
 use mathlib.Core.List.{List, _++_}
 use lib.ListN.{length, take}
 use Rattle.text.specs.Appending.{put}
-use Rattle.message.specs.declared.Message.{Message}
+use Rattle.message.specs.declared.{Message.Message}
 use Rattle.message.specs.Lines.{kindOf}
 use Rattle.message.specs.Reading.{readLine}
 use Rattle.answer_lines.specs.Answers.{answerLine}
 use Rattle.input.specs.Lines.{fitting}
-use Rattle.input.specs.declared.Part.{Part}
+use Rattle.input.specs.declared.{Part.Part}
 use Rattle.input.specs.Part.{capped, kept, partOf}
 use Rattle.input.specs.Machine.{Run, run}
-use Rattle.desk.specs.declared.Desk.{Desk}
+use Rattle.desk.specs.declared.{Desk.Desk}
 use Rattle.desk.specs.Desk.{answerOf, deskAfter}
-use Rattle.session.specs.declared.Session.{Session}
-use Rattle.session.specs.declared.Fed.{Fed}
-use Rattle.session.specs.declared.pieces.Answered.{Answered}
+use Rattle.session.specs.declared.{Session.Session, Fed.Fed, pieces.Answered.Answered}
 
 -- The desk after a line.
 abbrev pub nextDesk : Desk → List ℕ → Desk

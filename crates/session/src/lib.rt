@@ -23,8 +23,8 @@ pub struct Fed {
     pub written: usize,
 }
 
-// Answers every line that ends in the piece, in order, and keeps the start of the next. With too little room for the answers it takes
-// fewer bytes.
+// Answers every line that ends in the piece, in order, and keeps the start of the next. With too little room for the
+// answers it takes fewer bytes.
 pub fn feed(s: Session, piece: &[u8], out: &mut [u8]) -> Fed
     ensures { λ r. ⌜ FedBy s (now (piece .entry)) (now (out .entry)) (now (out .exit)) r ⌝ }
 {

@@ -131,8 +131,8 @@ fn register_of(
     }
 }
 
-// Answers the lines that end in a piece. The points stand in tables: a daily reading changes its point's fields and newest period where
-// they are, another quick line costs the point that it names.
+// Answers the lines that end in a piece. The points stand in tables: a daily reading changes its point's fields and
+// newest period where they are, another quick line costs the point that it names.
 pub(crate) fn answer_lines(s: Session, piece: &[u8], out: &mut [u8]) -> Answered
     requires { ⌜ 24 * feeds (now piece) ≤ length (now out) ⌝ }
     ensures { λ r. ⌜ AnsweredBy s (now (piece .entry)) (now (out .entry)) (now (out .exit)) r ⌝ }

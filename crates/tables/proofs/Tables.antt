@@ -5,9 +5,7 @@ use Prim.Native.Nat.{ℕ, zero, suc, _<_}
 use native.Mathlib.Omega.{arith}
 use lib.ListN.{length, getD, set, length-map, List·getD-map}
 use lib.Seq.{set-getD}
-use Rattle.rules.specs.declared.Fields.{Fields}
-use Rattle.rules.specs.declared.Period.{Period}
-use Rattle.rules.specs.declared.Point.{Point}
+use Rattle.rules.specs.declared.{Fields.Fields, Period.Period, Point.Point}
 use Rattle.tables.specs.Tables.{fieldsOf, countsOf, slotsOf, joined, pointsOf}
 
 -- Each table has a place for each point, with what it has of that point.

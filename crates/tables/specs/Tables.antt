@@ -1,9 +1,7 @@
 -- A register's points kept apart in three tables, so that a line costs what it changes. Definitions only.
 use Prim.Native.Nat.{ℕ}
 use mathlib.Core.List.{List, [], _∷_, map}
-use Rattle.rules.specs.declared.Fields.{Fields}
-use Rattle.rules.specs.declared.Period.{Period}
-use Rattle.rules.specs.declared.Point.{Point}
+use Rattle.rules.specs.declared.{Fields.Fields, Period.Period, Point.Point}
 
 -- The fields of the points, how many periods each has, and the slots.
 unfoldable pub fieldsOf : List Point → List Fields

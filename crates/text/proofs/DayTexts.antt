@@ -3,9 +3,7 @@ use Prim.Native.Nat.{ℕ}
 use mathlib.Core.Path.{_≡_, ap, _∙_}
 use mathlib.Core.List.{List, [], _++_}
 use lib.ListN.{length}
-use Rattle.dates.specs.declared.Date.{Date}
-use Rattle.dates.specs.declared.DateAnswer.{DateAnswer}
-use Rattle.dates.specs.declared.DateAnswer.the-variants.{On, OffCalendar}
+use Rattle.dates.specs.declared.{Date.Date, DateAnswer.DateAnswer}
 use Rattle.dates.specs.Numbers.{dateAnswer}
 use Rattle.text.specs.Decimal.{fixed}
 use Rattle.text.specs.Days.{dateText, answerText, dayText}
@@ -21,8 +19,8 @@ date-append x l =
 pub day-append : (n : ℕ) (l : List ℕ) → dayText n l ≡ dayText n [] ++ l
 day-append n l = go (dateAnswer n) where
   go : (a : DateAnswer) → answerText a l ≡ answerText a [] ++ l
-  go (On x) = date-append x l
-  go OffCalendar = fixed-append 8 0 [] l
+  go (DateAnswer.On x) = date-append x l
+  go DateAnswer.OffCalendar = fixed-append 8 0 [] l
 
 pub date-length : (x : Date) → length (dateText x []) ≡ 8
 date-length x = simp fixed-length
@@ -30,5 +28,5 @@ date-length x = simp fixed-length
 pub day-length : (n : ℕ) → length (dayText n []) ≡ 8
 day-length n = go (dateAnswer n) where
   go : (a : DateAnswer) → length (answerText a []) ≡ 8
-  go (On x) = date-length x
-  go OffCalendar = fixed-length 8 0 []
+  go (DateAnswer.On x) = date-length x
+  go DateAnswer.OffCalendar = fixed-length 8 0 []

@@ -5,7 +5,7 @@ use mathlib.Core.List.{List, [], _∷_}
 use native.Mathlib.Omega.{arith}
 use lib.ListN.{length, take, drop, set, length-set}
 use lib.Seq.{drop-cons, getD-set-same, drop-set-lt, take-set-le, take-take, set-split}
-use Rattle.dates.specs.declared.Date.{Date}
+use Rattle.dates.specs.declared.{Date.Date}
 use Rattle.text.specs.Decimal.{decimal, fixed}
 use Rattle.text.specs.Days.{dateText}
 use Rattle.text.specs.Appending.{put}

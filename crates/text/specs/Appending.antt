@@ -14,7 +14,8 @@ put at t o = take at o ++ (t ++ drop (at + length t) o)
 abbrev pub hasRoom : ℕ → ℕ → ℕ → Bool
 hasRoom len at n = leb (at + n) len
 
--- What a writer does: where there is room the text is put, and the next position is the one behind it; else nothing changes.
+-- What a writer does: where there is room the text is put, and the next position is the one behind it; else nothing
+-- changes.
 pub record Appended (at : ℕ) (t before after : List ℕ) (next : ℕ) : Type 0 where
   pub bytes : after ≡ cond (hasRoom (length before) at (length t)) (put at t before) before
   pub end : next ≡ cond (hasRoom (length before) at (length t)) (at + length t) at

@@ -1,9 +1,7 @@
 -- 01, Message lines: "dates aaaammjj", here the text of a day's date. Definitions only.
 use Prim.Native.Nat.{ℕ}
 use mathlib.Core.List.{List}
-use Rattle.dates.specs.declared.Date.{Date}
-use Rattle.dates.specs.declared.DateAnswer.{DateAnswer}
-use Rattle.dates.specs.declared.DateAnswer.the-variants.{On, OffCalendar}
+use Rattle.dates.specs.declared.{Date.Date, DateAnswer.DateAnswer}
 use Rattle.dates.specs.Numbers.{dateAnswer}
 use Rattle.text.specs.Decimal.{fixed}
 
@@ -13,8 +11,8 @@ dateText x l = fixed 4 (x .year) (fixed 2 (x .month) (fixed 2 (x .day) l))
 
 -- The text of an answer of the calendar; "else 00000000" where there is no date.
 abbrev pub answerText : DateAnswer → List ℕ → List ℕ
-answerText (On x) l = dateText x l
-answerText OffCalendar l = fixed 8 0 l
+answerText (DateAnswer.On x) l = dateText x l
+answerText DateAnswer.OffCalendar l = fixed 8 0 l
 
 -- The text of a day in front of l.
 abbrev pub dayText : ℕ → List ℕ → List ℕ

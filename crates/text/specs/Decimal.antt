@@ -4,7 +4,8 @@ use mathlib.Core.Bool.{cond}
 use mathlib.Core.List.{List, _∷_}
 use lib.Dec.{ltb}
 
--- The decimal digits of n, no leading zero but 0 itself, at most k of them, in front of the text l; 48 is the byte of 0.
+-- The decimal digits of n, no leading zero but 0 itself, at most k of them, in front of the text l; 48 is the byte of
+-- 0.
 unfoldable pub spell : ℕ → ℕ → List ℕ → List ℕ
 spell zero n l = l
 spell (suc k) n l = cond (ltb n 10) ((48 + n) ∷ l) (spell k (n / 10) ((48 + n % 10) ∷ l))

@@ -9,10 +9,10 @@ use native.Mathlib.Decide.{decLe}
 use borrow.Author.Tests.{eq-eqb, ne-eqb}
 use lib.ListN.{length, take}
 use Rattle.text.proofs.Appends.{put-none}
-use Rattle.listing.specs.declared.Listed.{Listed}
+use Rattle.listing.specs.declared.{Listed.Listed}
 use Rattle.listing.specs.Listing.{ListedFrom}
-use Rattle.desk.specs.declared.Desk.{Desk}
-use Rattle.session.specs.declared.Session.{Session}
+use Rattle.desk.specs.declared.{Desk.Desk}
+use Rattle.session.specs.declared.{Session.Session}
 use Rattle.session.proofs.Within.{put-within}
 use Rattle.transcript.specs.Ends.{missingFeed, closingPiece, ClosedFrom}
 

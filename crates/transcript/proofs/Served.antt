@@ -1,50 +1,33 @@
 -- However an input is cut, what is handed on for writing is its transcript. The statement is specs/Transcript.antt.
-use Prim.Native.Nat.{ℕ, zero, suc, _+_, _/_, _≤_, _<_}
+use Prim.Native.Nat.{ℕ, _+_, _/_, _≤_}
 use mathlib.Core.Path.{_≡_, refl, sym, ap, ap₂, _∙_}
 use mathlib.Core.Bool.{Bool, true, false, cond, false≢true}
-use mathlib.Core.List.{List, [], _∷_, _++_, append-assoc, append-nil}
+use mathlib.Core.List.{List, [], _∷_, _++_, append-assoc}
 use native.Mathlib.Omega.{arith}
 use native.Mathlib.Nat.{not-suc-le-zero}
 use borrow.Author.Tests.{ne-eqb}
 use lib.Dec.{eqb}
 use lib.ListN.{length, take, drop}
 use lib.Seq.{take-append-seam, take-all, drop-length}
-use Rattle.rules.specs.declared.Register.{Register}
+use Rattle.rules.specs.declared.{Register.Register}
 use Rattle.text.specs.Appending.{put}
-use Rattle.listing.specs.declared.Listed.{Listed}
+use Rattle.listing.specs.declared.{Listed.Listed}
 use Rattle.listing.specs.Listing.{listing, listingFrom, piece}
 use Rattle.listing.specs.Listing as L
 use Rattle.listing.specs.Pieces.{left}
 use Rattle.listing.proofs.Pieces.{pieces-join}
-use Rattle.message.specs.Lines.{kindOf}
-use Rattle.message.specs.Reading.{readLine}
-use Rattle.answer_lines.specs.Answers.{answerLine}
-use Rattle.input.specs.declared.Part.{Part}
-use Rattle.input.specs.Lines.{fitting, lastLine, linesOf}
+use Rattle.input.specs.declared.{Part.Part}
+use Rattle.input.specs.Lines.{fitting, linesOf}
 use Rattle.input.specs.Part.{capped, kept, partOf}
-use Rattle.input.specs.Machine.{said, afterLines, transcript, Run, behind, run}
+use Rattle.input.specs.Machine.{said, afterLines, Run, run}
 use Rattle.input.proofs.Feeds.{fitting-all, fitting-le, fitting-some}
 use Rattle.input.proofs.Parts.{kept-partOf}
 use Rattle.input.proofs.Runs.{run-append, run-part-le, run-lines, run-transcript, lastSaid, lastState}
-use Rattle.desk.specs.declared.Desk.{Desk}
-use Rattle.desk.specs.Desk.{answerOf, deskAfter}
-use Rattle.session.specs.declared.Session.{Session}
-use Rattle.session.specs.declared.Fed.{Fed}
-use Rattle.session.specs.Session.{nextDesk, sayLine, runOf, runFrom, takenOf, fedRun, fedAs, FedBy}
-use Rattle.transcript.specs.Ends.{startSession, missingFeed, closing, closingPiece, closedNext, ClosedFrom}
-use Rattle.transcript.specs.Transcript.{
-  Closing,
-  done,
-  more,
-  Through,
-  fed,
-  ended,
-  Served,
-  served,
-  TranscriptServed,
-  EveryFeedGoesOn,
-  lastDesk,
-}
+use Rattle.desk.specs.declared.{Desk.Desk}
+use Rattle.session.specs.declared.{Session.Session, Fed.Fed}
+use Rattle.session.specs.Session.{nextDesk, sayLine, runOf, runFrom, takenOf, fedRun, fedAs}
+use Rattle.transcript.specs.Ends.{startSession, missingFeed, closing, closingPiece, closedNext}
+use Rattle.transcript.specs.Transcript.{Closing, done, more, Through, fed, ended, served, TranscriptServed, EveryFeedGoesOn, lastDesk}
 use Rattle.session.proofs.Capped.{read-capped}
 use Rattle.transcript.proofs.Sized.{Sized, run-sized}
 

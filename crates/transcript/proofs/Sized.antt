@@ -1,25 +1,19 @@
 -- An open register always has 32 points.
 use Prim.Native.Nat.{ℕ, _-_}
-use mathlib.Core.Path.{_≡_, refl, sym, ap, _∙_}
+use mathlib.Core.Path.{_≡_, refl, _∙_}
 use mathlib.Core.Bool.{Bool, true, false, cond, not, _&&_}
 use mathlib.Core.List.{List, [], _∷_, _++_, map}
 use lib.Dec.{eqb}
 use lib.ListN.{length, length-set, length-map, length-replicate}
-use Rattle.rules.specs.declared.Point.{Point}
-use Rattle.rules.specs.declared.Register.{Register}
-use Rattle.rules.specs.declared.Call.{Call}
-use Rattle.rules.specs.declared.Action.{Action}
-use Rattle.rules.specs.declared.Action.the-variants.{SignContract, Failure, At, Day}
-use Rattle.rules.specs.declared.Opening.{Opening}
+use Rattle.rules.specs.declared.{Point.Point, Register.Register, Call.Call, Action.Action, Opening.Opening}
 use Rattle.rules.specs.Answers.{isAccepted}
 use Rattle.rules.specs.Rejections.{openingAnswer}
 use Rattle.rules.specs.Register.{catchUp, blankPoint, register, pointAt, advanced, says, acted, failedPoint, done, applied, opened}
-use Rattle.message.specs.declared.Message.{Message}
-use Rattle.message.specs.declared.Message.the-variants.{Open, Ask, Unreadable}
+use Rattle.message.specs.declared.{Message.Message}
 use Rattle.message.specs.Reading.{readLine}
 use Rattle.input.specs.Part.{capped}
-use Rattle.input.specs.Machine.{Run, behind, run}
-use Rattle.desk.specs.declared.Desk.{Desk}
+use Rattle.input.specs.Machine.{behind, run}
+use Rattle.desk.specs.declared.{Desk.Desk}
 use Rattle.desk.specs.Desk.{desk, deskAfter}
 use Rattle.session.specs.Session.{nextDesk, sayLine, runOf}
 
@@ -37,10 +31,10 @@ advanced-length t r = go (eqb (r .day) t)
 
 done-length : (t : ℕ) (a : Action) (r : Register) → length (done t a r .points) ≡ length (r .points)
 unfolding done
-done-length t (SignContract s) r = refl
-done-length t (Failure s) r = length-map (r .points) (failedPoint (r .settings) t s)
-done-length t (At p a) r = length-set (r .points) (p - 1) (acted (r .settings) t a (pointAt p (r .points)))
-done-length t Day r = refl
+done-length t (Action.SignContract s) r = refl
+done-length t (Action.Failure s) r = length-map (r .points) (failedPoint (r .settings) t s)
+done-length t (Action.At p a) r = length-set (r .points) (p - 1) (acted (r .settings) t a (pointAt p (r .points)))
+done-length t Action.Day r = refl
 
 applied-length : (r : Register) (c : Call) → length (applied r c .register .points) ≡ length (r .points)
 unfolding applied
@@ -56,17 +50,17 @@ opened-length o = length-replicate {A = Point} 32 blankPoint
 
 sized-after : (d : Desk) (m : Message) → Sized d → Sized (deskAfter d m)
 unfolding deskAfter
-sized-after d (Open o) h = go (not (d .ready) && isAccepted (openingAnswer o))
+sized-after d (Message.Open o) h = go (not (d .ready) && isAccepted (openingAnswer o))
   where
     go : (b : Bool) → Sized (cond b (desk true (opened o)) d)
     go true = λ e. opened-length o
     go false = h
-sized-after d (Ask c) h = go (d .ready) refl
+sized-after d (Message.Ask c) h = go (d .ready) refl
   where
     go : (b : Bool) → d .ready ≡ b → Sized (cond b (desk true (applied (d .register) c .register)) d)
     go true e = λ k. applied-length (d .register) c ∙ h e
     go false e = h
-sized-after d Unreadable h = h
+sized-after d Message.Unreadable h = h
 
 pub run-sized : (d : Desk) (part l : List ℕ) → Sized d → Sized (runOf d part l .state)
 unfolding run

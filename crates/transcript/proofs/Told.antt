@@ -4,23 +4,17 @@ use Prim.Native.Nat.{ℕ}
 use mathlib.Core.Path.{_≡_, refl, sym, ap, ap₂, _∙_}
 use mathlib.Core.Bool.{Bool, true, false, cond}
 use mathlib.Core.List.{List, [], _∷_, _++_, map}
-use Rattle.rules.specs.declared.Register.{Register}
-use Rattle.rules.specs.declared.Opening.{Opening}
-use Rattle.rules.specs.declared.Call.{Call}
-use Rattle.rules.specs.declared.Span.{Span}
-use Rattle.rules.specs.declared.Answer.{Answer}
+use Rattle.rules.specs.declared.{Register.Register, Opening.Opening, Call.Call, Span.Span}
 use Rattle.rules.specs.Answers.{isAccepted}
 use Rattle.rules.specs.Rejections.{openingAnswer}
 use Rattle.rules.specs.Register.{applied}
 use Rattle.rules.specs.Register as R
 use Rattle.rules.specs.DayBook.{Book}
 use Rattle.rules.specs.DayBook as D
-use Rattle.rules.specs.Demand3.{Demand3}
-use Rattle.rules.proofs.Step.{Agree, says-agree, call-agree, readNow, enrolledNow}
-use Rattle.rules.proofs.Run.{run-agrees}
-use Rattle.rules.proofs.Theorem.{day-book-agrees}
-use Rattle.message.specs.declared.Message.{Message}
-use Rattle.message.specs.declared.Message.the-variants.{Open, Ask, Unreadable}
+use Rattle.agreement.proofs.Step.{Agree, says-agree, call-agree, readNow, enrolledNow}
+use Rattle.agreement.proofs.Run.{run-agrees}
+use Rattle.agreement.proofs.Theorem.{day-book-agrees}
+use Rattle.message.specs.declared.{Message.Message}
 use Rattle.message.specs.Lines.{kindOf}
 use Rattle.message.specs.Reading.{readLine}
 use Rattle.answer_lines.specs.Answers.{answerLine}
@@ -28,12 +22,11 @@ use Rattle.questions.proofs.Asking.{asking}
 use Rattle.listing.proofs.ByBook.{listing-by-book}
 use Rattle.input.specs.Lines.{linesOf}
 use Rattle.input.specs.Machine.{said, afterLines, transcript}
-use Rattle.desk.specs.declared.Desk.{Desk}
+use Rattle.desk.specs.declared.{Desk.Desk}
 use Rattle.desk.specs.Desk.{desk, answerOf, deskAfter}
 use Rattle.session.specs.Session.{nextDesk, sayLine}
 use Rattle.transcript.specs.Ends.{startSession, closing}
 use Rattle.transcript.specs.Transcript.{
-  BookDesk,
   closed,
   at,
   bookAnswer,
@@ -49,7 +42,6 @@ use Rattle.transcript.specs.Transcript.{
   storyDesk,
   bookClosing,
   bookOutput,
-  TranscriptTold,
   EveryInput,
   EveryOutput,
   EveryDesk,
@@ -75,9 +67,9 @@ open-said (x ∷ ls) l n b r h =
         ((c : Call) → said nextDesk sayLine (desk true (applied r c .register)) ls ≡ said nextBook sayBook (at (D.next b c)) ls) →
         answerLine (kindOf m) (answerOf (desk true r) m) ++ said nextDesk sayLine (deskAfter (desk true r) m) ls
         ≡ answerLine (kindOf m) (bookAnswer (at b) m) ++ said nextBook sayBook (bookAfter (at b) m) ls
-    go (Open o) same next = rw same
-    go (Ask c) same next = rw (says-same l n b r c h, next c)
-    go Unreadable same next = rw same
+    go (Message.Open o) same next = rw same
+    go (Message.Ask c) same next = rw (says-same l n b r c h, next c)
+    go Message.Unreadable same next = rw same
 
 open-after : (ls : List (List ℕ)) (r : Register) →
     afterLines nextDesk sayLine (desk true r) ls ≡ desk true (R.after r (callsIn (map readLine ls)))
@@ -89,9 +81,9 @@ open-after (x ∷ ls) r = go (readLine x) (open-after ls r) (λ c. open-after ls
         ((c : Call) → afterLines nextDesk sayLine (desk true (applied r c .register)) ls
         ≡ desk true (R.after (applied r c .register) (callsIn (map readLine ls)))) →
         afterLines nextDesk sayLine (deskAfter (desk true r) m) ls ≡ desk true (R.after r (callsIn (m ∷ map readLine ls)))
-    go (Open o) same next = same
-    go (Ask c) same next = next c
-    go Unreadable same next = same
+    go (Message.Open o) same next = same
+    go (Message.Ask c) same next = next c
+    go Message.Unreadable same next = same
 
 -- ---- from the start, whatever the register that is not looked at
 
@@ -117,9 +109,9 @@ closed-said r (x ∷ ls) = go (readLine x) (closed-said r ls)
     go : (m : Message) → said nextDesk sayLine (desk false r) ls ≡ said nextBook sayBook closed ls →
         answerLine (kindOf m) (answerOf (desk false r) m) ++ said nextDesk sayLine (deskAfter (desk false r) m) ls
         ≡ answerLine (kindOf m) (bookAnswer closed m) ++ said nextBook sayBook (bookAfter closed m) ls
-    go (Open o) same = rw (opening o (isAccepted (openingAnswer o)) refl same)
-    go (Ask c) same = rw same
-    go Unreadable same = rw same
+    go (Message.Open o) same = rw (opening o (isAccepted (openingAnswer o)) refl same)
+    go (Message.Ask c) same = rw same
+    go Message.Unreadable same = rw same
 
 -- ---- the story
 
@@ -141,9 +133,9 @@ closed-after r (x ∷ ls) = go (readLine x) (closed-after r ls)
 
     go : (m : Message) → afterLines nextDesk sayLine (desk false r) ls ≡ deskOf r (storyOf (map readLine ls)) →
         afterLines nextDesk sayLine (deskAfter (desk false r) m) ls ≡ deskOf r (storyOf (m ∷ map readLine ls))
-    go (Open o) same = opening o (isAccepted (openingAnswer o)) same
-    go (Ask c) same = same
-    go Unreadable same = same
+    go (Message.Open o) same = opening o (isAccepted (openingAnswer o)) same
+    go (Message.Ask c) same = same
+    go Message.Unreadable same = same
 
 -- the opening of a story is an accepted one
 Accepted : Story → Type 0
@@ -153,13 +145,13 @@ Accepted (told o cs) = isAccepted (openingAnswer o) ≡ true
 story-accepted : (ms : List Message) → Accepted (storyOf ms)
 unfolding storyOf Accepted
 story-accepted [] = tt
-story-accepted (Open o ∷ ms) = go (isAccepted (openingAnswer o)) refl (story-accepted ms)
+story-accepted (Message.Open o ∷ ms) = go (isAccepted (openingAnswer o)) refl (story-accepted ms)
   where
     go : (b : Bool) → isAccepted (openingAnswer o) ≡ b → Accepted (storyOf ms) → Accepted (cond b (told o (callsIn ms)) (storyOf ms))
     go true e same = e
     go false e same = same
-story-accepted (Ask c ∷ ms) = story-accepted ms
-story-accepted (Unreadable ∷ ms) = story-accepted ms
+story-accepted (Message.Ask c ∷ ms) = story-accepted ms
+story-accepted (Message.Unreadable ∷ ms) = story-accepted ms
 
 accepted-told : (s : Story) (o : Opening) (cs : List Call) → s ≡ told o cs → Accepted s → isAccepted (openingAnswer o) ≡ true
 unfolding Accepted

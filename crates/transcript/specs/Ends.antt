@@ -7,13 +7,13 @@ use lib.Dec.{eqb}
 use lib.ListN.{length}
 use Rattle.text.specs.Appending.{put}
 use Rattle.input.specs.Part.{partOf}
-use Rattle.desk.specs.declared.Desk.{Desk}
+use Rattle.desk.specs.declared.{Desk.Desk}
 use Rattle.desk.specs.Desk.{desk}
 use Rattle.register.specs.Opens.{noRegister}
-use Rattle.listing.specs.declared.Listed.{Listed}
+use Rattle.listing.specs.declared.{Listed.Listed}
 use Rattle.listing.specs.Listing
 use Rattle.listing.specs.Listing.{listing, piece}
-use Rattle.session.specs.declared.Session.{Session}
+use Rattle.session.specs.declared.{Session.Session}
 
 -- Before any input: the register of a desk that is not ready is not looked at.
 unfoldable pub startSession : Session
@@ -36,4 +36,8 @@ closedNext d from room = cond (d .ready) (from + Listing.taken from room) 32
 
 pub record ClosedFrom (d : Desk) (from : ℕ) (before after : List ℕ) (x : Listed) : Type 0 where
   pub bytes : after ≡ put 0 (closingPiece d from (length before)) before
-  pub answer : x ≡ record { next = closedNext d from (length before); written = length (closingPiece d from (length before)) }
+  pub answer : x ≡ record {
+    next = closedNext d from (length before);
+    written =
+        length (closingPiece d from (length before));
+  }

@@ -1,6 +1,6 @@
--- Whole inputs and what is written for them, by the register's desk and by the day book alone. 01, "Input:" and "Output:"; and the
--- openings: a line before `set`, a refused `set` and a good one behind it, a later `set`. Definitions only: `transcript-examples` of
--- proofs/ proves them.
+-- Whole inputs and what is written for them, by the register's desk and by the day book alone. 01, "Input:" and
+-- "Output:"; and the openings: a line before `set`, a refused `set` and a good one behind it, a later `set`.
+-- Definitions only: `transcript-examples` of proofs/ proves them.
 use mathlib.Core.Path.{_≡_}
 use mathlib.Core.List.{List, [], _∷_, _++_}
 use Prim.Native.Nat.{ℕ}
@@ -23,7 +23,8 @@ pub record Writes (input output : List String) : Type 0 where
 pub record TranscriptExamples : Type 0 where
   -- 01, "Input:" and "Output:"
   pub of-document-01 : Writes
-      ("set;20210101;2;30;40;1;2" ∷ "ctr;20210101;5" ∷ "enr;20210101;1;3;0;990" ∷ "demmespc;20210104;1;5;77" ∷ "i;20210104;1;77" ∷
+      ("set;20210101;2;30;40;1;2" ∷ "ctr;20210101;5" ∷ "enr;20210101;1;3;0;990" ∷ "demmespc;20210104;1;5;77" ∷
+      "i;20210104;1;77" ∷
       "ri;20210114;1;20210114;10;1" ∷ [])
       ("set;1;0;00000000" ∷ "ctr;1;0;00000000" ∷ "enr;1;0;00000000" ∷ "demmespc;1;0;00000000" ∷ "i;0;24;00000000" ∷
       "ri;1;0;00000000" ∷ "1;20210101;0;4000" ∷ "1;20210104;5;16000" ∷ "total;1;20000" ∷ [])

@@ -1,32 +1,29 @@
--- A whole input: what the calls of `feed`, `finish` and `close` hand on for writing, in whatever pieces the input comes, and what that
--- means. Definitions only: proofs/Served and proofs/Told prove them.
+-- A whole input: what the calls of `feed`, `finish` and `close` hand on for writing, in whatever pieces the input
+-- comes, and what that means. Definitions only: proofs/Served and proofs/Told prove them.
 use Prim.Native.Nat.{ℕ, _≤_, _<_}
 use mathlib.Core.Path.{_≡_}
 use mathlib.Core.Bool.{true, cond}
 use mathlib.Core.List.{List, [], _∷_, _++_, map}
 use lib.ListN.{length, take}
-use Rattle.rules.specs.declared.Opening.{Opening}
-use Rattle.rules.specs.declared.Call.{Call}
-use Rattle.rules.specs.declared.Answer.{Answer}
+use Rattle.rules.specs.declared.{Opening.Opening, Call.Call, Answer.Answer}
 use Rattle.rules.specs.Answers.{isAccepted}
 use Rattle.rules.specs.Rejections.{openingAnswer}
 use Rattle.rules.specs.DayBook
 use Rattle.rules.specs.DayBook.{Book}
-use Rattle.rules.specs.Demand3.{Demand3, register}
+use Rattle.rules.specs.Periods.{register}
+use Rattle.agreement.specs.Demand3.{Demand3}
 use Rattle.questions.specs.Asking.{Asked}
-use Rattle.message.specs.declared.Message.{Message}
-use Rattle.message.specs.declared.Message.the-variants.{Open, Ask, Unreadable}
+use Rattle.message.specs.declared.{Message.Message}
 use Rattle.message.specs.Lines.{kindOf}
 use Rattle.message.specs.Reading.{readLine}
 use Rattle.answer_lines.specs.Answers.{answerLine}
-use Rattle.listing.specs.declared.Listed.{Listed}
+use Rattle.listing.specs.declared.{Listed.Listed}
 use Rattle.listing.specs.ByBook.{bookListing}
 use Rattle.input.specs.Lines.{linesOf}
 use Rattle.input.specs.Machine.{said, afterLines, transcript}
-use Rattle.desk.specs.declared.Desk.{Desk}
+use Rattle.desk.specs.declared.{Desk.Desk}
 use Rattle.desk.specs.Desk.{desk, unreadable}
-use Rattle.session.specs.declared.Session.{Session}
-use Rattle.session.specs.declared.Fed.{Fed}
+use Rattle.session.specs.declared.{Session.Session, Fed.Fed}
 use Rattle.session.specs.Session.{nextDesk, sayLine, fedAs, FedBy}
 use Rattle.transcript.specs.Ends.{startSession, missingFeed, closing, ClosedFrom}
 
@@ -38,12 +35,14 @@ pub data Closing : Desk → ℕ → List ℕ → Type 0 where
   more : {d : Desk} {from : ℕ} {w : List ℕ} (before after : List ℕ) (x : Listed) → ClosedFrom d from before after x →
       Closing d (x .next) w → Closing d from (take (x .written) after ++ w)
 
--- `feed` over pieces, each as far as it was taken, and at the end `finish`, with room for one answer: what is handed on for the lines of an
--- input, and the desk that it comes to.
+-- `feed` over pieces, each as far as it was taken, and at the end `finish`, with room for one answer: what is handed
+-- on for the lines of an input, and the desk that it comes to.
 pub data Through : Session → List ℕ → List ℕ → Desk → Type 0 where
-  fed : {s : Session} {piece rest w : List ℕ} {d : Desk} (before after : List ℕ) (f : Fed) → FedBy s piece before after f →
+  fed : {s : Session} {piece rest w : List ℕ} {d : Desk} (before after : List ℕ) (f : Fed) →
+      FedBy s piece before after f →
       Through (f .session) rest w d → Through s (take (f .taken) piece ++ rest) (take (f .written) after ++ w) d
-  ended : {s : Session} (before after : List ℕ) (f : Fed) → FedBy s (missingFeed s) before after f → 24 ≤ length before →
+  ended : {s : Session} (before after : List ℕ) (f : Fed) → FedBy s (missingFeed s) before after f →
+      24 ≤ length before →
       Through s [] (take (f .written) after) (f .session .desk)
 
 -- And then `close`.
@@ -55,7 +54,8 @@ abbrev pub TranscriptServed : Type 0
 TranscriptServed = (input w : List ℕ) → Served startSession input w →
     w ≡ transcript nextDesk sayLine closing (startSession .desk) input
 
--- `feed` takes no more than it is handed, and with room for one answer some of it: to hand in the rest again and again takes all.
+-- `feed` takes no more than it is handed, and with room for one answer some of it: to hand in the rest again and
+-- again takes all.
 pub record FeedGoesOn (s : Session) (piece out : List ℕ) : Type 0 where
   pub most : fedAs s piece out .taken ≤ length piece
   pub some : 24 ≤ length out → 0 < length piece → 0 < fedAs s piece out .taken
@@ -71,20 +71,20 @@ pub data BookDesk : Type 0 where
   at : Book → BookDesk
 
 abbrev pub bookAnswer : BookDesk → Message → Answer
-bookAnswer closed (Open o) = openingAnswer o
-bookAnswer closed (Ask c) = unreadable
-bookAnswer closed Unreadable = unreadable
-bookAnswer (at b) (Open o) = unreadable
-bookAnswer (at b) (Ask c) = DayBook.says b c
-bookAnswer (at b) Unreadable = unreadable
+bookAnswer closed (Message.Open o) = openingAnswer o
+bookAnswer closed (Message.Ask c) = unreadable
+bookAnswer closed Message.Unreadable = unreadable
+bookAnswer (at b) (Message.Open o) = unreadable
+bookAnswer (at b) (Message.Ask c) = DayBook.says b c
+bookAnswer (at b) Message.Unreadable = unreadable
 
 abbrev pub bookAfter : BookDesk → Message → BookDesk
-bookAfter closed (Open o) = cond (isAccepted (openingAnswer o)) (at (DayBook.opened o)) closed
-bookAfter closed (Ask c) = closed
-bookAfter closed Unreadable = closed
-bookAfter (at b) (Open o) = at b
-bookAfter (at b) (Ask c) = at (DayBook.next b c)
-bookAfter (at b) Unreadable = at b
+bookAfter closed (Message.Open o) = cond (isAccepted (openingAnswer o)) (at (DayBook.opened o)) closed
+bookAfter closed (Message.Ask c) = closed
+bookAfter closed Message.Unreadable = closed
+bookAfter (at b) (Message.Open o) = at b
+bookAfter (at b) (Message.Ask c) = at (DayBook.next b c)
+bookAfter (at b) Message.Unreadable = at b
 
 abbrev pub nextBook : BookDesk → List ℕ → BookDesk
 nextBook b l = bookAfter b (readLine l)
@@ -99,15 +99,15 @@ pub data Story : Type 0 where
 
 unfoldable pub callsIn : List Message → List Call
 callsIn [] = []
-callsIn (Open o ∷ ms) = callsIn ms
-callsIn (Ask c ∷ ms) = c ∷ callsIn ms
-callsIn (Unreadable ∷ ms) = callsIn ms
+callsIn (Message.Open o ∷ ms) = callsIn ms
+callsIn (Message.Ask c ∷ ms) = c ∷ callsIn ms
+callsIn (Message.Unreadable ∷ ms) = callsIn ms
 
 unfoldable pub storyOf : List Message → Story
 storyOf [] = untold
-storyOf (Open o ∷ ms) = cond (isAccepted (openingAnswer o)) (told o (callsIn ms)) (storyOf ms)
-storyOf (Ask c ∷ ms) = storyOf ms
-storyOf (Unreadable ∷ ms) = storyOf ms
+storyOf (Message.Open o ∷ ms) = cond (isAccepted (openingAnswer o)) (told o (callsIn ms)) (storyOf ms)
+storyOf (Message.Ask c ∷ ms) = storyOf ms
+storyOf (Message.Unreadable ∷ ms) = storyOf ms
 
 abbrev pub storyTold : List ℕ → Story
 storyTold input = storyOf (map readLine (linesOf input))
@@ -131,10 +131,12 @@ bookOutput input = said nextBook sayBook closed (linesOf input) ++ bookClosing (
 
 pub record TranscriptTold (input : List ℕ) : Type 0 where
   -- the answers printed are the day book's for the calls that the lines read as
-  pub answers : said nextDesk sayLine (startSession .desk) (linesOf input) ≡ said nextBook sayBook closed (linesOf input)
+  pub answers : said nextDesk sayLine (startSession .desk) (linesOf input) ≡
+      said nextBook sayBook closed (linesOf input)
   -- so are the closing lines; there are none where no opening was accepted
   pub closing-lines : closing (lastDesk input) ≡ bookClosing (storyTold input)
-  -- the desk holds the register after those calls, of which demand 3 holds, and its questions are answered by the day book
+  -- the desk holds the register after those calls, of which demand 3 holds, and its questions are answered by the day
+  -- book
   pub desk : lastDesk input ≡ storyDesk (storyTold input)
   pub opened : (o : Opening) (cs : List Call) → storyTold input ≡ told o cs → Demand3 o cs × Asked o cs
 

@@ -45,7 +45,8 @@ fn at_most_one(n: usize) -> usize
     1
 }
 
-// The closing lines, where those of the first points are written already: as many points as there is room for, and how far it came.
+// The closing lines, where those of the first points are written already: as many points as there is room for, and
+// how far it came.
 pub fn close(s: Session, from: usize, out: &mut [u8]) -> Listed
     ensures { λ r. ⌜ ClosedFrom (s .desk) from (now (out .entry)) (now (out .exit)) r ⌝ }
 {

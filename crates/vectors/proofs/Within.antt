@@ -11,8 +11,7 @@ use Rattle.text.specs.Appending.{Appended}
 use Rattle.text.proofs.Appends.{room-put, no-room, appended-length}
 use Rattle.input.specs.Lines.{untilFeed}
 use Rattle.input.proofs.Feeds.{until-le, fitting-le}
-use Rattle.session.specs.declared.Session.{Session}
-use Rattle.session.specs.declared.Fed.{Fed}
+use Rattle.session.specs.declared.{Session.Session, Fed.Fed}
 use Rattle.session.specs.Session.{FedBy, fedAs, takenOf}
 
 -- a writer that begins within its buffer ends within it

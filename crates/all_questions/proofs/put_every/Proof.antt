@@ -12,15 +12,6 @@ returns c =
     handed-none (c .before .before .args .r) (c .before .before .args .from) (c .before .before .args .out .now)
     (c .if1 .taken)
 
-scope-of-requires : tie.Need-scope-of-requires
-scope-of-requires c κs = search needs
-
-size-of-requires : tie.Need-size-of-requires
-size-of-requires c κs = search needs
-
-taken-of-requires : tie.Need-taken-of-requires
-taken-of-requires c κs = search needs
-
 put-lines-requires : tie.Need-put-lines-requires
 put-lines-requires c κs =
     let n = c .before .taken-of .ensures in let s = c .before .before .size-of .ensures in
@@ -56,13 +47,5 @@ returns-2 c =
 
 pub put-every-spec : {M : Type 1} → statement M
 put-every-spec =
-    tie.close
-    (tie.spec
-    returns
-    scope-of-requires
-    size-of-requires
-    taken-of-requires
-    put-lines-requires
-    place-at-requires
-    same-length
-    returns-2)
+    tie.close (tie.spec returns (λ c κs. search needs) (λ c κs. search needs) (λ c κs. search needs)
+    put-lines-requires place-at-requires same-length returns-2)

@@ -5,7 +5,7 @@ use lib.ListN.{length, drop, length-drop}
 use lib.Seq.{getD-drop}
 use native.Mathlib.Omega.{arith}
 use Rattle.listing.proofs.Growing.{within-none, within-more, within-length}
-use Rattle.question_words.specs.declared.Question.the-variants.{Advance}
+use Rattle.question_words.specs.declared.{Question.Question}
 use Rattle.all_questions.specs.All.{questionsIn, LinesPut}
 use Rattle.all_questions.proofs.Indexing.{size-is}
 use Rattle.all_questions.proofs.Handing.{lines-none, lines-next}
@@ -27,21 +27,6 @@ loop-holds c = (
       (within-none 0 (c .before .args .out .now) (omega arith)),
 )
 
-add-question-at : tie.Need-add-question-at Inv-loop μ-loop
-add-question-at c = search needs
-
-question-at-requires : tie.Need-question-at-requires Inv-loop μ-loop
-question-at-requires c κs = search needs
-
-put-line-requires : tie.Need-put-line-requires Inv-loop μ-loop
-put-line-requires c κs = search needs
-
-add-i : tie.Need-add-i Inv-loop μ-loop
-add-i c = search needs
-
-loop-less : tie.Need-loop-less Inv-loop μ-loop
-loop-less c = search needs
-
 loop-again : tie.Need-loop-again Inv-loop μ-loop
 loop-again c =
     let c₂ = c .before .before in
@@ -56,9 +41,9 @@ loop-again c =
       omega arith,
       rw (
         k,
-        lines-next (a .r) (l .i) (drop (a .from) qs) (Advance (a .p)) h,
+        lines-next (a .r) (l .i) (drop (a .from) qs) (Question.Advance (a .p)) h,
         getD-drop (a .from) qs
-            (l .i) (Advance (a .p)),
+            (l .i) (Question.Advance (a .p)),
         ← (c₄ .question-at .ensures),
       )
           (within-more (l .i * 128) 128 0 _ _ _ _ _ _ _ (l .inv .1) (c₂ .put-line .ensures .text)
@@ -78,16 +63,5 @@ returns c =
 
 pub put-lines-spec : {M : Type 1} → statement M
 put-lines-spec =
-    tie.close
-    (tie.spec
-    Inv-loop
-    μ-loop
-    loop-holds
-    add-question-at
-    question-at-requires
-    put-line-requires
-    add-i
-    loop-less
-    loop-again
-    same-length
-    returns)
+    tie.close (tie.spec Inv-loop μ-loop loop-holds (λ c. search needs) (λ c κs. search needs) (λ c κs. search needs)
+    (λ c. search needs) (λ c. search needs) loop-again same-length returns)

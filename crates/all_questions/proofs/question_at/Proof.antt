@@ -2,7 +2,7 @@
 use Prim.Native.Nat.{_<_}
 use mathlib.Core.Path.{sym, _∙_}
 use native.Mathlib.Omega.{arith}
-use Rattle.question_words.specs.declared.Question.the-variants.{Advance}
+use Rattle.question_words.specs.declared.{Question.Question}
 use Rattle.all_questions.specs.All.{size, taken}
 use Rattle.all_questions.proofs.Indexing.{enrolled-in, first-at, enrolled-at, day-off, period-off}
 use borrow.Author.Needs.{needs}
@@ -11,10 +11,7 @@ use Rattle.all_questions.proofs.question_at.Tie as tie
 
 returns : tie.Need-returns
 returns c =
-    rw (c .if1 .taken) (sym (first-at (c .before .args .p) (c .before .args .s) (Advance (c .before .args .p))))
-
-sub-enrolled-at : tie.Need-sub-enrolled-at
-sub-enrolled-at c = search needs
+    rw (c .if1 .taken) (sym (first-at (c .before .args .p) (c .before .args .s) (Question.Advance (c .before .args .p))))
 
 enrolled-at-requires : tie.Need-enrolled-at-requires
 enrolled-at-requires c κs =
@@ -24,25 +21,22 @@ enrolled-at-requires c κs =
 returns-2 : tie.Need-returns-2
 returns-2 c =
     let c₃ = c .before .before .before in
-    c .enrolled-at .ensures ∙ sym (enrolled-at (c₃ .args .p) (c₃ .args .s) (Advance (c₃ .args .p)) (c₃ .args .i)
+    c .enrolled-at .ensures ∙ sym (enrolled-at (c₃ .args .p) (c₃ .args .s) (Question.Advance (c₃ .args .p)) (c₃ .args .i)
     (omega arith) (c .before .if2 .taken))
-
-cast-t6 : tie.Need-cast-t6
-cast-t6 c = search needs
 
 returns-3 : tie.Need-returns-3
 returns-3 c =
     let c₂ = c .before .before in
     let c₄ = c₂ .before .before in
-    rw (c .before .if3 .taken) (sym (day-off (c₄ .args .p) (c₄ .args .s) (Advance (c₄ .args .p)) (c₂ .if2 .left)))
+    rw (c .before .if3 .taken) (sym (day-off (c₄ .args .p) (c₄ .args .s) (Question.Advance (c₄ .args .p)) (c₂ .if2 .left)))
 
 returns-4 : tie.Need-returns-4
 returns-4 c =
     let c₃ = c .before .before .before in
-    sym (period-off (c₃ .args .p) (c₃ .args .s) (Advance (c₃ .args .p)) (c₃ .args .i) (omega arith) (c₃ .pre)
+    sym (period-off (c₃ .args .p) (c₃ .args .s) (Question.Advance (c₃ .args .p)) (c₃ .args .i) (omega arith) (c₃ .pre)
     (c .before .if2 .left))
 
 pub question-at-spec : {M : Type 1} → statement M
 question-at-spec =
-    tie.close
-    (tie.spec returns sub-enrolled-at enrolled-at-requires returns-2 cast-t6 returns-3 returns-4)
+    tie.close (tie.spec returns (λ c. search needs) enrolled-at-requires returns-2 (λ c. search needs) returns-3
+    returns-4)

@@ -7,13 +7,6 @@ use borrow.Author.Needs.{needs}
 use Rattle.all_questions.proofs.scope_of.Statement.{statement}
 use Rattle.all_questions.proofs.scope_of.Tie as tie
 
-is-unasked-requires : tie.Need-is-unasked-requires
-is-unasked-requires c κs = search needs
-
-returns : tie.Need-returns
-unfolding scopeOf
-returns c = rw (← (c .before .is-unasked .ensures), c .if1 .taken)
-
 sub-i : tie.Need-sub-i
 sub-i c =
     omega (
@@ -35,15 +28,6 @@ element-copy-out-g c =
     let k = asked-in (c .before .before .args .t1) (c .before .before .args .p)
     (sym (c .before .is-unasked .ensures) ∙ c .if1 .left) in omega (arith, k .0, k .1)
 
-element-copy-out-q : tie.Need-element-copy-out-q
-element-copy-out-q c = search needs
-
-marks-requires : tie.Need-marks-requires
-marks-requires c κs = search needs
-
-cast-t20 : tie.Need-cast-t20
-cast-t20 c = search needs
-
 returns-2 : tie.Need-returns-2
 unfolding scopeOf
 returns-2 c =
@@ -53,14 +37,6 @@ returns-2 c =
 
 pub scope-of-spec : {M : Type 1} → statement M
 scope-of-spec =
-    tie.close
-    (tie.spec
-    is-unasked-requires
-    returns
-    sub-i
-    mul-g
-    element-copy-out-g
-    element-copy-out-q
-    marks-requires
-    cast-t20
-    returns-2)
+    tie.close (tie.spec (λ c κs. search needs)
+    (λ c. unfold scopeOf in rw (← (c .before .is-unasked .ensures), c .if1 .taken)) sub-i mul-g element-copy-out-g
+    (λ c. search needs) (λ c κs. search needs) (λ c. search needs) returns-2)

@@ -3,8 +3,5 @@ use mathlib.Core.Path.{refl}
 use Rattle.all_questions.proofs.start.Statement.{statement}
 use Rattle.all_questions.proofs.start.Tie as tie
 
-returns : tie.Need-returns
-returns c = refl
-
 pub start-spec : {M : Type 1} → statement M
-start-spec = tie.close (tie.spec returns)
+start-spec = tie.close (tie.spec (λ c. refl))

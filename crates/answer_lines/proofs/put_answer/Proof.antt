@@ -1,6 +1,6 @@
 -- `answer_lines::put_answer` meets its contract: the line is put piece by piece, where there is room for all of it.
-use Prim.Native.Nat.{ℕ, _≤_, _+_, _^_}
-use mathlib.Core.Path.{_≡_, sym, ap, _∙_}
+use Prim.Native.Nat.{ℕ}
+use mathlib.Core.Path.{ap, _∙_}
 use mathlib.Core.List.{List, [], _∷_}
 use native.Mathlib.Omega.{arith}
 use lib.ListN.{length}
@@ -14,21 +14,6 @@ use Rattle.answer_lines.proofs.LineTexts.{digits-few, answerPieces, ans
 use borrow.Author.Needs.{needs}
 use Rattle.answer_lines.proofs.put_answer.Statement.{statement}
 use Rattle.answer_lines.proofs.put_answer.Tie as tie
-
-number-of-requires : tie.Need-number-of-requires
-number-of-requires c κs = search needs
-
-shown-kind-requires : tie.Need-shown-kind-requires
-shown-kind-requires c κs = search needs
-
-word-of-requires : tie.Need-word-of-requires
-word-of-requires c κs = search needs
-
-cast-digit-count : tie.Need-cast-digit-count
-cast-digit-count c = search needs
-
-digit-count-requires : tie.Need-digit-count-requires
-digit-count-requires c κs = search needs
 
 add-size : tie.Need-add-size
 add-size c =
@@ -63,9 +48,6 @@ returns c =
     (c₂ .digit-count .ensures) in
     not-appended (a .at) (answerLine (a .kind) (a .answer)) (a .out .now) (omega arith)
 
-sub-if2 : tie.Need-sub-if2
-sub-if2 c = search needs
-
 returns-2 : tie.Need-returns-2
 returns-2 c =
     let c₃ = c .before .before .before in
@@ -80,33 +62,6 @@ returns-2 c =
     let size = answer-size (a .kind) (a .answer) (n .result) (k .result) _ _ (n .ensures) (k .ensures) name
     (c₃ .digit-count .ensures) in
     not-appended (a .at) (answerLine (a .kind) (a .answer)) (a .out .now) (omega arith)
-
-put-kind-requires : tie.Need-put-kind-requires
-put-kind-requires c κs = search needs
-
-put-verdict-requires : tie.Need-put-verdict-requires
-put-verdict-requires c κs = search needs
-
-cast-put-number : tie.Need-cast-put-number
-cast-put-number c = search needs
-
-put-number-requires : tie.Need-put-number-requires
-put-number-requires c κs = search needs
-
-put-byte-requires : tie.Need-put-byte-requires
-put-byte-requires c κs = search needs
-
-day-shown-requires : tie.Need-day-shown-requires
-day-shown-requires c κs = search needs
-
-put-day-requires : tie.Need-put-day-requires
-put-day-requires c κs = search needs
-
-put-byte-requires-2 : tie.Need-put-byte-requires-2
-put-byte-requires-2 c κs = search needs
-
-same-length : tie.Need-same-length
-same-length c = search needs
 
 returns-3 : tie.Need-returns-3
 returns-3 c =
@@ -150,25 +105,7 @@ returns-3 c =
 
 pub put-answer-spec : {M : Type 1} → statement M
 put-answer-spec =
-    tie.close
-    (tie.spec
-    number-of-requires
-    shown-kind-requires
-    word-of-requires
-    cast-digit-count
-    digit-count-requires
-    add-size
-    add-size-2
-    returns
-    sub-if2
-    returns-2
-    put-kind-requires
-    put-verdict-requires
-    cast-put-number
-    put-number-requires
-    put-byte-requires
-    day-shown-requires
-    put-day-requires
-    put-byte-requires-2
-    same-length
-    returns-3)
+    tie.close (tie.spec (λ c κs. search needs) (λ c κs. search needs) (λ c κs. search needs) (λ c. search needs)
+    (λ c κs. search needs) add-size add-size-2 returns (λ c. search needs) returns-2 (λ c κs. search needs)
+    (λ c κs. search needs) (λ c. search needs) (λ c κs. search needs) (λ c κs. search needs) (λ c κs. search needs)
+    (λ c κs. search needs) (λ c κs. search needs) (λ c. search needs) returns-3)

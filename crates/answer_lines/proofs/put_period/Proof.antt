@@ -1,6 +1,5 @@
 -- `answer_lines::put_period` meets its contract: the line is put piece by piece, where there is room for all of it.
-use Prim.Native.Nat.{ℕ, _≤_, _+_, _^_}
-use mathlib.Core.Path.{_≡_, sym, ap, _∙_}
+use mathlib.Core.Path.{ap}
 use mathlib.Core.List.{[], _∷_}
 use native.Mathlib.Omega.{arith}
 use lib.ListN.{length}
@@ -13,18 +12,6 @@ use borrow.Author.Needs.{needs}
 use Rattle.answer_lines.proofs.put_period.Statement.{statement}
 use Rattle.answer_lines.proofs.put_period.Tie as tie
 
-cast-start : tie.Need-cast-start
-cast-start c = search needs
-
-cast-holder : tie.Need-cast-holder
-cast-holder c = search needs
-
-digit-count-requires : tie.Need-digit-count-requires
-digit-count-requires c κs = search needs
-
-digit-count-requires-2 : tie.Need-digit-count-requires-2
-digit-count-requires-2 c κs = search needs
-
 add-size : tie.Need-add-size
 add-size c =
     let a = c .before .before .before .before .before .args in
@@ -33,9 +20,6 @@ add-size c =
     let few-p = digits-few (a .point) (omega arith) in
     let few-h = digits-few (a .period .holder) (omega arith) in
     omega arith
-
-digit-count-requires-3 : tie.Need-digit-count-requires-3
-digit-count-requires-3 c κs = search needs
 
 add-size-2 : tie.Need-add-size-2
 add-size-2 c =
@@ -68,9 +52,6 @@ returns c =
     let size = period-length (a .point) (a .period) in
     not-appended (a .at) (periodLine (a .point) (a .period)) (a .out .now) (omega arith)
 
-sub-if2 : tie.Need-sub-if2
-sub-if2 c = search needs
-
 returns-2 : tie.Need-returns-2
 returns-2 c =
     let a = c .before .before .before .before .before .before .before .before .args in
@@ -79,33 +60,6 @@ returns-2 c =
     let v = c .before .before .digit-count3 .ensures in
     let size = period-length (a .point) (a .period) in
     not-appended (a .at) (periodLine (a .point) (a .period)) (a .out .now) (omega arith)
-
-put-number-requires : tie.Need-put-number-requires
-put-number-requires c κs = search needs
-
-put-byte-requires : tie.Need-put-byte-requires
-put-byte-requires c κs = search needs
-
-put-day-requires : tie.Need-put-day-requires
-put-day-requires c κs = search needs
-
-put-byte-requires-2 : tie.Need-put-byte-requires-2
-put-byte-requires-2 c κs = search needs
-
-put-number-requires-2 : tie.Need-put-number-requires-2
-put-number-requires-2 c κs = search needs
-
-put-byte-requires-3 : tie.Need-put-byte-requires-3
-put-byte-requires-3 c κs = search needs
-
-put-number-requires-3 : tie.Need-put-number-requires-3
-put-number-requires-3 c κs = search needs
-
-put-byte-requires-4 : tie.Need-put-byte-requires-4
-put-byte-requires-4 c κs = search needs
-
-same-length : tie.Need-same-length
-same-length c = search needs
 
 returns-3 : tie.Need-returns-3
 returns-3 c =
@@ -145,26 +99,7 @@ returns-3 c =
 
 pub put-period-spec : {M : Type 1} → statement M
 put-period-spec =
-    tie.close
-    (tie.spec
-    cast-start
-    cast-holder
-    digit-count-requires
-    digit-count-requires-2
-    add-size
-    digit-count-requires-3
-    add-size-2
-    add-size-3
-    returns
-    sub-if2
-    returns-2
-    put-number-requires
-    put-byte-requires
-    put-day-requires
-    put-byte-requires-2
-    put-number-requires-2
-    put-byte-requires-3
-    put-number-requires-3
-    put-byte-requires-4
-    same-length
-    returns-3)
+    tie.close (tie.spec (λ c. search needs) (λ c. search needs) (λ c κs. search needs) (λ c κs. search needs) add-size
+    (λ c κs. search needs) add-size-2 add-size-3 returns (λ c. search needs) returns-2 (λ c κs. search needs)
+    (λ c κs. search needs) (λ c κs. search needs) (λ c κs. search needs) (λ c κs. search needs) (λ c κs. search needs)
+    (λ c κs. search needs) (λ c κs. search needs) (λ c. search needs) returns-3)

@@ -1,6 +1,5 @@
 -- `answer_lines::put_total` meets its contract: the line is put piece by piece, where there is room for all of it.
-use Prim.Native.Nat.{ℕ, _≤_, _+_, _^_}
-use mathlib.Core.Path.{_≡_, sym, ap, _∙_}
+use mathlib.Core.Path.{sym, ap, _∙_}
 use mathlib.Core.List.{[], _∷_}
 use native.Mathlib.Omega.{arith}
 use lib.ListN.{length}
@@ -12,12 +11,6 @@ use Rattle.answer_lines.proofs.LineTexts.{digits-few, totalPieces, tota
 use borrow.Author.Needs.{needs}
 use Rattle.answer_lines.proofs.put_total.Statement.{statement}
 use Rattle.answer_lines.proofs.put_total.Tie as tie
-
-digit-count-requires : tie.Need-digit-count-requires
-digit-count-requires c κs = search needs
-
-digit-count-requires-2 : tie.Need-digit-count-requires-2
-digit-count-requires-2 c κs = search needs
 
 add-size : tie.Need-add-size
 add-size c =
@@ -44,9 +37,6 @@ returns c =
     let v = c .before .digit-count2 .ensures in
     not-appended (a .at) (totalLine (a .point) (a .advance)) (a .out .now) (omega (arith, total-length (a .point) (a .advance)))
 
-sub-if2 : tie.Need-sub-if2
-sub-if2 c = search needs
-
 returns-2 : tie.Need-returns-2
 returns-2 c =
     let c₂ = c .before .before in
@@ -56,27 +46,6 @@ returns-2 c =
     let p = c₃ .digit-count .ensures in
     let v = c₂ .digit-count2 .ensures in
     not-appended (a .at) (totalLine (a .point) (a .advance)) (a .out .now) (omega (arith, total-length (a .point) (a .advance)))
-
-slice-aggregate-put-word : tie.Need-slice-aggregate-put-word
-slice-aggregate-put-word c = search needs
-
-put-word-requires : tie.Need-put-word-requires
-put-word-requires c κs = search needs
-
-put-number-requires : tie.Need-put-number-requires
-put-number-requires c κs = search needs
-
-put-byte-requires : tie.Need-put-byte-requires
-put-byte-requires c κs = search needs
-
-put-number-requires-2 : tie.Need-put-number-requires-2
-put-number-requires-2 c κs = search needs
-
-put-byte-requires-2 : tie.Need-put-byte-requires-2
-put-byte-requires-2 c κs = search needs
-
-same-length : tie.Need-same-length
-same-length c = search needs
 
 returns-3 : tie.Need-returns-3
 returns-3 c =
@@ -103,20 +72,6 @@ returns-3 c =
 
 pub put-total-spec : {M : Type 1} → statement M
 put-total-spec =
-    tie.close
-    (tie.spec
-    digit-count-requires
-    digit-count-requires-2
-    add-size
-    add-size-2
-    returns
-    sub-if2
-    returns-2
-    slice-aggregate-put-word
-    put-word-requires
-    put-number-requires
-    put-byte-requires
-    put-number-requires-2
-    put-byte-requires-2
-    same-length
-    returns-3)
+    tie.close (tie.spec (λ c κs. search needs) (λ c κs. search needs) add-size add-size-2 returns (λ c. search needs)
+    returns-2 (λ c. search needs) (λ c κs. search needs) (λ c κs. search needs) (λ c κs. search needs)
+    (λ c κs. search needs) (λ c κs. search needs) (λ c. search needs) returns-3)

@@ -3,18 +3,6 @@ use borrow.Author.Needs.{needs}
 use Rattle.answer_lines.proofs.put_verdict.Statement.{statement}
 use Rattle.answer_lines.proofs.put_verdict.Tie as tie
 
-verdict-of-requires : tie.Need-verdict-of-requires
-verdict-of-requires c κs = search needs
-
-slice-aggregate-put-word : tie.Need-slice-aggregate-put-word
-slice-aggregate-put-word c = search needs
-
-put-word-requires : tie.Need-put-word-requires
-put-word-requires c κs = search needs
-
-same-length : tie.Need-same-length
-same-length c = search needs
-
 returns : tie.Need-returns
 returns c =
     let c₂ = c .before .before in
@@ -23,10 +11,4 @@ returns c =
 
 pub put-verdict-spec : {M : Type 1} → statement M
 put-verdict-spec =
-    tie.close
-    (tie.spec
-    verdict-of-requires
-    slice-aggregate-put-word
-    put-word-requires
-    same-length
-    returns)
+    tie.close (tie.spec (λ c κs. search needs) (λ c. search needs) (λ c κs. search needs) (λ c. search needs) returns)

@@ -1,5 +1,5 @@
 -- A call at a point: 22, 20 and 21 first, then the rows.
-use mathlib.Core.Path.{_≡_, sym, _∙_}
+use mathlib.Core.Path.{sym, _∙_}
 use native.Mathlib.Omega.{arith}
 use borrow.Author.Tests.{lt-ltb, le-ltb}
 use Rattle.rules.specs.Rejections.{answerTo, firstOf, outOfRange, offCalendar, rows, accepted}
@@ -8,31 +8,14 @@ use Rattle.answers.proofs.Within.{in-range}
 use borrow.Author.Needs.{needs}
 use Rattle.answers.proofs.answer_at.Statement.{statement}
 use Rattle.answers.proofs.answer_at.Tie as tie
-use Rattle.answers.proofs.answer_at.Reads as reads
-use Rattle.answers.proofs.answer_at.Lts as lts
-use Rattle.answers.proofs.rows.ruling_at.Reads as ruling-at-reads
-use Rattle.answers.proofs.ranges.off_calendar_at.Reads as off-calendar-at-reads
-use Rattle.answers.proofs.ranges.out_of_range_at.Reads as out-of-range-at-reads
-
-out-of-range-at-requires : tie.Need-out-of-range-at-requires
-out-of-range-at-requires c κs = search needs
 
 returns : tie.Need-returns
 unfolding answerTo outOfRange offCalendar rows accepted firstOf
 returns c = rw (← (c .before .out-of-range-at .ensures), c .if1 .taken)
 
-cast-if2 : tie.Need-cast-if2
-cast-if2 c = search needs
-
 returns-2 : tie.Need-returns-2
 unfolding answerTo outOfRange offCalendar rows accepted firstOf
 returns-2 c = rw (← (c .before .before .out-of-range-at .ensures), c .before .if1 .left, lt-ltb _ _ (c .if2 .taken))
-
-cast-t : tie.Need-cast-t
-cast-t c = search needs
-
-off-calendar-at-requires : tie.Need-off-calendar-at-requires
-off-calendar-at-requires c κs = search needs
 
 returns-3 : tie.Need-returns-3
 unfolding answerTo outOfRange offCalendar rows accepted firstOf
@@ -58,8 +41,11 @@ returns-4 c =
     )
 
 ruling-at-requires : tie.Need-ruling-at-requires
-ruling-at-requires c κs = let s = c .before .before .before .before .before .before .args in
-    (omega arith, in-range (s .set) (s .today) (s .a) (sym (c .before .before .before .before .before .out-of-range-at .ensures) ∙ c .before .before .before .before .if1 .left) (sym (c .before .before .off-calendar-at .ensures) ∙ c .before .if3 .left))
+ruling-at-requires c κs = let s = c .before .before .before .before .before .before .args in (
+  omega arith,
+  in-range (s .set) (s .today) (s .a) (sym (c .before .before .before .before .before .out-of-range-at .ensures) ∙
+      c .before .before .before .before .if1 .left) (sym (c .before .before .off-calendar-at .ensures) ∙ c .before .if3 .left),
+)
 
 returns-5 : tie.Need-returns-5
 unfolding answerTo outOfRange offCalendar rows accepted firstOf rulingAt
@@ -76,15 +62,5 @@ returns-5 c =
 
 pub answer-at-spec : {M : Type 1} → statement M
 answer-at-spec =
-    tie.close
-    (tie.spec
-    out-of-range-at-requires
-    returns
-    cast-if2
-    returns-2
-    cast-t
-    off-calendar-at-requires
-    returns-3
-    returns-4
-    ruling-at-requires
-    returns-5)
+    tie.close (tie.spec (λ c κs. search needs) returns (λ c. search needs) returns-2 (λ c. search needs)
+    (λ c κs. search needs) returns-3 returns-4 ruling-at-requires returns-5)

@@ -1,23 +1,12 @@
 -- A reading: 22, 20 and 21 first, then its rows.
 use mathlib.Core.Path.{_≡_, sym, _∙_}
 use mathlib.Core.Bool.{true}
-use native.Mathlib.Omega.{arith}
 use borrow.Author.Tests.{lt-ltb, le-ltb}
 use Rattle.rules.specs.Rejections.{answerTo, firstOf, outside, outOfRange, outOfRangeAt, offCalendar, offCalendarAt, rows, accepted}
 use Rattle.answers.specs.Ruling.{rulingAt, readAnswer}
 use borrow.Author.Needs.{needs}
 use Rattle.answers.proofs.read_answer.Statement.{statement}
 use Rattle.answers.proofs.read_answer.Tie as tie
-use Rattle.answers.proofs.read_answer.Reads as reads
-use Rattle.answers.proofs.read_answer.Lts as lts
-use Rattle.answers.proofs.rows.read_rows.Reads as read-rows-reads
-use Rattle.checks.proofs.outside.Reads as outside-reads
-
-read-rows-requires : tie.Need-read-rows-requires
-read-rows-requires c κs = search needs
-
-outside-requires : tie.Need-outside-requires
-outside-requires c κs = search needs
 
 returns : tie.Need-returns
 unfolding readAnswer answerTo outOfRange outOfRangeAt offCalendar offCalendarAt rows accepted firstOf
@@ -25,42 +14,39 @@ returns c =
     let marked : outside 0 1 (c .before .before .args .z) ≡ true = sym (c .before .outside .ensures) ∙ c .if1 .taken in
     rw marked
 
-cast-if2 : tie.Need-cast-if2
-cast-if2 c = search needs
-
 returns-2 : tie.Need-returns-2
 unfolding readAnswer answerTo outOfRange outOfRangeAt offCalendar offCalendarAt rows accepted firstOf
 returns-2 c = rw (← ((c .before .before .outside) .ensures), (c .before .if1) .left, lt-ltb _ _ ((c .if2) .taken))
 
-cast-t : tie.Need-cast-t
-cast-t c = search needs
-
-cast-if3 : tie.Need-cast-if3
-cast-if3 c = search needs
-
 returns-3 : tie.Need-returns-3
 unfolding readAnswer answerTo outOfRange outOfRangeAt offCalendar offCalendarAt rows accepted firstOf
-returns-3 c = rw (← ((c .before .before .before .outside) .ensures), (c .before .before .if1) .left, le-ltb _ _ ((c .before .if2) .left), lt-ltb _ _ ((c .if3) .taken))
+returns-3 c =
+    rw (← ((c .before .before .before .outside) .ensures), (c .before .before .if1) .left, le-ltb _ _ ((c .before .if2) .left), lt-ltb _ _ ((c .if3) .taken))
 
 returns-4 : tie.Need-returns-4
 unfolding readAnswer answerTo outOfRange outOfRangeAt offCalendar offCalendarAt rows accepted firstOf
-returns-4 c = rw (← ((c .before .before .before .before .outside) .ensures), (c .before .before .before .if1) .left, le-ltb _ _ ((c .before .before .if2) .left), le-ltb _ _ ((c .before .if3) .left), lt-ltb _ _ ((c .if4) .taken))
+returns-4 c =
+    rw (
+      ← ((c .before .before .before .before .outside) .ensures),
+      (c .before .before .before .if1) .left,
+      le-ltb _ _ ((c .before .before .if2) .left),
+      le-ltb _ _ ((c .before .if3) .left),
+      lt-ltb _ _ ((c .if4) .taken),
+    )
 
 returns-5 : tie.Need-returns-5
 unfolding readAnswer answerTo outOfRange outOfRangeAt offCalendar offCalendarAt rows accepted firstOf rulingAt
-returns-5 c = rw (← ((c .before .before .before .before .before .outside) .ensures), (c .before .before .before .before .if1) .left, le-ltb _ _ ((c .before .before .before .if2) .left), le-ltb _ _ ((c .before .before .if3) .left), le-ltb _ _ ((c .before .if4) .left)) ((c .read-rows) .ensures)
+returns-5 c =
+    rw (
+      ← ((c .before .before .before .before .before .outside) .ensures),
+      (c .before .before .before .before .if1) .left,
+      le-ltb _ _ ((c .before .before .before .if2) .left),
+      le-ltb _ _ ((c .before .before .if3) .left),
+      le-ltb _ _ ((c .before .if4) .left),
+    )
+    ((c .read-rows) .ensures)
 
 pub read-answer-spec : {M : Type 1} → statement M
 read-answer-spec =
-    tie.close
-    (tie.spec
-    outside-requires
-    returns
-    cast-if2
-    returns-2
-    cast-t
-    cast-if3
-    returns-3
-    returns-4
-    read-rows-requires
-    returns-5)
+    tie.close (tie.spec (λ c κs. search needs) returns (λ c. search needs) returns-2 (λ c. search needs)
+    (λ c. search needs) returns-3 returns-4 (λ c κs. search needs) returns-5)

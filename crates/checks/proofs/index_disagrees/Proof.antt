@@ -1,16 +1,8 @@
 -- Number 28: the definition's tests, by cases of the zero mark.
-use native.Mathlib.Omega.{arith}
-use mathlib.Core.Path.{_≡_, refl}
-use borrow.Author.Tests.{le-leb, lt-leb, eq-eqb, ne-eqb}
+use borrow.Author.Tests.{le-leb, lt-leb}
 use Rattle.checks.proofs.Tests.{at-zero, at-one, at-other}
-use borrow.Author.Needs.{needs}
 use Rattle.checks.proofs.index_disagrees.Statement.{statement}
 use Rattle.checks.proofs.index_disagrees.Tie as tie
-use Rattle.checks.proofs.index_disagrees.Reads as reads
-use Rattle.checks.proofs.index_disagrees.Lts as lts
-
-returns : tie.Need-returns
-returns c = rw (le-leb _ _ (c .if1 .taken))
 
 returns-2 : tie.Need-returns-2
 returns-2 c =
@@ -18,10 +10,14 @@ returns-2 c =
     (at-zero (c .before .before .args .z) (c .before .before .args .x) (c .before .before .args .last) (c .if2 .taken))
 
 returns-3 : tie.Need-returns-3
-returns-3 c = rw (lt-leb _ _ (c .before .before .if1 .left)) (at-one (c .before .before .before .args .z) (c .before .before .before .args .x) (c .before .before .before .args .last) (c .if3 .taken))
+returns-3 c =
+    rw (lt-leb _ _ (c .before .before .if1 .left)) (at-one (c .before .before .before .args .z) (c .before .before .before .args .x)
+    (c .before .before .before .args .last) (c .if3 .taken))
 
 returns-4 : tie.Need-returns-4
-returns-4 c = rw (lt-leb _ _ (c .before .before .if1 .left)) (at-other (c .before .before .before .args .z) (c .before .before .before .args .x) (c .before .before .before .args .last) (c .before .if2 .left) (c .if3 .left))
+returns-4 c =
+    rw (lt-leb _ _ (c .before .before .if1 .left)) (at-other (c .before .before .before .args .z) (c .before .before .before .args .x)
+    (c .before .before .before .args .last) (c .before .if2 .left) (c .if3 .left))
 
 pub index-disagrees-spec : {M : Type 1} → statement M
-index-disagrees-spec = tie.close (tie.spec returns returns-2 returns-3 returns-4)
+index-disagrees-spec = tie.close (tie.spec (λ c. rw (le-leb _ _ (c .if1 .taken))) returns-2 returns-3 returns-4)

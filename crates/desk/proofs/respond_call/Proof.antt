@@ -1,26 +1,16 @@
 use borrow.Author.Needs.{needs}
 use Rattle.desk.proofs.respond_call.Statement.{statement}
 use Rattle.desk.proofs.respond_call.Tie as tie
-use Rattle.desk.proofs.respond_call.Reads as reads
-use Rattle.desk.proofs.respond_call.Lts as lts
-use Rattle.desk.proofs.unreadable.Reads as unreadable-reads
-use Rattle.register.proofs.apply.Reads as apply-reads
 use Rattle.desk.specs.Desk.{replied, answerOf, deskAfter}
 use mathlib.Core.Path.{_∙_}
 use Rattle.desk.proofs.Openings.{not-opened}
-
-apply-requires : tie.Need-apply-requires
-apply-requires c κs = search needs
 
 returns : tie.Need-returns
 unfolding replied answerOf deskAfter
 returns c = rw ((c .before .before .before .if1) .taken, (c .before .apply) .ensures)
 
-unreadable-requires : tie.Need-unreadable-requires
-unreadable-requires c κs = search needs
-
 returns-2 : tie.Need-returns-2
 returns-2 c = (c .unreadable) .ensures ∙ not-opened ((c .before .before) .args .d) ((c .before .before) .args .c) ((c .before .if1) .left)
 
 pub respond-call-spec : {M : Type 1} → statement M
-respond-call-spec = tie.close (tie.spec apply-requires returns unreadable-requires returns-2)
+respond-call-spec = tie.close (tie.spec (λ c κs. search needs) returns (λ c κs. search needs) returns-2)

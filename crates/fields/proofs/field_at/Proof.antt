@@ -1,5 +1,5 @@
 -- `fields::field_at` meets its contract: a `;`, and then what the sort asks for.
-use Rattle.fields.specs.declared.Sort.the-variants.{Date, Number}
+use Rattle.fields.specs.declared.{Sort.Sort}
 use Rattle.fields.proofs.FieldSteps.{field-end, field-other}
 use Rattle.fields.proofs.Handed.{step-none, field-step}
 use borrow.Author.Needs.{needs}
@@ -11,32 +11,11 @@ returns c =
     let a = c .before .before .args in
     step-none (a .s .now) (a .at) _ (field-end _ _ (c .if1 .taken) (a .known) (a .sort))
 
-shared-slice-read-if2 : tie.Need-shared-slice-read-if2
-shared-slice-read-if2 c = search needs
-
 returns-2 : tie.Need-returns-2
 returns-2 c =
     let c₂ = c .before .before in
     let a = c₂ .before .before .args in
     step-none (a .s .now) (a .at) _ (field-other _ _ (c₂ .if1 .left) (a .known) (a .sort) (c .if2 .taken))
-
-enum-told : tie.Need-enum-told
-enum-told c = search needs
-
-add-known-date-at : tie.Need-add-known-date-at
-add-known-date-at c = search needs
-
-known-date-at-requires : tie.Need-known-date-at-requires
-known-date-at-requires c κs = search needs
-
-enum-told-2 : tie.Need-enum-told-2
-enum-told-2 c = search needs
-
-add-known-number-at : tie.Need-add-known-number-at
-add-known-number-at c = search needs
-
-known-number-at-requires : tie.Need-known-number-at-requires
-known-number-at-requires c κs = search needs
 
 returns-3 : tie.Need-returns-3
 returns-3 c =
@@ -44,7 +23,7 @@ returns-3 c =
     let c₅ = c₃ .before .before in
     let a = c₅ .before .before .args in
     rw (c .before .enum-told .given .1)
-    (field-step (a .s .now) (a .at) (a .known) Date _ (c₅ .if1 .left) (c₃ .if2 .left) (c .known-date-at .ensures))
+    (field-step (a .s .now) (a .at) (a .known) Sort.Date _ (c₅ .if1 .left) (c₃ .if2 .left) (c .known-date-at .ensures))
 
 returns-4 : tie.Need-returns-4
 returns-4 c =
@@ -52,20 +31,9 @@ returns-4 c =
     let c₅ = c₃ .before .before in
     let a = c₅ .before .before .args in
     rw (c .before .enum-told2 .given .1)
-    (field-step (a .s .now) (a .at) (a .known) Number _ (c₅ .if1 .left) (c₃ .if2 .left) (c .known-number-at .ensures))
+    (field-step (a .s .now) (a .at) (a .known) Sort.Number _ (c₅ .if1 .left) (c₃ .if2 .left) (c .known-number-at .ensures))
 
 pub field-at-spec : {M : Type 1} → statement M
 field-at-spec =
-    tie.close
-    (tie.spec
-    returns
-    shared-slice-read-if2
-    returns-2
-    enum-told
-    add-known-date-at
-    known-date-at-requires
-    enum-told-2
-    add-known-number-at
-    known-number-at-requires
-    returns-3
-    returns-4)
+    tie.close (tie.spec returns (λ c. search needs) returns-2 (λ c. search needs) (λ c. search needs)
+    (λ c κs. search needs) (λ c. search needs) (λ c. search needs) (λ c κs. search needs) returns-3 returns-4)

@@ -18,31 +18,10 @@ returns c =
     let a = c .before .before .args in
     step-none (a .s .now) (a .at) _ (date-short (a .known) _ (rw length-drop (omega arith)))
 
-sub-if2 : tie.Need-sub-if2
-sub-if2 c = search needs
-
 returns-2 : tie.Need-returns-2
 returns-2 c =
     let a = c .before .before .before .args in
     step-none (a .s .now) (a .at) _ (date-short (a .known) _ (rw length-drop (omega arith)))
-
-four-at-requires : tie.Need-four-at-requires
-four-at-requires c κs = search needs
-
-add-four-at : tie.Need-add-four-at
-add-four-at c = search needs
-
-four-at-requires-2 : tie.Need-four-at-requires-2
-four-at-requires-2 c κs = search needs
-
-mul-bytes : tie.Need-mul-bytes
-mul-bytes c = search needs
-
-add-bytes : tie.Need-add-bytes
-add-bytes c = search needs
-
-add-t13 : tie.Need-add-t13
-add-t13 c = search needs
 
 returns-3 : tie.Need-returns-3
 returns-3 c =
@@ -59,15 +38,6 @@ returns-3 c =
     (date-same (a .known) (drop (a .at) (a .s .now)) (rw length-drop (omega arith)) b e ∙
     ap (λ l. value (a .known .day) l (a .known)) (drop-drop 8 (a .at) (a .s .now)))
     (record { from = omega arith; to = omega arith })
-
-date-at-requires : tie.Need-date-at-requires
-date-at-requires c κs = search needs
-
-enum-known-day : tie.Need-enum-known-day
-enum-known-day c = search needs
-
-enum-told : tie.Need-enum-told
-enum-told c = search needs
 
 returns-4 : tie.Need-returns-4
 returns-4 c =
@@ -105,20 +75,6 @@ returns-5 c =
 
 pub known-date-at-spec : {M : Type 1} → statement M
 known-date-at-spec =
-    tie.close
-    (tie.spec
-    returns
-    sub-if2
-    returns-2
-    four-at-requires
-    add-four-at
-    four-at-requires-2
-    mul-bytes
-    add-bytes
-    add-t13
-    returns-3
-    date-at-requires
-    enum-known-day
-    enum-told
-    returns-4
-    returns-5)
+    tie.close (tie.spec returns (λ c. search needs) returns-2 (λ c κs. search needs) (λ c. search needs)
+    (λ c κs. search needs) (λ c. search needs) (λ c. search needs) (λ c. search needs) returns-3
+    (λ c κs. search needs) (λ c. search needs) (λ c. search needs) returns-4 returns-5)

@@ -36,18 +36,6 @@ loop-holds c =
     let all : n - 0 ≡ n = omega arith in
     (omega arith, omega arith, refl, within-self (a .line .now) (a .from), refl, rw all)
 
-sort-at-requires : tie.Need-sort-at-requires Inv-loop μ-loop
-sort-at-requires c κs = search needs
-
-field-at-requires : tie.Need-field-at-requires Inv-loop μ-loop
-field-at-requires c κs = search needs
-
-enum-known-v : tie.Need-enum-known-v Inv-loop μ-loop
-enum-known-v c = search needs
-
-enum-told : tie.Need-enum-told Inv-loop μ-loop
-enum-told c = search needs
-
 returns-2 : tie.Need-returns-2 Inv-loop μ-loop
 returns-2 c =
     let c₂ = c .before .before in
@@ -62,18 +50,6 @@ returns-2 c =
     (row-is (a .last) (a .shape) _ (omega arith) ∙ l .inv .5 ∙
     fields-bad (l .known) (a .shape .second) (a .shape .count) (l .i) (omega arith) _ _ e)
     (l .inv .3) (omega arith) (omega arith) (l .inv .2) (l .inv .4)
-
-mul-values : tie.Need-mul-values Inv-loop μ-loop
-mul-values c = search needs
-
-element-write-values : tie.Need-element-write-values Inv-loop μ-loop
-element-write-values c = search needs
-
-add-i : tie.Need-add-i Inv-loop μ-loop
-add-i c = search needs
-
-loop-less : tie.Need-loop-less Inv-loop μ-loop
-loop-less c = search needs
 
 loop-again : tie.Need-loop-again Inv-loop μ-loop
 loop-again c =
@@ -108,20 +84,6 @@ returns-3 c =
 
 pub read-row-spec : {M : Type 1} → statement M
 read-row-spec =
-    tie.close
-    (tie.spec
-    Inv-loop
-    μ-loop
-    returns
-    loop-holds
-    sort-at-requires
-    field-at-requires
-    enum-known-v
-    enum-told
-    returns-2
-    mul-values
-    element-write-values
-    add-i
-    loop-less
-    loop-again
-    returns-3)
+    tie.close (tie.spec Inv-loop μ-loop returns loop-holds (λ c κs. search needs) (λ c κs. search needs)
+    (λ c. search needs) (λ c. search needs) returns-2 (λ c. search needs) (λ c. search needs) (λ c. search needs)
+    (λ c. search needs) loop-again returns-3)

@@ -4,9 +4,6 @@ use borrow.Author.Tests.{eq-eqb, ne-eqb}
 use Rattle.fields.proofs.sort_at.Statement.{statement}
 use Rattle.fields.proofs.sort_at.Tie as tie
 
-returns : tie.Need-returns
-returns c = let a = c .before .args in rw (eq-eqb (a .i) 0 (omega arith))
-
 returns-2 : tie.Need-returns-2
 returns-2 c =
     let a = c .before .before .args in
@@ -18,4 +15,5 @@ returns-3 c =
     rw (ne-eqb (a .i) 0 (omega arith), ne-eqb (a .i) (a .second) (omega arith))
 
 pub sort-at-spec : {M : Type 1} → statement M
-sort-at-spec = tie.close (tie.spec returns returns-2 returns-3)
+sort-at-spec =
+    tie.close (tie.spec (λ c. let a = c .before .args in rw (eq-eqb (a .i) 0 (omega arith))) returns-2 returns-3)

@@ -17,21 +17,6 @@ Inv-loop first last count₀ d₀ count d =
 abbrev μ-loop : tie.MeasureT-loop
 μ-loop first last count₀ d₀ count d = last + 1 - d
 
-loop-holds : tie.Need-loop-holds Inv-loop μ-loop
-loop-holds c = search needs
-
-is-working-requires : tie.Need-is-working-requires Inv-loop μ-loop
-is-working-requires c κs = search needs
-
-add-count : tie.Need-add-count Inv-loop μ-loop
-add-count c = search needs
-
-add-d : tie.Need-add-d Inv-loop μ-loop
-add-d c = search needs
-
-loop-less : tie.Need-loop-less Inv-loop μ-loop
-loop-less c = search needs
-
 loop-again : tie.Need-loop-again Inv-loop μ-loop
 loop-again c =
     let d = c .before .before .before .loop .d in
@@ -52,14 +37,5 @@ returns c =
 
 pub count-working-spec : {M : Type 1} → statement M
 count-working-spec =
-    tie.close
-    (tie.spec
-    Inv-loop
-    μ-loop
-    loop-holds
-    is-working-requires
-    add-count
-    add-d
-    loop-less
-    loop-again
-    returns)
+    tie.close (tie.spec Inv-loop μ-loop (λ c. search needs) (λ c κs. search needs) (λ c. search needs)
+    (λ c. search needs) (λ c. search needs) loop-again returns)

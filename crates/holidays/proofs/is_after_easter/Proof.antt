@@ -4,7 +4,7 @@ use mathlib.Core.Bool.{true}
 use Prim.Native.Nat.{ℕ, _+_}
 use lib.Dec.{eqb}
 use borrow.Author.Tests.{eq-eqb, ne-eqb}
-use Rattle.dates.specs.declared.DayAnswer.the-variants.{Day}
+use Rattle.dates.specs.declared.{DayAnswer.DayAnswer}
 use Rattle.holidays.specs.Holidays.{isAfterEaster}
 use borrow.Author.Needs.{needs}
 use Rattle.holidays.proofs.is_after_easter.Statement.{statement}
@@ -12,53 +12,28 @@ use Rattle.holidays.proofs.is_after_easter.Tie as tie
 
 -- the three days after Easter Sunday e
 module _ (n e : ℕ) where
-  first-day : n ≡ e + 1 → isAfterEaster n (Day e) ≡ true
+  first-day : n ≡ e + 1 → isAfterEaster n (DayAnswer.Day e) ≡ true
   unfolding isAfterEaster
   first-day h = rw (eq-eqb n (e + 1) h)
 
-  second-day : (n ≡ e + 1 → ⊥) → n ≡ e + 39 → isAfterEaster n (Day e) ≡ true
+  second-day : (n ≡ e + 1 → ⊥) → n ≡ e + 39 → isAfterEaster n (DayAnswer.Day e) ≡ true
   unfolding isAfterEaster
   second-day f h = rw (ne-eqb n (e + 1) f, eq-eqb n (e + 39) h)
 
-  third-day : (n ≡ e + 1 → ⊥) → (n ≡ e + 39 → ⊥) → isAfterEaster n (Day e) ≡ eqb n (e + 50)
+  third-day : (n ≡ e + 1 → ⊥) → (n ≡ e + 39 → ⊥) → isAfterEaster n (DayAnswer.Day e) ≡ eqb n (e + 50)
   unfolding isAfterEaster
   third-day f g = rw (ne-eqb n (e + 1) f, ne-eqb n (e + 39) g)
-
-easter-day-requires : tie.Need-easter-day-requires
-easter-day-requires c κs = search needs
-
-enum-known-answer : tie.Need-enum-known-answer
-enum-known-answer c = search needs
-
-enum-told : tie.Need-enum-told
-enum-told c = search needs
-
-returns : tie.Need-returns
-unfolding isAfterEaster
-returns c = rw (sym (c .before .before .easter-day .ensures) ∙ c .enum-told .given .1)
-
-cast-easter : tie.Need-cast-easter
-cast-easter c = search needs
-
-add-if1 : tie.Need-add-if1
-add-if1 c = search needs
 
 returns-2 : tie.Need-returns-2
 returns-2 c =
     let easter = sym (c .before .before .before .before .easter-day .ensures) ∙ c .before .before .answer .given .1 in
     rw easter (sym (first-day _ _ (c .if1 .taken)))
 
-add-if2 : tie.Need-add-if2
-add-if2 c = search needs
-
 returns-3 : tie.Need-returns-3
 returns-3 c =
     let easter = sym (c .before .before .before .before .before .easter-day .ensures) ∙
     c .before .before .before .answer .given .1 in
     rw easter (sym (second-day _ _ (c .before .if1 .left) (c .if2 .taken)))
-
-add-result : tie.Need-add-result
-add-result c = search needs
 
 returns-4 : tie.Need-returns-4
 returns-4 c =
@@ -68,16 +43,6 @@ returns-4 c =
 
 pub is-after-easter-spec : {M : Type 1} → statement M
 is-after-easter-spec =
-    tie.close
-    (tie.spec
-    easter-day-requires
-    enum-known-answer
-    enum-told
-    returns
-    cast-easter
-    add-if1
-    returns-2
-    add-if2
-    returns-3
-    add-result
-    returns-4)
+    tie.close (tie.spec (λ c κs. search needs) (λ c. search needs) (λ c. search needs)
+    (λ c. unfold isAfterEaster in rw (sym (c .before .before .easter-day .ensures) ∙ c .enum-told .given .1))
+    (λ c. search needs) (λ c. search needs) returns-2 (λ c. search needs) returns-3 (λ c. search needs) returns-4)

@@ -15,30 +15,12 @@ Inv-loop x i₀ i = (i ≤ 8) × (anyFallsOn fixedHolidays x ≡ anyFallsOn (dro
 abbrev μ-loop : tie.MeasureT-loop
 μ-loop x i₀ i = 8 - i
 
-loop-holds : tie.Need-loop-holds Inv-loop μ-loop
-loop-holds c = (search needs, refl)
-
-mul-f : tie.Need-mul-f Inv-loop μ-loop
-mul-f c = search needs
-
-array-copy-out-f : tie.Need-array-copy-out-f Inv-loop μ-loop
-array-copy-out-f c = search needs
-
-falls-on-requires : tie.Need-falls-on-requires Inv-loop μ-loop
-falls-on-requires c κs = search needs
-
 returns : tie.Need-returns Inv-loop μ-loop
 unfolding isFixedHoliday
 returns c =
     let loop = c .before .before .before .before .loop in
     let met = sym (c .before .falls-on .ensures) ∙ c .if1 .taken in
     sym (loop .inv .1 ∙ row-met fixedHolidays (loop .i) _ _ (search needs) met)
-
-add-i : tie.Need-add-i Inv-loop μ-loop
-add-i c = search needs
-
-loop-less : tie.Need-loop-less Inv-loop μ-loop
-loop-less c = search needs
 
 loop-again : tie.Need-loop-again Inv-loop μ-loop
 loop-again c =
@@ -54,16 +36,5 @@ returns-2 c =
 
 pub is-fixed-holiday-spec : {M : Type 1} → statement M
 is-fixed-holiday-spec =
-    tie.close
-    (tie.spec
-    Inv-loop
-    μ-loop
-    loop-holds
-    mul-f
-    array-copy-out-f
-    falls-on-requires
-    returns
-    add-i
-    loop-less
-    loop-again
-    returns-2)
+    tie.close (tie.spec Inv-loop μ-loop (λ c. (search needs, refl)) (λ c. search needs) (λ c. search needs)
+    (λ c κs. search needs) returns (λ c. search needs) (λ c. search needs) loop-again returns-2)

@@ -7,21 +7,9 @@ use borrow.Author.Needs.{needs}
 use Rattle.holidays.proofs.is_holiday.Statement.{statement}
 use Rattle.holidays.proofs.is_holiday.Tie as tie
 
-date-of-requires : tie.Need-date-of-requires
-date-of-requires c κs = search needs
-
-enum-known-answer : tie.Need-enum-known-answer
-enum-known-answer c = search needs
-
-enum-told : tie.Need-enum-told
-enum-told c = search needs
-
 returns : tie.Need-returns
 unfolding isHoliday
 returns c = rw (lt-leb _ _ (answer-off _ (sym (c .before .before .date-of .ensures) ∙ c .enum-told .given .1)))
-
-is-fixed-holiday-requires : tie.Need-is-fixed-holiday-requires
-is-fixed-holiday-requires c κs = search needs
 
 returns-2 : tie.Need-returns-2
 unfolding isHoliday isHolidayOn
@@ -30,12 +18,6 @@ returns-2 c =
     c .before .before .before .answer .given .1 in
     let on = answer-on _ _ date in
     rw (le-leb _ _ (on .0), ← on .1, ← c .before .is-fixed-holiday .ensures, c .if1 .taken)
-
-cast-is-after-easter : tie.Need-cast-is-after-easter
-cast-is-after-easter c = search needs
-
-is-after-easter-requires : tie.Need-is-after-easter-requires
-is-after-easter-requires c κs = search needs
 
 returns-3 : tie.Need-returns-3
 unfolding isHoliday isHolidayOn
@@ -48,14 +30,5 @@ returns-3 c =
 
 pub is-holiday-spec : {M : Type 1} → statement M
 is-holiday-spec =
-    tie.close
-    (tie.spec
-    date-of-requires
-    enum-known-answer
-    enum-told
-    returns
-    is-fixed-holiday-requires
-    returns-2
-    cast-is-after-easter
-    is-after-easter-requires
-    returns-3)
+    tie.close (tie.spec (λ c κs. search needs) (λ c. search needs) (λ c. search needs) returns (λ c κs. search needs)
+    returns-2 (λ c. search needs) (λ c κs. search needs) returns-3)

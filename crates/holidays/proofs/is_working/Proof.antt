@@ -6,24 +6,11 @@ use borrow.Author.Needs.{needs}
 use Rattle.holidays.proofs.is_working.Statement.{statement}
 use Rattle.holidays.proofs.is_working.Tie as tie
 
-cast-if1 : tie.Need-cast-if1
-cast-if1 c = search needs
-
-returns : tie.Need-returns
-unfolding isWorking
-returns c = rw (lt-leb _ _ (c .if1 .taken))
-
-weekday-requires : tie.Need-weekday-requires
-weekday-requires c κs = search needs
-
 returns-2 : tie.Need-returns-2
 unfolding isWorking
 returns-2 c =
     let week = c .before .weekday in
     rw (le-leb _ _ (c .before .before .if1 .left), ← week .ensures, le-ltb (week .result) 5 (omega arith))
-
-is-holiday-requires : tie.Need-is-holiday-requires
-is-holiday-requires c κs = search needs
 
 returns-3 : tie.Need-returns-3
 unfolding isWorking
@@ -34,4 +21,5 @@ returns-3 c =
 
 pub is-working-spec : {M : Type 1} → statement M
 is-working-spec =
-    tie.close (tie.spec cast-if1 returns weekday-requires returns-2 is-holiday-requires returns-3)
+    tie.close (tie.spec (λ c. search needs) (λ c. unfold isWorking in rw (lt-leb _ _ (c .if1 .taken)))
+    (λ c κs. search needs) returns-2 (λ c κs. search needs) returns-3)

@@ -1,15 +1,6 @@
-use borrow.Author.Needs.{needs}
 use Rattle.input.proofs.is_over.Statement.{statement}
 use Rattle.input.proofs.is_over.Tie as tie
-use Rattle.input.proofs.is_over.Reads as reads
-use Rattle.input.proofs.is_over.Lts as lts
 use borrow.Author.Tests.{eq-eqb, ne-eqb}
 
-returns : tie.Need-returns
-returns c = rw (eq-eqb _ _ ((c .if1) .taken))
-
-returns-2 : tie.Need-returns-2
-returns-2 c = rw (ne-eqb _ _ ((c .if1) .left))
-
 pub is-over-spec : {M : Type 1} → statement M
-is-over-spec = tie.close (tie.spec returns returns-2)
+is-over-spec = tie.close (tie.spec (λ c. rw (eq-eqb _ _ ((c .if1) .taken))) (λ c. rw (ne-eqb _ _ ((c .if1) .left))))

@@ -1,11 +1,9 @@
 use borrow.Author.Needs.{needs}
 use Rattle.input.proofs.line_end.Statement.{statement}
 use Rattle.input.proofs.line_end.Tie as tie
-use Rattle.input.proofs.line_end.Reads as reads
-use Rattle.input.proofs.line_end.Lts as lts
-use Prim.Native.Nat.{ℕ, suc, _+_, _-_, _≤_, _<_}
-use mathlib.Core.Path.{_≡_, refl, sym, ap, _∙_}
-use lib.ListN.{length, drop, getD, length-drop}
+use Prim.Native.Nat.{_+_, _-_}
+use mathlib.Core.Path.{_≡_, refl}
+use lib.ListN.{length, drop, length-drop}
 use native.Mathlib.Omega.{arith}
 use native.Mathlib.Numerals.{add-one}
 use Rattle.input.specs.Lines.{untilFeed}
@@ -17,37 +15,33 @@ Inv-loop piece at i₀ i = i + untilFeed (drop i piece) ≡ at + untilFeed (drop
 abbrev μ-loop : tie.MeasureT-loop
 μ-loop piece at i₀ i = length piece - i
 
-loop-holds : tie.Need-loop-holds Inv-loop μ-loop
-loop-holds c = refl
-
-shared-slice-read-if1 : tie.Need-shared-slice-read-if1 Inv-loop μ-loop
-shared-slice-read-if1 c = search needs
-
 returns : tie.Need-returns Inv-loop μ-loop
-returns c = omega (arith, (c .before .before .before .loop) .inv, until-here ((c .before .before .before .before) .args .piece .now) ((c .before .before .before .loop) .i) (omega arith) ((c .if1) .taken))
-
-add-i : tie.Need-add-i Inv-loop μ-loop
-add-i c = search needs
-
-loop-less : tie.Need-loop-less Inv-loop μ-loop
-loop-less c = search needs
+returns c =
+    omega (
+      arith,
+      (c .before .before .before .loop) .inv,
+      until-here ((c .before .before .before .before) .args .piece .now)
+          ((c .before .before .before .loop) .i) (omega arith) ((c .if1) .taken),
+    )
 
 loop-again : tie.Need-loop-again Inv-loop μ-loop
-loop-again c = rw (add-one ((c .before .before .before .loop) .i)) (omega (arith, (c .before .before .before .loop) .inv, until-later ((c .before .before .before .before) .args .piece .now) ((c .before .before .before .loop) .i) (omega arith) ((c .if1) .left)))
+loop-again c =
+    rw (add-one ((c .before .before .before .loop) .i)) (omega (
+      arith,
+      (c .before .before .before .loop) .inv,
+      until-later ((c .before .before .before .before) .args .piece .now) ((c .before .before .before .loop) .i) (omega arith) ((c .if1) .left),
+    ))
 
 returns-2 : tie.Need-returns-2 Inv-loop μ-loop
-returns-2 c = omega (arith, (c .before .loop) .inv, until-le (drop ((c .before .loop) .i) ((c .before .before) .args .piece .now)), length-drop ((c .before .loop) .i) ((c .before .before) .args .piece .now))
+returns-2 c =
+    omega (
+      arith,
+      (c .before .loop) .inv,
+      until-le (drop ((c .before .loop) .i) ((c .before .before) .args .piece .now)),
+      length-drop ((c .before .loop) .i) ((c .before .before) .args .piece .now),
+    )
 
 pub line-end-spec : {M : Type 1} → statement M
 line-end-spec =
-    tie.close
-    (tie.spec
-    Inv-loop
-    μ-loop
-    loop-holds
-    shared-slice-read-if1
-    returns
-    add-i
-    loop-less
-    loop-again
-    returns-2)
+    tie.close (tie.spec Inv-loop μ-loop (λ c. refl) (λ c. search needs) returns (λ c. search needs)
+    (λ c. search needs) loop-again returns-2)

@@ -6,12 +6,6 @@ use borrow.Author.Needs.{needs}
 use Rattle.listing.proofs.put_line.Statement.{statement}
 use Rattle.listing.proofs.put_line.Tie as tie
 
-put-period-requires : tie.Need-put-period-requires
-put-period-requires c κs = search needs
-
-same-length : tie.Need-same-length
-same-length c = search needs
-
 returns : tie.Need-returns
 returns c =
     let c₂ = c .before .before in
@@ -24,4 +18,4 @@ returns c =
     }
 
 pub put-line-spec : {M : Type 1} → statement M
-put-line-spec = tie.close (tie.spec put-period-requires same-length returns)
+put-line-spec = tie.close (tie.spec (λ c κs. search needs) (λ c. search needs) returns)

@@ -7,15 +7,6 @@ use borrow.Author.Needs.{needs}
 use Rattle.listing.proofs.put_listing.Statement.{statement}
 use Rattle.listing.proofs.put_listing.Tie as tie
 
-taken-from-requires : tie.Need-taken-from-requires
-taken-from-requires c κs = search needs
-
-put-points-requires : tie.Need-put-points-requires
-put-points-requires c κs = search needs
-
-add-t7 : tie.Need-add-t7
-add-t7 c = search needs
-
 same-length : tie.Need-same-length
 same-length c =
     let c₂ = c .before .before in
@@ -32,4 +23,5 @@ returns c =
     (c₂ .put-points .ensures)
 
 pub put-listing-spec : {M : Type 1} → statement M
-put-listing-spec = tie.close (tie.spec taken-from-requires put-points-requires add-t7 same-length returns)
+put-listing-spec =
+    tie.close (tie.spec (λ c κs. search needs) (λ c κs. search needs) (λ c. search needs) same-length returns)

@@ -21,21 +21,6 @@ loop-holds c = (
       (within-none (c .before .args .at) (c .before .args .out .now) (omega arith)),
 )
 
-mul-q : tie.Need-mul-q Inv-loop μ-loop
-mul-q c = search needs
-
-array-copy-out-q : tie.Need-array-copy-out-q Inv-loop μ-loop
-array-copy-out-q c = search needs
-
-put-line-requires : tie.Need-put-line-requires Inv-loop μ-loop
-put-line-requires c κs = search needs
-
-add-i : tie.Need-add-i Inv-loop μ-loop
-add-i c = search needs
-
-loop-less : tie.Need-loop-less Inv-loop μ-loop
-loop-less c = search needs
-
 loop-again : tie.Need-loop-again Inv-loop μ-loop
 loop-again c =
     let c₂ = c .before .before in
@@ -65,16 +50,5 @@ returns c =
 
 pub put-periods-spec : {M : Type 1} → statement M
 put-periods-spec =
-    tie.close
-    (tie.spec
-    Inv-loop
-    μ-loop
-    loop-holds
-    mul-q
-    array-copy-out-q
-    put-line-requires
-    add-i
-    loop-less
-    loop-again
-    same-length
-    returns)
+    tie.close (tie.spec Inv-loop μ-loop loop-holds (λ c. search needs) (λ c. search needs) (λ c κs. search needs)
+    (λ c. search needs) (λ c. search needs) loop-again same-length returns)

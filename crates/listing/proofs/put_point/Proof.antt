@@ -12,21 +12,6 @@ returns c =
     point-none (c₄ .args .at) (c₄ .args .p) (c₄ .args .g) (c₄ .args .out .now) (omega arith)
     (not-on (c₄ .args .g .fields .enrolled) (c .if1 .taken))
 
-marks-requires : tie.Need-marks-requires
-marks-requires c κs = search needs
-
-put-periods-requires : tie.Need-put-periods-requires
-put-periods-requires c κs = search needs
-
-advance-in-requires : tie.Need-advance-in-requires
-advance-in-requires c κs = search needs
-
-put-total-requires : tie.Need-put-total-requires
-put-total-requires c κs = search needs
-
-same-length : tie.Need-same-length
-same-length c = search needs
-
 returns-2 : tie.Need-returns-2
 returns-2 c =
     let c₂ = c .before .before in
@@ -42,12 +27,5 @@ returns-2 c =
 
 pub put-point-spec : {M : Type 1} → statement M
 put-point-spec =
-    tie.close
-    (tie.spec
-    returns
-    marks-requires
-    put-periods-requires
-    advance-in-requires
-    put-total-requires
-    same-length
-    returns-2)
+    tie.close (tie.spec returns (λ c κs. search needs) (λ c κs. search needs) (λ c κs. search needs)
+    (λ c κs. search needs) (λ c. search needs) returns-2)

@@ -26,21 +26,6 @@ loop-holds c = (
       (within-none 0 (c .before .args .out .now) (omega arith)),
 )
 
-add-g : tie.Need-add-g Inv-loop μ-loop
-add-g c = search needs
-
-mul-g : tie.Need-mul-g Inv-loop μ-loop
-mul-g c = search needs
-
-array-copy-out-g : tie.Need-array-copy-out-g Inv-loop μ-loop
-array-copy-out-g c = search needs
-
-add-p : tie.Need-add-p Inv-loop μ-loop
-add-p c = search needs
-
-add-p-2 : tie.Need-add-p-2 Inv-loop μ-loop
-add-p-2 c = search needs
-
 put-point-requires : tie.Need-put-point-requires Inv-loop μ-loop
 put-point-requires c κs =
     let c₃ = c .before .before .before in
@@ -50,12 +35,6 @@ put-point-requires c κs =
     let len = within-length (l .i * 918) 0 _ _ _ _ (l .inv .1) (omega arith) in
     let end = within-end (l .i * 918) 0 _ _ _ _ (l .inv .1) (omega arith) in
     (omega arith, omega arith)
-
-add-i : tie.Need-add-i Inv-loop μ-loop
-add-i c = search needs
-
-loop-less : tie.Need-loop-less Inv-loop μ-loop
-loop-less c = search needs
 
 loop-again : tie.Need-loop-again Inv-loop μ-loop
 loop-again c =
@@ -85,19 +64,6 @@ returns c =
 
 pub put-points-spec : {M : Type 1} → statement M
 put-points-spec =
-    tie.close
-    (tie.spec
-    Inv-loop
-    μ-loop
-    loop-holds
-    add-g
-    mul-g
-    array-copy-out-g
-    add-p
-    add-p-2
-    put-point-requires
-    add-i
-    loop-less
-    loop-again
-    same-length
-    returns)
+    tie.close (tie.spec Inv-loop μ-loop loop-holds (λ c. search needs) (λ c. search needs) (λ c. search needs)
+    (λ c. search needs) (λ c. search needs) put-point-requires (λ c. search needs) (λ c. search needs) loop-again
+    same-length returns)

@@ -10,28 +10,6 @@ use borrow.Author.Needs.{needs}
 use Rattle.message.proofs.read_line.Statement.{statement}
 use Rattle.message.proofs.read_line.Tie as tie
 
-returns : tie.Need-returns
-unfolding readLine
-returns c = rw (lt-leb _ 96 (c .if1 .taken))
-
-word-end-requires : tie.Need-word-end-requires
-word-end-requires c κs = search needs
-
-slice-aggregate-kind-named : tie.Need-slice-aggregate-kind-named
-slice-aggregate-kind-named c = sym (length-take-le _ _ (c .before .word-end .ensures .1))
-
-kind-named-requires : tie.Need-kind-named-requires
-kind-named-requires c κs = search needs
-
-shape-of-requires : tie.Need-shape-of-requires
-shape-of-requires c κs = search needs
-
-first-known-requires : tie.Need-first-known-requires
-first-known-requires c κs = search needs
-
-read-row-requires : tie.Need-read-row-requires
-read-row-requires c κs = search needs
-
 returns-2 : tie.Need-returns-2
 returns-2 c =
     let c₂ = c .before .before in
@@ -64,9 +42,6 @@ returns-3 c =
     sym (with ∙ rw (not-false (c₄ .read-row .result .ok) (c₂ .if2 .left))
     (with-more (c₈ .kind-named .result) _ (s .args .line .now) _ (c .if3 .taken)))
 
-message-of-requires : tie.Need-message-of-requires
-message-of-requires c κs = search needs
-
 returns-4 : tie.Need-returns-4
 returns-4 c =
     let c₃ = c .before .before .before in
@@ -87,16 +62,6 @@ returns-4 c =
 
 pub read-line-spec : {M : Type 1} → statement M
 read-line-spec =
-    tie.close
-    (tie.spec
-    returns
-    word-end-requires
-    slice-aggregate-kind-named
-    kind-named-requires
-    shape-of-requires
-    first-known-requires
-    read-row-requires
-    returns-2
-    returns-3
-    message-of-requires
-    returns-4)
+    tie.close (tie.spec (λ c. unfold readLine in rw (lt-leb _ 96 (c .if1 .taken))) (λ c κs. search needs)
+    (λ c. sym (length-take-le _ _ (c .before .word-end .ensures .1))) (λ c κs. search needs) (λ c κs. search needs)
+    (λ c κs. search needs) (λ c κs. search needs) returns-2 returns-3 (λ c κs. search needs) returns-4)

@@ -25,18 +25,6 @@ loop-holds c =
     let long : length (c .args .t1) ≡ 7 = search needs in
     (omega arith, omega arith, rw all)
 
-sort-at-requires : tie.Need-sort-at-requires Inv-loop μ-loop
-sort-at-requires c κs = search needs
-
-mul-fits : tie.Need-mul-fits Inv-loop μ-loop
-mul-fits c = search needs
-
-array-read-fits : tie.Need-array-read-fits Inv-loop μ-loop
-array-read-fits c = search needs
-
-fits-requires : tie.Need-fits-requires Inv-loop μ-loop
-fits-requires c κs = search needs
-
 returns : tie.Need-returns Inv-loop μ-loop
 returns c =
     let a = c .before .before .before .before .before .args in
@@ -44,12 +32,6 @@ returns c =
     let one = sym (c .before .fits2 .ensures) ∙ not-true _ (c .if1 .taken) in
     let next = fit-next (a .shape .second) (a .shape .count) (l .i) (a .t1) (omega arith) (l .inv .1) in
     sym (l .inv .2 ∙ next ∙ rw (← (c .before .before .sort-at .ensures), one))
-
-add-i : tie.Need-add-i Inv-loop μ-loop
-add-i c = search needs
-
-loop-less : tie.Need-loop-less Inv-loop μ-loop
-loop-less c = search needs
 
 loop-again : tie.Need-loop-again Inv-loop μ-loop
 loop-again c =
@@ -67,17 +49,5 @@ returns-2 c =
 
 pub fit-all-spec : {M : Type 1} → statement M
 fit-all-spec =
-    tie.close
-    (tie.spec
-    Inv-loop
-    μ-loop
-    loop-holds
-    sort-at-requires
-    mul-fits
-    array-read-fits
-    fits-requires
-    returns
-    add-i
-    loop-less
-    loop-again
-    returns-2)
+    tie.close (tie.spec Inv-loop μ-loop loop-holds (λ c κs. search needs) (λ c. search needs) (λ c. search needs)
+    (λ c κs. search needs) returns (λ c. search needs) (λ c. search needs) loop-again returns-2)

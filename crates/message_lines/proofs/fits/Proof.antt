@@ -3,20 +3,7 @@ use borrow.Author.Needs.{needs}
 use Rattle.message_lines.proofs.fits.Statement.{statement}
 use Rattle.message_lines.proofs.fits.Tie as tie
 
-enum-told : tie.Need-enum-told
-enum-told c = search needs
-
-cast-result : tie.Need-cast-result
-cast-result c = search needs
-
-enum-told-2 : tie.Need-enum-told-2
-enum-told-2 c = search needs
-
-returns : tie.Need-returns
-returns c = rw (c .enum-told .given .1)
-
-returns-2 : tie.Need-returns-2
-returns-2 c = rw (c .enum-told2 .given .1)
-
 pub fits-spec : {M : Type 1} → statement M
-fits-spec = tie.close (tie.spec enum-told cast-result enum-told-2 returns returns-2)
+fits-spec =
+    tie.close (tie.spec (λ c. search needs) (λ c. search needs) (λ c. search needs) (λ c. rw (c .enum-told .given .1))
+    (λ c. rw (c .enum-told2 .given .1)))

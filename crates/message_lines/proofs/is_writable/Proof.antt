@@ -3,28 +3,12 @@ use mathlib.Core.Path.{_≡_, sym, _∙_}
 use mathlib.Core.Logic.{⊎-elim}
 use native.Mathlib.Omega.{arith}
 use Rattle.kinds.proofs.KindTable.{few}
-use Rattle.message.specs.declared.Message.the-variants.{Unreadable}
+use Rattle.message.specs.declared.{Message.Message}
 use Rattle.message.specs.Writing.{isWritable}
 use Rattle.message.proofs.Rows.{writable-parts}
 use borrow.Author.Needs.{needs}
 use Rattle.message_lines.proofs.is_writable.Statement.{statement}
 use Rattle.message_lines.proofs.is_writable.Tie as tie
-
-enum-told : tie.Need-enum-told
-enum-told c = search needs
-
-returns : tie.Need-returns
-unfolding isWritable
-returns c = rw (c .enum-told .given .1)
-
-parts-of-requires : tie.Need-parts-of-requires
-parts-of-requires c κs = search needs
-
-shape-of-requires : tie.Need-shape-of-requires
-shape-of-requires c κs = search needs
-
-fit-all-requires : tie.Need-fit-all-requires
-fit-all-requires c κs = rw (c .shape-of .ensures) (few (c .before .before .parts-of .result .kind))
 
 returns-2 : tie.Need-returns-2
 returns-2 c =
@@ -33,16 +17,11 @@ returns-2 c =
     let c₅ = c₄ .before in
     let a = c₅ .args in
     let parts = c₃ .parts-of .ensures in
-    let read : a .m ≡ Unreadable → ⊥ = λ e. ⊎-elim (λ z. omega arith) (λ z. omega arith) (rw e at (c₄ .match .keys2)) in
+    let read : a .m ≡ Message.Unreadable → ⊥ = λ e. ⊎-elim (λ z. omega arith) (λ z. omega arith) (rw e at (c₄ .match .keys2)) in
     c .fit-all .ensures ∙ rw (c .before .shape-of .ensures, parts) (sym (writable-parts (a .m) read))
 
 pub is-writable-spec : {M : Type 1} → statement M
 is-writable-spec =
-    tie.close
-    (tie.spec
-    enum-told
-    returns
-    parts-of-requires
-    shape-of-requires
-    fit-all-requires
-    returns-2)
+    tie.close (tie.spec (λ c. search needs) (λ c. unfold isWritable in rw (c .enum-told .given .1))
+    (λ c κs. search needs) (λ c κs. search needs)
+    (λ c κs. rw (c .shape-of .ensures) (few (c .before .before .parts-of .result .kind))) returns-2)

@@ -2,70 +2,40 @@
 use mathlib.Core.List.{[], _∷_}
 use native.Mathlib.Omega.{arith}
 use Rattle.text.proofs.Appends.{rest-start, rest-next, rest-done}
-use Rattle.fields.specs.declared.Sort.the-variants.{Date, Number}
+use Rattle.fields.specs.declared.{Sort.Sort}
 use Rattle.fields.specs.Fields.{fieldText}
 use Rattle.fields.proofs.FieldTexts.{field-short}
 use borrow.Author.Needs.{needs}
 use Rattle.message_lines.proofs.put_field.Statement.{statement}
 use Rattle.message_lines.proofs.put_field.Tie as tie
 
-put-byte-requires : tie.Need-put-byte-requires
-put-byte-requires c κs = search needs
-
-enum-told : tie.Need-enum-told
-enum-told c = search needs
-
-put-day-requires : tie.Need-put-day-requires
-put-day-requires c κs = search needs
-
-enum-told-2 : tie.Need-enum-told-2
-enum-told-2 c = search needs
-
-put-number-requires : tie.Need-put-number-requires
-put-number-requires c κs = search needs
-
-same-length : tie.Need-same-length
-same-length c = search needs
-
 returns : tie.Need-returns
 returns c =
     let a = c .before .before .before .before .before .before .before .before .before .before .before .args in
     let p = c .before .before .before .before .before .before .before .before .before .before .before .pre in
     let told = c .before .before .before .before .enum-told .given .1 in
-    let short = field-short Date (a .n) (rw told at (p .0)) in
+    let short = field-short Sort.Date (a .n) (rw told at (p .0)) in
     rw told
-    (rest-done (a .at) (fieldText Date (a .n) []) (a .out .now) _ _ _ _ _
-    (rest-next (a .at) (fieldText Date (a .n) []) (a .out .now) (a .at) (59 ∷ []) _ (a .out .now) _ _
-    (rest-start (a .at) (fieldText Date (a .n) []) (a .out .now) (omega arith))
+    (rest-done (a .at) (fieldText Sort.Date (a .n) []) (a .out .now) _ _ _ _ _
+    (rest-next (a .at) (fieldText Sort.Date (a .n) []) (a .out .now) (a .at) (59 ∷ []) _ (a .out .now) _ _
+    (rest-start (a .at) (fieldText Sort.Date (a .n) []) (a .out .now) (omega arith))
     (c .before .before .before .before .before .before .before .before .put-byte .ensures))
     (c .before .before .put-day .ensures))
-
-same-length-2 : tie.Need-same-length-2
-same-length-2 c = search needs
 
 returns-2 : tie.Need-returns-2
 returns-2 c =
     let a = c .before .before .before .before .before .before .before .before .before .before .before .args in
     let p = c .before .before .before .before .before .before .before .before .before .before .before .pre in
     let told = c .before .before .before .before .enum-told2 .given .1 in
-    let short = field-short Number (a .n) (rw told at (p .0)) in
+    let short = field-short Sort.Number (a .n) (rw told at (p .0)) in
     rw told
-    (rest-done (a .at) (fieldText Number (a .n) []) (a .out .now) _ _ _ _ _
-    (rest-next (a .at) (fieldText Number (a .n) []) (a .out .now) (a .at) (59 ∷ []) _ (a .out .now) _ _
-    (rest-start (a .at) (fieldText Number (a .n) []) (a .out .now) (omega arith))
+    (rest-done (a .at) (fieldText Sort.Number (a .n) []) (a .out .now) _ _ _ _ _
+    (rest-next (a .at) (fieldText Sort.Number (a .n) []) (a .out .now) (a .at) (59 ∷ []) _ (a .out .now) _ _
+    (rest-start (a .at) (fieldText Sort.Number (a .n) []) (a .out .now) (omega arith))
     (c .before .before .before .before .before .before .before .before .put-byte .ensures))
     (c .before .before .put-number .ensures))
 
 pub put-field-spec : {M : Type 1} → statement M
 put-field-spec =
-    tie.close
-    (tie.spec
-    put-byte-requires
-    enum-told
-    put-day-requires
-    enum-told-2
-    put-number-requires
-    same-length
-    returns
-    same-length-2
-    returns-2)
+    tie.close (tie.spec (λ c κs. search needs) (λ c. search needs) (λ c κs. search needs) (λ c. search needs)
+    (λ c κs. search needs) (λ c. search needs) returns (λ c. search needs) returns-2)

@@ -32,15 +32,6 @@ loop-holds c =
     let short = row-short (a .shape .second) 0 n (take n (a .t3)) (pre .1 .0) in
     (omega arith, omega arith, rw all (pre .1 .0), rw all (rest-start (a .from) _ (a .out .now) (omega arith)), omega arith)
 
-sort-at-requires : tie.Need-sort-at-requires Inv-loop μ-loop
-sort-at-requires c κs = search needs
-
-mul-n : tie.Need-mul-n Inv-loop μ-loop
-mul-n c = search needs
-
-array-read-n : tie.Need-array-read-n Inv-loop μ-loop
-array-read-n c = search needs
-
 put-field-requires : tie.Need-put-field-requires Inv-loop μ-loop
 put-field-requires c κs =
     let a = c .before .before .before .before .before .args in
@@ -48,12 +39,6 @@ put-field-requires c κs =
     let next = fit-next (a .shape .second) (a .shape .count) (l .i) (a .t3) (omega arith) (l .inv .1) in
     let fit = and-left (fits (sortAt (a .shape .second) (l .i)) (getD (a .t3) (l .i) 0)) _ (sym next ∙ l .inv .2) in
     (rw (c .before .sort-at .ensures) fit, omega arith)
-
-add-i : tie.Need-add-i Inv-loop μ-loop
-add-i c = search needs
-
-loop-less : tie.Need-loop-less Inv-loop μ-loop
-loop-less c = search needs
 
 loop-again : tie.Need-loop-again Inv-loop μ-loop
 loop-again c =
@@ -76,9 +61,6 @@ loop-again c =
       omega (arith, went .1, long),
     )
 
-same-length : tie.Need-same-length Inv-loop μ-loop
-same-length c = c .before .loop .inv .3 .long
-
 returns : tie.Need-returns Inv-loop μ-loop
 returns c =
     let a = c .before .before .before .args in
@@ -88,17 +70,6 @@ returns c =
 
 pub put-fields-spec : {M : Type 1} → statement M
 put-fields-spec =
-    tie.close
-    (tie.spec
-    Inv-loop
-    μ-loop
-    loop-holds
-    sort-at-requires
-    mul-n
-    array-read-n
-    put-field-requires
-    add-i
-    loop-less
-    loop-again
-    same-length
+    tie.close (tie.spec Inv-loop μ-loop loop-holds (λ c κs. search needs) (λ c. search needs) (λ c. search needs)
+    put-field-requires (λ c. search needs) (λ c. search needs) loop-again (λ c. c .before .loop .inv .3 .long)
     returns)

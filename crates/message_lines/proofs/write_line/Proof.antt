@@ -8,28 +8,6 @@ use Rattle.message_lines.proofs.WrittenLines.{fields-room, line-written
 use Rattle.message_lines.proofs.write_line.Statement.{statement}
 use Rattle.message_lines.proofs.write_line.Tie as tie
 
-is-writable-requires : tie.Need-is-writable-requires
-is-writable-requires c κs = search needs
-
-returns : tie.Need-returns
-unfolding writtenLine textOf
-returns c = rw (sym (c .before .is-writable .ensures) ∙ not-true _ (c .if1 .taken))
-
-parts-of-requires : tie.Need-parts-of-requires
-parts-of-requires c κs = search needs
-
-shape-of-requires : tie.Need-shape-of-requires
-shape-of-requires c κs = search needs
-
-slice-aggregate-put-kind : tie.Need-slice-aggregate-put-kind
-slice-aggregate-put-kind c = search needs
-
-put-kind-requires : tie.Need-put-kind-requires
-put-kind-requires c κs = search needs
-
-slice-aggregate-put-fields : tie.Need-slice-aggregate-put-fields
-slice-aggregate-put-fields c = search needs
-
 put-fields-requires : tie.Need-put-fields-requires
 put-fields-requires c κs =
     let c₂ = c .before .before in
@@ -61,14 +39,7 @@ returns-2 c =
 
 pub write-line-spec : {M : Type 1} → statement M
 write-line-spec =
-    tie.close
-    (tie.spec
-    is-writable-requires
-    returns
-    parts-of-requires
-    shape-of-requires
-    slice-aggregate-put-kind
-    put-kind-requires
-    slice-aggregate-put-fields
-    put-fields-requires
-    returns-2)
+    tie.close (tie.spec (λ c κs. search needs)
+    (λ c. unfold writtenLine textOf in rw (sym (c .before .is-writable .ensures) ∙ not-true _ (c .if1 .taken)))
+    (λ c κs. search needs) (λ c κs. search needs) (λ c. search needs) (λ c κs. search needs) (λ c. search needs)
+    put-fields-requires returns-2)

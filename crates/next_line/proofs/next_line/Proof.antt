@@ -11,36 +11,6 @@ use Rattle.input.proofs.Feeds.{until-le}
 use lib.ListN.{drop, length-drop}
 use native.Mathlib.Omega.{arith}
 
-returns : tie.Need-returns
-returns c = let a = c .before .before .args in next-off (a .last) (a .buf .now) (a .from) (c .if1 .taken)
-
-word-end-from-requires : tie.Need-word-end-from-requires
-word-end-from-requires c κs = search needs
-
-sub-kind-named : tie.Need-sub-kind-named
-sub-kind-named c = search needs
-
-part-kind-named-start : tie.Need-part-kind-named-start
-part-kind-named-start c = search needs
-
-part-kind-named-end : tie.Need-part-kind-named-end
-part-kind-named-end c = search needs
-
-kind-named-requires : tie.Need-kind-named-requires
-kind-named-requires c κs = search needs
-
-shape-of-requires : tie.Need-shape-of-requires
-shape-of-requires c κs = search needs
-
-read-row-requires : tie.Need-read-row-requires
-read-row-requires c κs = search needs
-
-is-feed-requires : tie.Need-is-feed-requires
-is-feed-requires c κs = search needs
-
-message-of-requires : tie.Need-message-of-requires
-message-of-requires c κs = search needs
-
 returns-2 : tie.Need-returns-2
 returns-2 c =
     let c₂ = c .before .before in
@@ -58,24 +28,12 @@ returns-2 c =
     (c₇ .shape-of .result) _ _ (c₅ .read-row .result) (c₁₀ .word-end-from .ensures .0) (c₁₀ .word-end-from .ensures .1)
     (c₈ .kind-named .ensures) (c₇ .shape-of .ensures) (c₅ .read-row .ensures) (c₃ .if2 .taken) feed)
 
-line-end-requires : tie.Need-line-end-requires
-line-end-requires c κs = search needs
-
-sub-read-line : tie.Need-sub-read-line
-sub-read-line c = search needs
-
-part-read-line-start : tie.Need-part-read-line-start
-part-read-line-start c = search needs
-
 part-read-line-end : tie.Need-part-read-line-end
 part-read-line-end c =
     let c₉ = c .before .before .before .before .before .before .before .before .before in
     let a = c₉ .before .before .args in
     let until = until-le (drop (a .from) (a .buf .now)) in
     omega (arith, c .line-end .ensures, c₉ .if1 .left, until, length-drop (a .from) (a .buf .now))
-
-read-line-requires : tie.Need-read-line-requires
-read-line-requires c κs = search needs
 
 returns-3 : tie.Need-returns-3
 returns-3 c =
@@ -96,22 +54,9 @@ returns-3 c =
 
 pub next-line-spec : {M : Type 1} → statement M
 next-line-spec =
-    tie.close
-    (tie.spec
-    returns
-    word-end-from-requires
-    sub-kind-named
-    part-kind-named-start
-    part-kind-named-end
-    kind-named-requires
-    shape-of-requires
-    read-row-requires
-    is-feed-requires
-    message-of-requires
-    returns-2
-    line-end-requires
-    sub-read-line
-    part-read-line-start
-    part-read-line-end
-    read-line-requires
+    tie.close (tie.spec
+    (λ c. let a = c .before .before .args in next-off (a .last) (a .buf .now) (a .from) (c .if1 .taken))
+    (λ c κs. search needs) (λ c. search needs) (λ c. search needs) (λ c. search needs) (λ c κs. search needs)
+    (λ c κs. search needs) (λ c κs. search needs) (λ c κs. search needs) (λ c κs. search needs) returns-2
+    (λ c κs. search needs) (λ c. search needs) (λ c. search needs) part-read-line-end (λ c κs. search needs)
     returns-3)

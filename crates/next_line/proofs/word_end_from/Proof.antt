@@ -15,12 +15,6 @@ Inv-loop buf from i₀ i = (from ≤ i) × (i ≤ length buf) × (from + stopAt 
 abbrev μ-loop : tie.MeasureT-loop
 μ-loop buf from i₀ i = length buf - i
 
-loop-holds : tie.Need-loop-holds Inv-loop μ-loop
-loop-holds c = (omega arith, omega (arith, (c) .pre), refl)
-
-shared-slice-read-if1 : tie.Need-shared-slice-read-if1 Inv-loop μ-loop
-shared-slice-read-if1 c = search needs
-
 returns : tie.Need-returns Inv-loop μ-loop
 returns c =
     let c₃ = c .before .before .before in
@@ -28,9 +22,6 @@ returns c =
     let l = c₃ .loop in
     let e = stop-here (c₄ .args .buf .now) (l .i) (omega arith) (c .if1 .taken) in
     (omega (arith, l .inv .2, e), omega arith)
-
-shared-slice-read-if2 : tie.Need-shared-slice-read-if2 Inv-loop μ-loop
-shared-slice-read-if2 c = search needs
 
 returns-2 : tie.Need-returns-2 Inv-loop μ-loop
 returns-2 c =
@@ -40,12 +31,6 @@ returns-2 c =
     let l = c₅ .loop in
     let e = stop-feed (c₆ .args .buf .now) (l .i) (omega arith) (c₂ .if1 .left) (c .if2 .taken) in
     (omega (arith, l .inv .2, e), omega arith)
-
-add-i : tie.Need-add-i Inv-loop μ-loop
-add-i c = search needs
-
-loop-less : tie.Need-loop-less Inv-loop μ-loop
-loop-less c = search needs
 
 loop-again : tie.Need-loop-again Inv-loop μ-loop
 loop-again c =
@@ -64,16 +49,5 @@ returns-3 c =
 
 pub word-end-from-spec : {M : Type 1} → statement M
 word-end-from-spec =
-    tie.close
-    (tie.spec
-    Inv-loop
-    μ-loop
-    loop-holds
-    shared-slice-read-if1
-    returns
-    shared-slice-read-if2
-    returns-2
-    add-i
-    loop-less
-    loop-again
-    returns-3)
+    tie.close (tie.spec Inv-loop μ-loop (λ c. (omega arith, omega (arith, (c) .pre), refl)) (λ c. search needs)
+    returns (λ c. search needs) returns-2 (λ c. search needs) (λ c. search needs) loop-again returns-3)

@@ -7,17 +7,6 @@ use Rattle.point.proofs.Accepted.{passed}
 use borrow.Author.Needs.{needs}
 use Rattle.point.proofs.turn.Statement.{statement}
 use Rattle.point.proofs.turn.Tie as tie
-use Rattle.point.proofs.turn.Reads as reads
-use Rattle.point.proofs.turn.Lts as lts
-use Rattle.answers.proofs.answer_at.Reads as answer-at-reads
-use Rattle.checks.proofs.is_accepted.Reads as is-accepted-reads
-use Rattle.point.proofs.effects.acted.Reads as acted-reads
-
-answer-at-requires : tie.Need-answer-at-requires
-answer-at-requires c κs = search needs
-
-is-accepted-requires : tie.Need-is-accepted-requires
-is-accepted-requires c κs = search needs
 
 cast-acted : tie.Need-cast-acted
 cast-acted c =
@@ -51,5 +40,4 @@ returns-2 c = rw (← (c .before .before .answer-at .ensures), ← (c .before .i
 
 pub turn-spec : {M : Type 1} → statement M
 turn-spec =
-    tie.close
-    (tie.spec answer-at-requires is-accepted-requires cast-acted acted-requires returns returns-2)
+    tie.close (tie.spec (λ c κs. search needs) (λ c κs. search needs) cast-acted acted-requires returns returns-2)

@@ -5,15 +5,6 @@ use borrow.Author.Needs.{needs}
 use Rattle.question_lines.proofs.put_date.Statement.{statement}
 use Rattle.question_lines.proofs.put_date.Tie as tie
 
-put-day-requires : tie.Need-put-day-requires
-put-day-requires c κs = search needs
-
-put-byte-requires : tie.Need-put-byte-requires
-put-byte-requires c κs = search needs
-
-same-length : tie.Need-same-length
-same-length c = search needs
-
 returns : tie.Need-returns
 returns c =
     let c₂ = c .before .before in
@@ -23,4 +14,4 @@ returns c =
     (c₆ .put-day .ensures) (c₂ .put-byte .ensures)
 
 pub put-date-spec : {M : Type 1} → statement M
-put-date-spec = tie.close (tie.spec put-day-requires put-byte-requires same-length returns)
+put-date-spec = tie.close (tie.spec (λ c κs. search needs) (λ c κs. search needs) (λ c. search needs) returns)

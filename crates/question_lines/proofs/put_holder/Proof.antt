@@ -4,33 +4,12 @@ use borrow.Author.Needs.{needs}
 use Rattle.question_lines.proofs.put_holder.Statement.{statement}
 use Rattle.question_lines.proofs.put_holder.Tie as tie
 
-enum-known-answer : tie.Need-enum-known-answer
-enum-known-answer c = search needs
-
-cast-put-ok : tie.Need-cast-put-ok
-cast-put-ok c = search needs
-
-put-ok-requires : tie.Need-put-ok-requires
-put-ok-requires c κs = search needs
-
-enum-told : tie.Need-enum-told
-enum-told c = search needs
-
-put-refusal-requires : tie.Need-put-refusal-requires
-put-refusal-requires c κs = search needs
-
-same-length : tie.Need-same-length
-same-length c = search needs
-
 returns : tie.Need-returns
 unfolding holderReply
 returns c =
     let c₂ = c .before .before in
     let c₅ = c₂ .before .before .before in
     rw (c₅ .answer .given .1) (c₂ .put-ok .ensures)
-
-same-length-2 : tie.Need-same-length-2
-same-length-2 c = search needs
 
 returns-2 : tie.Need-returns-2
 unfolding holderReply
@@ -41,14 +20,5 @@ returns-2 c =
 
 pub put-holder-spec : {M : Type 1} → statement M
 put-holder-spec =
-    tie.close
-    (tie.spec
-    enum-known-answer
-    cast-put-ok
-    put-ok-requires
-    enum-told
-    put-refusal-requires
-    same-length
-    returns
-    same-length-2
-    returns-2)
+    tie.close (tie.spec (λ c. search needs) (λ c. search needs) (λ c κs. search needs) (λ c. search needs)
+    (λ c κs. search needs) (λ c. search needs) returns (λ c. search needs) returns-2)

@@ -9,15 +9,6 @@ use borrow.Author.Needs.{needs}
 use Rattle.question_lines.proofs.put_line.Statement.{statement}
 use Rattle.question_lines.proofs.put_line.Tie as tie
 
-slice-aggregate-put-head : tie.Need-slice-aggregate-put-head
-slice-aggregate-put-head c = search needs
-
-put-head-requires : tie.Need-put-head-requires
-put-head-requires c κs = search needs
-
-slice-aggregate-put-answer : tie.Need-slice-aggregate-put-answer
-slice-aggregate-put-answer c = search needs
-
 put-answer-requires : tie.Need-put-answer-requires
 put-answer-requires c κs =
     let c₂ = c .before .before in
@@ -38,12 +29,6 @@ slice-aggregate-put-word c =
     let k = appended-within 0 _ _ _ _ (c₆ .put-head .ensures .text) (omega arith) in
     sym (length-take-le _ _ (appended-within _ _ _ _ _ (c₃ .put-answer .ensures .text) (omega arith)))
 
-put-word-requires : tie.Need-put-word-requires
-put-word-requires c κs = search needs
-
-same-length : tie.Need-same-length
-same-length c = search needs
-
 returns : tie.Need-returns
 returns c =
     let c₂ = c .before .before in
@@ -58,14 +43,5 @@ returns c =
 
 pub put-line-spec : {M : Type 1} → statement M
 put-line-spec =
-    tie.close
-    (tie.spec
-    slice-aggregate-put-head
-    put-head-requires
-    slice-aggregate-put-answer
-    put-answer-requires
-    array-share-prefix-text
-    slice-aggregate-put-word
-    put-word-requires
-    same-length
-    returns)
+    tie.close (tie.spec (λ c. search needs) (λ c κs. search needs) (λ c. search needs) put-answer-requires
+    array-share-prefix-text slice-aggregate-put-word (λ c κs. search needs) (λ c. search needs) returns)

@@ -6,12 +6,6 @@ use borrow.Author.Needs.{needs}
 use Rattle.question_lines.proofs.put_ok_period.Statement.{statement}
 use Rattle.question_lines.proofs.put_ok_period.Tie as tie
 
-slice-aggregate-put-word : tie.Need-slice-aggregate-put-word
-slice-aggregate-put-word c = search needs
-
-put-word-requires : tie.Need-put-word-requires
-put-word-requires c κs = search needs
-
 put-date-requires : tie.Need-put-date-requires
 put-date-requires c κs =
     let c₃ = c .before .before .before in
@@ -40,9 +34,6 @@ put-field-requires-2 c κs =
     (c₇ .put-date .ensures) (a .holder) _ _ (c₃ .put-field .ensures) in
     room-left 33 21 (a .at) _ _ _ _ holder (omega arith)
 
-same-length : tie.Need-same-length
-same-length c = search needs
-
 returns : tie.Need-returns
 returns c =
     let c₂ = c .before .before in
@@ -56,12 +47,5 @@ returns c =
 
 pub put-ok-period-spec : {M : Type 1} → statement M
 put-ok-period-spec =
-    tie.close
-    (tie.spec
-    slice-aggregate-put-word
-    put-word-requires
-    put-date-requires
-    put-field-requires
-    put-field-requires-2
-    same-length
-    returns)
+    tie.close (tie.spec (λ c. search needs) (λ c κs. search needs) put-date-requires put-field-requires
+    put-field-requires-2 (λ c. search needs) returns)

@@ -6,9 +6,6 @@ use borrow.Author.Needs.{needs}
 use Rattle.question_lines.proofs.put_one.Statement.{statement}
 use Rattle.question_lines.proofs.put_one.Tie as tie
 
-put-word-requires : tie.Need-put-word-requires
-put-word-requires c κs = search needs
-
 put-field-requires : tie.Need-put-field-requires
 put-field-requires c κs =
     let c₃ = c .before .before .before in
@@ -16,9 +13,6 @@ put-field-requires c κs =
     let a = c₇ .args in
     room-left (length (a .word .now)) 21 (a .at) (a .word .now) _ _ _
     (within (length (a .word .now)) (a .at) (a .word .now) _ _ _ (c₃ .put-word .ensures) (omega arith)) (omega arith)
-
-same-length : tie.Need-same-length
-same-length c = search needs
 
 returns : tie.Need-returns
 returns c =
@@ -30,4 +24,4 @@ returns c =
     (c₂ .put-field .ensures)
 
 pub put-one-spec : {M : Type 1} → statement M
-put-one-spec = tie.close (tie.spec put-word-requires put-field-requires same-length returns)
+put-one-spec = tie.close (tie.spec (λ c κs. search needs) put-field-requires (λ c. search needs) returns)

@@ -9,12 +9,6 @@ use Rattle.question_lines.proofs.put_reply.Tie as tie
 use lib.Seq.{length-take-le}
 use Rattle.text.proofs.Appends.{appended-take}
 
-slice-aggregate-put-answer : tie.Need-slice-aggregate-put-answer
-slice-aggregate-put-answer c = search needs
-
-put-answer-requires : tie.Need-put-answer-requires
-put-answer-requires c κs = search needs
-
 array-share-prefix-text : tie.Need-array-share-prefix-text
 array-share-prefix-text c =
     let c₂ = c .before .before in
@@ -31,12 +25,6 @@ slice-aggregate-put-word c =
     let len = within-length 66 0 (reply (c₆ .args .r) (c₆ .args .q)) _ _ _ (c₃ .put-answer .ensures) (omega arith) in
     sym (length-take-le (c₃ .put-answer .result) (c₃ .put-answer .last .0) (omega arith))
 
-put-word-requires : tie.Need-put-word-requires
-put-word-requires c κs = search needs
-
-same-length : tie.Need-same-length
-same-length c = search needs
-
 returns : tie.Need-returns
 returns c =
     let c₂ = c .before .before in
@@ -48,12 +36,5 @@ returns c =
 
 pub put-reply-spec : {M : Type 1} → statement M
 put-reply-spec =
-    tie.close
-    (tie.spec
-    slice-aggregate-put-answer
-    put-answer-requires
-    array-share-prefix-text
-    slice-aggregate-put-word
-    put-word-requires
-    same-length
-    returns)
+    tie.close (tie.spec (λ c. search needs) (λ c κs. search needs) array-share-prefix-text slice-aggregate-put-word
+    (λ c κs. search needs) (λ c. search needs) returns)

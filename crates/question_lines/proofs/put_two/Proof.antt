@@ -7,18 +7,12 @@ use borrow.Author.Needs.{needs}
 use Rattle.question_lines.proofs.put_two.Statement.{statement}
 use Rattle.question_lines.proofs.put_two.Tie as tie
 
-put-one-requires : tie.Need-put-one-requires
-put-one-requires c κs = search needs
-
 put-field-requires : tie.Need-put-field-requires
 put-field-requires c κs =
     let c₃ = c .before .before .before in
     let c₇ = c₃ .before .before .before .before in
     let a = c₇ .args in
     room-left (length (a .word .now) + 21) 21 (a .at) _ _ _ _ (c₃ .put-one .ensures) (omega arith)
-
-same-length : tie.Need-same-length
-same-length c = search needs
 
 returns : tie.Need-returns
 returns c =
@@ -30,4 +24,4 @@ returns c =
     (c₂ .put-field .ensures)
 
 pub put-two-spec : {M : Type 1} → statement M
-put-two-spec = tie.close (tie.spec put-one-requires put-field-requires same-length returns)
+put-two-spec = tie.close (tie.spec (λ c κs. search needs) put-field-requires (λ c. search needs) returns)

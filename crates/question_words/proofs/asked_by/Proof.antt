@@ -5,9 +5,6 @@ use Rattle.question_words.proofs.asked_by.Statement.{statement}
 use Rattle.question_words.proofs.asked_by.Tie as tie
 use Rattle.question_words.proofs.Values.{asked-one, asked-two, asked-three, asked-none}
 
-by-one-requires : tie.Need-by-one-requires
-by-one-requires c κs = search needs
-
 returns : tie.Need-returns
 returns c =
     let c₅ = c .before .before .before .before .before in
@@ -15,18 +12,12 @@ returns c =
     c .by-one .ensures ∙ sym (asked-one (a .count) (a .word .now) (a .first .now) (a .second .now)
     (c .before .if1 .taken))
 
-by-two-requires : tie.Need-by-two-requires
-by-two-requires c κs = search needs
-
 returns-2 : tie.Need-returns-2
 returns-2 c =
     let c₆ = c .before .before .before .before .before .before in
     let a = c₆ .args in
     c .by-two .ensures ∙ sym (asked-two (a .count) (a .word .now) (a .first .now) (a .second .now)
     (c .before .if2 .taken))
-
-by-three-requires : tie.Need-by-three-requires
-by-three-requires c κs = search needs
 
 returns-3 : tie.Need-returns-3
 returns-3 c =
@@ -45,12 +36,5 @@ returns-4 c =
 
 pub asked-by-spec : {M : Type 1} → statement M
 asked-by-spec =
-    tie.close
-    (tie.spec
-    by-one-requires
-    returns
-    by-two-requires
-    returns-2
-    by-three-requires
-    returns-3
-    returns-4)
+    tie.close (tie.spec (λ c κs. search needs) returns (λ c κs. search needs) returns-2 (λ c κs. search needs)
+    returns-3 returns-4)

@@ -6,21 +6,6 @@ use Rattle.question_words.proofs.by_three.Statement.{statement}
 use Rattle.question_words.proofs.by_three.Tie as tie
 use Rattle.question_words.proofs.Values.{three-holder, three-period}
 
-slice-aggregate-same : tie.Need-slice-aggregate-same
-slice-aggregate-same c = search needs
-
-same-requires : tie.Need-same-requires
-same-requires c κs = search needs
-
-number-value-requires : tie.Need-number-value-requires
-number-value-requires c κs = search needs
-
-date-value-requires : tie.Need-date-value-requires
-date-value-requires c κs = search needs
-
-holder-asked-requires : tie.Need-holder-asked-requires
-holder-asked-requires c κs = search needs
-
 returns : tie.Need-returns
 returns c =
     let c₂ = c .before .before in
@@ -30,21 +15,6 @@ returns c =
     let a = c₉ .args in
     rw (c₂ .number-value .ensures, c .before .date-value .ensures) at (c .holder-asked .ensures) ∙
     sym (three-holder (a .word .now) (a .first .now) (a .second .now) (sym (c₄ .same .ensures) ∙ c₃ .if1 .taken))
-
-slice-aggregate-same-2 : tie.Need-slice-aggregate-same-2
-slice-aggregate-same-2 c = search needs
-
-same-requires-2 : tie.Need-same-requires-2
-same-requires-2 c κs = search needs
-
-number-value-requires-2 : tie.Need-number-value-requires-2
-number-value-requires-2 c κs = search needs
-
-number-value-requires-3 : tie.Need-number-value-requires-3
-number-value-requires-3 c κs = search needs
-
-period-asked-requires : tie.Need-period-asked-requires
-period-asked-requires c κs = search needs
 
 returns-2 : tie.Need-returns-2
 returns-2 c =
@@ -68,18 +38,6 @@ returns-3 c =
 
 pub by-three-spec : {M : Type 1} → statement M
 by-three-spec =
-    tie.close
-    (tie.spec
-    slice-aggregate-same
-    same-requires
-    number-value-requires
-    date-value-requires
-    holder-asked-requires
-    returns
-    slice-aggregate-same-2
-    same-requires-2
-    number-value-requires-2
-    number-value-requires-3
-    period-asked-requires
-    returns-2
-    returns-3)
+    tie.close (tie.spec (λ c. search needs) (λ c κs. search needs) (λ c κs. search needs) (λ c κs. search needs)
+    (λ c κs. search needs) returns (λ c. search needs) (λ c κs. search needs) (λ c κs. search needs)
+    (λ c κs. search needs) (λ c κs. search needs) returns-2 returns-3)

@@ -4,21 +4,6 @@ use borrow.Author.Needs.{needs}
 use Rattle.question_words.proofs.by_two.Statement.{statement}
 use Rattle.question_words.proofs.by_two.Tie as tie
 
-slice-aggregate-same : tie.Need-slice-aggregate-same
-slice-aggregate-same c = search needs
-
-same-requires : tie.Need-same-requires
-same-requires c κs = search needs
-
-number-value-requires : tie.Need-number-value-requires
-number-value-requires c κs = search needs
-
-enum-known-point : tie.Need-enum-known-point
-enum-known-point c = search needs
-
-enum-told : tie.Need-enum-told
-enum-told c = search needs
-
 returns : tie.Need-returns
 unfolding byTwo
 returns c =
@@ -35,19 +20,7 @@ returns-2 c =
     let c₅ = c₄ .before in
     rw (← (c₅ .same .ensures), c₄ .if1 .taken, ← (c₃ .number-value .ensures), c .before .point .given .1)
 
-returns-3 : tie.Need-returns-3
-unfolding byTwo
-returns-3 c = rw (← (c .before .same .ensures), c .if1 .left)
-
 pub by-two-spec : {M : Type 1} → statement M
 by-two-spec =
-    tie.close
-    (tie.spec
-    slice-aggregate-same
-    same-requires
-    number-value-requires
-    enum-known-point
-    enum-told
-    returns
-    returns-2
-    returns-3)
+    tie.close (tie.spec (λ c. search needs) (λ c κs. search needs) (λ c κs. search needs) (λ c. search needs)
+    (λ c. search needs) returns returns-2 (λ c. unfold byTwo in rw (← (c .before .same .ensures), c .if1 .left)))

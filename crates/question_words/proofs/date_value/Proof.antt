@@ -9,12 +9,6 @@ use borrow.Author.Needs.{needs}
 use Rattle.question_words.proofs.date_value.Statement.{statement}
 use Rattle.question_words.proofs.date_value.Tie as tie
 
-date-at-requires : tie.Need-date-at-requires
-date-at-requires c κs = search needs
-
-whole-requires : tie.Need-whole-requires
-whole-requires c κs = search needs
-
 returns : tie.Need-returns
 unfolding dateValue
 returns c =
@@ -23,4 +17,4 @@ returns c =
     c .whole .ensures ∙ ap (wholeOf (length w)) (c .before .date-at .ensures) ∙ whole-value w (dayIn w) (day-leaves w)
 
 pub date-value-spec : {M : Type 1} → statement M
-date-value-spec = tie.close (tie.spec date-at-requires whole-requires returns)
+date-value-spec = tie.close (tie.spec (λ c κs. search needs) (λ c κs. search needs) returns)

@@ -9,12 +9,6 @@ use borrow.Author.Needs.{needs}
 use Rattle.question_words.proofs.number_value.Statement.{statement}
 use Rattle.question_words.proofs.number_value.Tie as tie
 
-number-at-requires : tie.Need-number-at-requires
-number-at-requires c κs = search needs
-
-whole-requires : tie.Need-whole-requires
-whole-requires c κs = search needs
-
 returns : tie.Need-returns
 unfolding numberValue
 returns c =
@@ -23,4 +17,4 @@ returns c =
     c .whole .ensures ∙ ap (wholeOf (length w)) (c .before .number-at .ensures) ∙ whole-value w (numberOf w) (number-leaves w)
 
 pub number-value-spec : {M : Type 1} → statement M
-number-value-spec = tie.close (tie.spec number-at-requires whole-requires returns)
+number-value-spec = tie.close (tie.spec (λ c κs. search needs) (λ c κs. search needs) returns)

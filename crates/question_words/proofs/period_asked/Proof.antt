@@ -3,28 +3,8 @@ use borrow.Author.Needs.{needs}
 use Rattle.question_words.proofs.period_asked.Statement.{statement}
 use Rattle.question_words.proofs.period_asked.Tie as tie
 
-enum-known-first : tie.Need-enum-known-first
-enum-known-first c = search needs
-
-enum-told : tie.Need-enum-told
-enum-told c = search needs
-
-returns : tie.Need-returns
-returns c = search needs
-
-enum-known-second : tie.Need-enum-known-second
-enum-known-second c = search needs
-
-enum-told-2 : tie.Need-enum-told-2
-enum-told-2 c = search needs
-
-returns-2 : tie.Need-returns-2
-returns-2 c = search needs
-
-returns-3 : tie.Need-returns-3
-returns-3 c = rw (c .before .before .before .before .first .given .1, c .before .second .given .1)
-
 pub period-asked-spec : {M : Type 1} → statement M
 period-asked-spec =
-    tie.close
-    (tie.spec enum-known-first enum-told returns enum-known-second enum-told-2 returns-2 returns-3)
+    tie.close (tie.spec (λ c. search needs) (λ c. search needs) (λ c. search needs) (λ c. search needs)
+    (λ c. search needs) (λ c. search needs)
+    (λ c. rw (c .before .before .before .before .first .given .1, c .before .second .given .1)))

@@ -4,17 +4,5 @@ use borrow.Author.Needs.{needs}
 use Rattle.questions.proofs.history_of.Statement.{statement}
 use Rattle.questions.proofs.history_of.Tie as tie
 
-sub-i : tie.Need-sub-i
-sub-i c = search needs
-
-mul-g : tie.Need-mul-g
-mul-g c = search needs
-
-element-copy-out-g : tie.Need-element-copy-out-g
-element-copy-out-g c = search needs
-
-returns : tie.Need-returns
-returns c = refl
-
 pub history-of-spec : {M : Type 1} → statement M
-history-of-spec = tie.close (tie.spec sub-i mul-g element-copy-out-g returns)
+history-of-spec = tie.close (tie.spec (λ c. search needs) (λ c. search needs) (λ c. search needs) (λ c. refl))

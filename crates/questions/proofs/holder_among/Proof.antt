@@ -14,50 +14,24 @@ Inv-loop d n ps i₀ i = (i ≤ 24) × (holderAmong d i ps ≡ holderAmong d n p
 abbrev μ-loop : tie.MeasureT-loop
 μ-loop d n ps i₀ i = i
 
-loop-holds : tie.Need-loop-holds Inv-loop μ-loop
-loop-holds c = (search needs, refl)
-
-sub-q : tie.Need-sub-q Inv-loop μ-loop
-sub-q c = search needs
-
-mul-q : tie.Need-mul-q Inv-loop μ-loop
-mul-q c = search needs
-
-array-copy-out-q : tie.Need-array-copy-out-q Inv-loop μ-loop
-array-copy-out-q c = search needs
-
-cast-if1 : tie.Need-cast-if1 Inv-loop μ-loop
-cast-if1 c = search needs
-
 returns : tie.Need-returns Inv-loop μ-loop
-returns c = sym (among-found (c .before .before .before .before .before .args .d) (c .before .before .before .before .before .args .t3) (c .before .before .before .before .loop .i) (omega arith) (c .if1 .taken)) ∙ c .before .before .before .before .loop .inv .1
-
-sub-i : tie.Need-sub-i Inv-loop μ-loop
-sub-i c = search needs
-
-loop-less : tie.Need-loop-less Inv-loop μ-loop
-loop-less c = search needs
+returns c =
+    sym (among-found (c .before .before .before .before .before .args .d) (c .before .before .before .before .before .args .t3)
+    (c .before .before .before .before .loop .i) (omega arith) (c .if1 .taken)) ∙ c .before .before .before .before .loop .inv .1
 
 loop-again : tie.Need-loop-again Inv-loop μ-loop
-loop-again c = (search needs, sym (among-passed (c .before .before .before .before .before .args .d) (c .before .before .before .before .before .args .t3) (c .before .before .before .before .loop .i) (omega arith) (c .if1 .left)) ∙ c .before .before .before .before .loop .inv .1)
+loop-again c = (
+  search needs,
+  sym (among-passed (c .before .before .before .before .before .args .d) (c .before .before .before .before .before .args .t3)
+      (c .before .before .before .before .loop .i) (omega arith) (c .if1 .left)) ∙ c .before .before .before .before .loop .inv .1,
+)
 
 returns-2 : tie.Need-returns-2 Inv-loop μ-loop
 returns-2 c = let z : c .before .loop .i ≡ 0 = omega arith in
-    sym (among-none (c .before .before .args .d) (c .before .before .args .t3)) ∙ ap (λ (k : ℕ). holderAmong (c .before .before .args .d) k (c .before .before .args .t3)) (sym z) ∙ c .before .loop .inv .1
+    sym (among-none (c .before .before .args .d) (c .before .before .args .t3)) ∙
+    ap (λ (k : ℕ). holderAmong (c .before .before .args .d) k (c .before .before .args .t3)) (sym z) ∙ c .before .loop .inv .1
 
 pub holder-among-spec : {M : Type 1} → statement M
 holder-among-spec =
-    tie.close
-    (tie.spec
-    Inv-loop
-    μ-loop
-    loop-holds
-    sub-q
-    mul-q
-    array-copy-out-q
-    cast-if1
-    returns
-    sub-i
-    loop-less
-    loop-again
-    returns-2)
+    tie.close (tie.spec Inv-loop μ-loop (λ c. (search needs, refl)) (λ c. search needs) (λ c. search needs)
+    (λ c. search needs) (λ c. search needs) returns (λ c. search needs) (λ c. search needs) loop-again returns-2)

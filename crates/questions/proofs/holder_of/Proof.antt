@@ -1,22 +1,11 @@
 -- The holder question: off its range, or the walk over the point's periods.
-use mathlib.Core.Path.{_≡_, refl, sym, _∙_, ap}
-use native.Mathlib.Omega.{arith}
+use mathlib.Core.Path.{sym, _∙_}
 use borrow.Author.Tests.{lt-ltb, le-ltb}
-use Rattle.questions.proofs.Asked.{asked-in, range-in}
+use Rattle.questions.proofs.Asked.{asked-in}
 use Rattle.rules.specs.Questions.{holderAnswer}
 use borrow.Author.Needs.{needs}
 use Rattle.questions.proofs.holder_of.Statement.{statement}
 use Rattle.questions.proofs.holder_of.Tie as tie
-
-is-unasked-requires : tie.Need-is-unasked-requires
-is-unasked-requires c κs = search needs
-
-returns : tie.Need-returns
-unfolding holderAnswer
-returns c = rw (← (c .before .is-unasked .ensures), c .if1 .taken)
-
-cast-if2 : tie.Need-cast-if2
-cast-if2 c = search needs
 
 returns-2 : tie.Need-returns-2
 unfolding holderAnswer
@@ -28,13 +17,9 @@ returns-2 c =
     )
 
 history-of-requires : tie.Need-history-of-requires
-history-of-requires c κs = asked-in (c .before .before .before .before .args .r) (c .before .before .before .before .args .p) (sym (c .before .before .before .is-unasked .ensures) ∙ c .before .before .if1 .left)
-
-marks-requires : tie.Need-marks-requires
-marks-requires c κs = search needs
-
-holder-among-requires : tie.Need-holder-among-requires
-holder-among-requires c κs = search needs
+history-of-requires c κs =
+    asked-in (c .before .before .before .before .args .r) (c .before .before .before .before .args .p)
+    (sym (c .before .before .before .is-unasked .ensures) ∙ c .before .before .if1 .left)
 
 returns-3 : tie.Need-returns-3
 unfolding holderAnswer
@@ -50,13 +35,6 @@ returns-3 c =
 
 pub holder-of-spec : {M : Type 1} → statement M
 holder-of-spec =
-    tie.close
-    (tie.spec
-    is-unasked-requires
-    returns
-    cast-if2
-    returns-2
-    history-of-requires
-    marks-requires
-    holder-among-requires
-    returns-3)
+    tie.close (tie.spec (λ c κs. search needs)
+    (λ c. unfold holderAnswer in rw (← (c .before .is-unasked .ensures), c .if1 .taken)) (λ c. search needs) returns-2
+    history-of-requires (λ c κs. search needs) (λ c κs. search needs) returns-3)

@@ -1,31 +1,22 @@
 -- The period question: off its range, or the n-th slot.
-use mathlib.Core.Path.{_≡_, refl, sym, _∙_, ap}
+use mathlib.Core.Path.{sym, _∙_}
 use native.Mathlib.Omega.{arith}
-use borrow.Author.Tests.{lt-ltb, le-ltb}
 use Rattle.questions.proofs.Asked.{asked-in, range-in}
 use Rattle.rules.specs.Questions.{periodAnswer}
 use borrow.Author.Needs.{needs}
 use Rattle.questions.proofs.period_of.Statement.{statement}
 use Rattle.questions.proofs.period_of.Tie as tie
 
-is-unasked-requires : tie.Need-is-unasked-requires
-is-unasked-requires c κs = search needs
-
-returns : tie.Need-returns
-unfolding periodAnswer
-returns c = rw (← (c .before .is-unasked .ensures), c .if1 .taken)
-
 history-of-requires : tie.Need-history-of-requires
 history-of-requires c κs = asked-in (c .before .before .args .r) (c .before .before .args .p) (sym (c .before .is-unasked .ensures) ∙ c .if1 .left)
 
-marks-requires : tie.Need-marks-requires
-marks-requires c κs = search needs
-
-outside-requires : tie.Need-outside-requires
-outside-requires c κs = search needs
-
 sub-i : tie.Need-sub-i
-sub-i c = omega (arith, range-in 1 (c .before .before .marks .result) (c .before .before .before .before .before .before .args .n) (sym (c .before .outside .ensures) ∙ c .if2 .left) .0)
+sub-i c =
+    omega (
+      arith,
+      range-in 1 (c .before .before .marks .result) (c .before .before .before .before .before .before .args .n)
+          (sym (c .before .outside .ensures) ∙ c .if2 .left) .0,
+    )
 
 returns-2 : tie.Need-returns-2
 unfolding periodAnswer
@@ -40,10 +31,14 @@ returns-2 c =
     )
 
 mul-q : tie.Need-mul-q
-mul-q c = let k = range-in 1 (c .before .before .marks .result) (c .before .before .before .before .before .before .args .n) (sym (c .before .outside .ensures) ∙ c .if2 .left) in omega (arith, k .0, k .1, c .before .before .marks .ensures)
+mul-q c =
+    let k = range-in 1 (c .before .before .marks .result) (c .before .before .before .before .before .before .args .n)
+    (sym (c .before .outside .ensures) ∙ c .if2 .left) in omega (arith, k .0, k .1, c .before .before .marks .ensures)
 
 element-copy-out-q : tie.Need-element-copy-out-q
-element-copy-out-q c = let k = range-in 1 (c .before .before .marks .result) (c .before .before .before .before .before .before .args .n) (sym (c .before .outside .ensures) ∙ c .if2 .left) in omega (arith, k .0, k .1, c .before .before .marks .ensures)
+element-copy-out-q c =
+    let k = range-in 1 (c .before .before .marks .result) (c .before .before .before .before .before .before .args .n)
+    (sym (c .before .outside .ensures) ∙ c .if2 .left) in omega (arith, k .0, k .1, c .before .before .marks .ensures)
 
 returns-3 : tie.Need-returns-3
 unfolding periodAnswer
@@ -59,15 +54,6 @@ returns-3 c =
 
 pub period-of-spec : {M : Type 1} → statement M
 period-of-spec =
-    tie.close
-    (tie.spec
-    is-unasked-requires
-    returns
-    history-of-requires
-    marks-requires
-    outside-requires
-    returns-2
-    sub-i
-    mul-q
-    element-copy-out-q
-    returns-3)
+    tie.close (tie.spec (λ c κs. search needs)
+    (λ c. unfold periodAnswer in rw (← (c .before .is-unasked .ensures), c .if1 .taken)) history-of-requires
+    (λ c κs. search needs) (λ c κs. search needs) returns-2 sub-i mul-q element-copy-out-q returns-3)

@@ -6,30 +6,12 @@ use borrow.Author.Needs.{needs}
 use Rattle.reading.proofs.date_at.Statement.{statement}
 use Rattle.reading.proofs.date_at.Tie as tie
 
-fixed-at-requires : tie.Need-fixed-at-requires
-fixed-at-requires c κs = search needs
-
-enum-known-year : tie.Need-enum-known-year
-enum-known-year c = search needs
-
-enum-told : tie.Need-enum-told
-enum-told c = search needs
-
 returns : tie.Need-returns
 returns c =
     let c₂ = c .before .before in
     let a = c₂ .before .before .args in
     field-bad (a .s .now) (a .at) _
     (day-no-year _ (fixed-was-bad 4 (a .s .now) (a .at) _ (c₂ .fixed-at .ensures) (c .enum-told .given .1)))
-
-fixed-at-requires-2 : tie.Need-fixed-at-requires-2
-fixed-at-requires-2 c κs = search needs
-
-enum-known-month : tie.Need-enum-known-month
-enum-known-month c = search needs
-
-enum-told-2 : tie.Need-enum-told-2
-enum-told-2 c = search needs
 
 returns-2 : tie.Need-returns-2
 returns-2 c =
@@ -40,15 +22,6 @@ returns-2 c =
     let y = fixed-was 4 (a .s .now) (a .at) _ _ _ (c₆ .fixed-at .ensures) (c₄ .year .given .1) in
     let m = fixed-was-bad 2 (a .s .now) (c₄ .year .given .0 .1 .0) _ (c₂ .fixed-at2 .ensures) (c .enum-told2 .given .1) in
     field-bad (a .s .now) (a .at) _ (day-no-month _ _ _ (y .0) m)
-
-fixed-at-requires-3 : tie.Need-fixed-at-requires-3
-fixed-at-requires-3 c κs = search needs
-
-enum-known-day : tie.Need-enum-known-day
-enum-known-day c = search needs
-
-enum-told-3 : tie.Need-enum-told-3
-enum-told-3 c = search needs
 
 returns-3 : tie.Need-returns-3
 returns-3 c =
@@ -62,15 +35,6 @@ returns-3 c =
     let m = fixed-was 2 (a .s .now) (c₈ .year .given .0 .1 .0) _ _ _ (c₆ .fixed-at2 .ensures) (c₄ .month .given .1) in
     let d = fixed-was-bad 2 (a .s .now) (c₄ .month .given .0 .1 .0) _ (c₂ .fixed-at3 .ensures) (c .enum-told3 .given .1) in
     field-bad (a .s .now) (a .at) _ (day-no-day _ _ _ (y .0) _ _ (m .0) d)
-
-day-of-requires : tie.Need-day-of-requires
-day-of-requires c κs = search needs
-
-enum-known-n : tie.Need-enum-known-n
-enum-known-n c = search needs
-
-enum-told-4 : tie.Need-enum-told-4
-enum-told-4 c = search needs
 
 returns-4 : tie.Need-returns-4
 returns-4 c =
@@ -87,9 +51,6 @@ returns-4 c =
     let d = fixed-was 2 (a .s .now) (c₈ .month .given .0 .1 .0) _ _ _ (c₆ .fixed-at3 .ensures) (c₄ .day .given .1) in
     field-bad (a .s .now) (a .at) _
     (day-is _ _ _ (y .0) _ _ (m .0) _ _ (d .0) _ (sym (c₂ .day-of .ensures) ∙ c .enum-told4 .given .1))
-
-cast-t14 : tie.Need-cast-t14
-cast-t14 c = search needs
 
 returns-5 : tie.Need-returns-5
 returns-5 c =
@@ -110,23 +71,6 @@ returns-5 c =
 
 pub date-at-spec : {M : Type 1} → statement M
 date-at-spec =
-    tie.close
-    (tie.spec
-    fixed-at-requires
-    enum-known-year
-    enum-told
-    returns
-    fixed-at-requires-2
-    enum-known-month
-    enum-told-2
-    returns-2
-    fixed-at-requires-3
-    enum-known-day
-    enum-told-3
-    returns-3
-    day-of-requires
-    enum-known-n
-    enum-told-4
-    returns-4
-    cast-t14
-    returns-5)
+    tie.close (tie.spec (λ c κs. search needs) (λ c. search needs) (λ c. search needs) returns (λ c κs. search needs)
+    (λ c. search needs) (λ c. search needs) returns-2 (λ c κs. search needs) (λ c. search needs) (λ c. search needs)
+    returns-3 (λ c κs. search needs) (λ c. search needs) (λ c. search needs) returns-4 (λ c. search needs) returns-5)

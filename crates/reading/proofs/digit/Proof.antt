@@ -4,11 +4,5 @@ use borrow.Author.Needs.{needs}
 use Rattle.reading.proofs.digit.Statement.{statement}
 use Rattle.reading.proofs.digit.Tie as tie
 
-sub-result : tie.Need-sub-result
-sub-result c = search needs
-
-returns : tie.Need-returns
-returns c = omega arith
-
 pub digit-spec : {M : Type 1} → statement M
-digit-spec = tie.close (tie.spec sub-result returns)
+digit-spec = tie.close (tie.spec (λ c. search needs) (λ c. omega arith))

@@ -21,16 +21,10 @@ abbrev μ-loop : tie.MeasureT-loop
 returns : tie.Need-returns Inv-loop μ-loop
 returns c = let a = c .before .before .args in field-bad (a .s .now) (a .at) _ (fixed-few _ 0 _ (rw length-drop (omega arith)))
 
-sub-if2 : tie.Need-sub-if2 Inv-loop μ-loop
-sub-if2 c = search needs
-
 returns-2 : tie.Need-returns-2 Inv-loop μ-loop
 returns-2 c =
     let a = c .before .before .before .args in
     field-bad (a .s .now) (a .at) _ (fixed-few _ 0 _ (rw length-drop (omega arith)))
-
-add-end : tie.Need-add-end Inv-loop μ-loop
-add-end c = search needs
 
 loop-holds : tie.Need-loop-holds Inv-loop μ-loop
 loop-holds c =
@@ -38,9 +32,6 @@ loop-holds c =
     let none : a .at - a .at ≡ 0 = omega arith in
     let all : a .at + a .count - a .at ≡ a .count = omega arith in
     (omega arith, omega arith, omega arith, refl, rw none (omega arith), rw all)
-
-shared-slice-read-c : tie.Need-shared-slice-read-c Inv-loop μ-loop
-shared-slice-read-c c = search needs
 
 returns-3 : tie.Need-returns-3 Inv-loop μ-loop
 returns-3 c =
@@ -63,19 +54,10 @@ mul-v c =
     let l = c .before .before .before .before .loop in
     let small = fixed-small (l .v) _ (l .inv .4) (omega arith) in omega arith
 
-digit-requires : tie.Need-digit-requires Inv-loop μ-loop
-digit-requires c κs = search needs
-
 add-v : tie.Need-add-v Inv-loop μ-loop
 add-v c =
     let l = c .before .before .before .before .before .loop in
     let small = fixed-small (l .v) _ (l .inv .4) (omega arith) in omega arith
-
-add-i : tie.Need-add-i Inv-loop μ-loop
-add-i c = search needs
-
-loop-less : tie.Need-loop-less Inv-loop μ-loop
-loop-less c = search needs
 
 loop-again : tie.Need-loop-again Inv-loop μ-loop
 loop-again c =
@@ -98,22 +80,6 @@ returns-5 c =
 
 pub fixed-at-spec : {M : Type 1} → statement M
 fixed-at-spec =
-    tie.close
-    (tie.spec
-    Inv-loop
-    μ-loop
-    returns
-    sub-if2
-    returns-2
-    add-end
-    loop-holds
-    shared-slice-read-c
-    returns-3
-    returns-4
-    mul-v
-    digit-requires
-    add-v
-    add-i
-    loop-less
-    loop-again
-    returns-5)
+    tie.close (tie.spec Inv-loop μ-loop returns (λ c. search needs) returns-2 (λ c. search needs) loop-holds
+    (λ c. search needs) returns-3 returns-4 mul-v (λ c κs. search needs) add-v (λ c. search needs) (λ c. search needs)
+    loop-again returns-5)

@@ -16,12 +16,6 @@ Inv-loop s at first v₀ i₀ v i = (v < 10 ^ 12) × (moreOf first (drop at s) �
 abbrev μ-loop : tie.MeasureT-loop
 μ-loop s at first v₀ i₀ v i = length s - i
 
-loop-holds : tie.Need-loop-holds Inv-loop μ-loop
-loop-holds c = let a = c .before .args in (omega arith, refl, within-self (a .s .now) (a .at))
-
-shared-slice-read-c : tie.Need-shared-slice-read-c Inv-loop μ-loop
-shared-slice-read-c c = search needs
-
 returns : tie.Need-returns Inv-loop μ-loop
 returns c =
     let c₃ = c .before .before .before in
@@ -44,21 +38,6 @@ returns-3 c =
     let d = in-digit _ (c .before .before .if1 .left) (c .before .if2 .left) in
     field-bad (a .s .now) (a .at) _ (l .inv .1 ∙ more-full _ (l .i) (omega arith) (l .v) d (c .if3 .taken))
 
-mul-v : tie.Need-mul-v Inv-loop μ-loop
-mul-v c = search needs
-
-digit-requires : tie.Need-digit-requires Inv-loop μ-loop
-digit-requires c κs = search needs
-
-add-v : tie.Need-add-v Inv-loop μ-loop
-add-v c = search needs
-
-add-i : tie.Need-add-i Inv-loop μ-loop
-add-i c = search needs
-
-loop-less : tie.Need-loop-less Inv-loop μ-loop
-loop-less c = search needs
-
 loop-again : tie.Need-loop-again Inv-loop μ-loop
 loop-again c =
     let c₆ = c .before .before .before .before .before .before in
@@ -78,19 +57,7 @@ returns-4 c =
 
 pub more-digits-spec : {M : Type 1} → statement M
 more-digits-spec =
-    tie.close
-    (tie.spec
-    Inv-loop
-    μ-loop
-    loop-holds
-    shared-slice-read-c
-    returns
-    returns-2
-    returns-3
-    mul-v
-    digit-requires
-    add-v
-    add-i
-    loop-less
-    loop-again
-    returns-4)
+    tie.close (tie.spec Inv-loop μ-loop
+    (λ c. let a = c .before .args in (omega arith, refl, within-self (a .s .now) (a .at))) (λ c. search needs) returns
+    returns-2 returns-3 (λ c. search needs) (λ c κs. search needs) (λ c. search needs) (λ c. search needs)
+    (λ c. search needs) loop-again returns-4)

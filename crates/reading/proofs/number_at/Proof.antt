@@ -9,15 +9,6 @@ use borrow.Author.Needs.{needs}
 use Rattle.reading.proofs.number_at.Statement.{statement}
 use Rattle.reading.proofs.number_at.Tie as tie
 
-returns : tie.Need-returns
-returns c = let a = c .before .before .args in field-bad (a .s .now) (a .at) _ (number-end _ _ (c .if1 .taken))
-
-shared-slice-read-c : tie.Need-shared-slice-read-c
-shared-slice-read-c c = search needs
-
-add-t8 : tie.Need-add-t8
-add-t8 c = search needs
-
 returns-2 : tie.Need-returns-2
 returns-2 c =
     let c₂ = c .before .before in
@@ -38,15 +29,6 @@ returns-4 c =
     let a = c₄ .before .before .args in
     field-bad (a .s .now) (a .at) _ (number-none _ _ (c₄ .if1 .left) (above-digit _ (c .if4 .taken)) (c₂ .if2 .left))
 
-add-more-digits : tie.Need-add-more-digits
-add-more-digits c = search needs
-
-digit-requires : tie.Need-digit-requires
-digit-requires c κs = search needs
-
-more-digits-requires : tie.Need-more-digits-requires
-more-digits-requires c κs = search needs
-
 returns-5 : tie.Need-returns-5
 returns-5 c =
     let c₂ = c .before .before in
@@ -60,15 +42,7 @@ returns-5 c =
 
 pub number-at-spec : {M : Type 1} → statement M
 number-at-spec =
-    tie.close
-    (tie.spec
-    returns
-    shared-slice-read-c
-    add-t8
-    returns-2
-    returns-3
-    returns-4
-    add-more-digits
-    digit-requires
-    more-digits-requires
-    returns-5)
+    tie.close (tie.spec
+    (λ c. let a = c .before .before .args in field-bad (a .s .now) (a .at) _ (number-end _ _ (c .if1 .taken)))
+    (λ c. search needs) (λ c. search needs) returns-2 returns-3 returns-4 (λ c. search needs) (λ c κs. search needs)
+    (λ c κs. search needs) returns-5)

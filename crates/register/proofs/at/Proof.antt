@@ -1,61 +1,55 @@
-use Rattle.point.specs.Turn.{turned}
-use Rattle.rules.specs.Answers.{isAccepted}
 -- A call that names a point, on the register: the point is found, takes its turn, and is stored where the call is accepted.
-use mathlib.Core.Path.{_≡_, refl, sym, _∙_, ap}
-use Prim.Native.Nat.{_+_, _≤_, _<_}
+use mathlib.Core.Path.{sym, _∙_}
 use native.Mathlib.Omega.{arith}
-use borrow.Author.Tests.{lt-ltb, le-ltb, eq-eqb, ne-eqb, not-true, not-false}
-use Rattle.rules.specs.Rejections.{answer, answerTo, firstOf, outOfRange, offCalendar, rows, accepted}
-use Rattle.rules.specs.Register.{says, done, applied}
-use Rattle.answers.proofs.Within.{at-most}
 use Rattle.register.proofs.AtPoint.{turn-refused, turn-in, turn-accepted}
 use borrow.Author.Needs.{needs}
 use Rattle.register.proofs.at.Statement.{statement}
 use Rattle.register.proofs.at.Tie as tie
-use Rattle.register.proofs.at.Reads as reads
-use Rattle.register.proofs.at.Lts as lts
-use Rattle.checks.proofs.is_accepted.Reads as is-accepted-reads
-use Rattle.point.proofs.turn.Reads as turn-reads
-use Rattle.register.proofs.points.advance.Reads as advance-reads
-use Rattle.register.proofs.points.point_on.Reads as point-on-reads
-
-point-on-requires : tie.Need-point-on-requires
-point-on-requires c κs = search needs
-
-turn-requires : tie.Need-turn-requires
-turn-requires c κs = search needs
-
-is-accepted-requires : tie.Need-is-accepted-requires
-is-accepted-requires c κs = search needs
-
-advance-requires : tie.Need-advance-requires
-advance-requires c κs = search needs
 
 sub-i : tie.Need-sub-i
-sub-i c = let k = turn-in (c .before .before .before .before .before .before .before .before .args .r) (c .before .before .before .before .before .before .before .before .args .today) (c .before .before .before .before .before .before .before .before .args .p) (c .before .before .before .before .before .before .before .before .args .a) (c .before .before .before .before .before .point-on .result) (c .before .before .before .before .turn .result) (c .before .before .before .before .before .point-on .ensures) (c .before .before .before .before .turn .ensures) (sym (c .before .before .is-accepted .ensures) ∙ c .before .if1 .taken) in omega (arith, k .0)
+sub-i c =
+    let k = turn-in (c .before .before .before .before .before .before .before .before .args .r)
+    (c .before .before .before .before .before .before .before .before .args .today)
+    (c .before .before .before .before .before .before .before .before .args .p) (c .before .before .before .before .before .before .before .before .args .a)
+    (c .before .before .before .before .before .point-on .result) (c .before .before .before .before .turn .result)
+    (c .before .before .before .before .before .point-on .ensures) (c .before .before .before .before .turn .ensures)
+    (sym (c .before .before .is-accepted .ensures) ∙ c .before .if1 .taken) in omega (arith, k .0)
 
 mul-q : tie.Need-mul-q
-mul-q c = let k = turn-in (c .before .before .before .before .before .before .before .before .args .r) (c .before .before .before .before .before .before .before .before .args .today) (c .before .before .before .before .before .before .before .before .args .p) (c .before .before .before .before .before .before .before .before .args .a) (c .before .before .before .before .before .point-on .result) (c .before .before .before .before .turn .result) (c .before .before .before .before .before .point-on .ensures) (c .before .before .before .before .turn .ensures) (sym (c .before .before .is-accepted .ensures) ∙ c .before .if1 .taken) in omega (arith, k .1)
+mul-q c =
+    let k = turn-in (c .before .before .before .before .before .before .before .before .args .r)
+    (c .before .before .before .before .before .before .before .before .args .today)
+    (c .before .before .before .before .before .before .before .before .args .p) (c .before .before .before .before .before .before .before .before .args .a)
+    (c .before .before .before .before .before .point-on .result) (c .before .before .before .before .turn .result)
+    (c .before .before .before .before .before .point-on .ensures) (c .before .before .before .before .turn .ensures)
+    (sym (c .before .before .is-accepted .ensures) ∙ c .before .if1 .taken) in omega (arith, k .1)
 
 element-set-from-q : tie.Need-element-set-from-q
-element-set-from-q c = let k = turn-in (c .before .before .before .before .before .before .before .before .args .r) (c .before .before .before .before .before .before .before .before .args .today) (c .before .before .before .before .before .before .before .before .args .p) (c .before .before .before .before .before .before .before .before .args .a) (c .before .before .before .before .before .point-on .result) (c .before .before .before .before .turn .result) (c .before .before .before .before .before .point-on .ensures) (c .before .before .before .before .turn .ensures) (sym (c .before .before .is-accepted .ensures) ∙ c .before .if1 .taken) in omega (arith, k .0, k .1)
+element-set-from-q c =
+    let k = turn-in (c .before .before .before .before .before .before .before .before .args .r)
+    (c .before .before .before .before .before .before .before .before .args .today)
+    (c .before .before .before .before .before .before .before .before .args .p) (c .before .before .before .before .before .before .before .before .args .a)
+    (c .before .before .before .before .before .point-on .result) (c .before .before .before .before .turn .result)
+    (c .before .before .before .before .before .point-on .ensures) (c .before .before .before .before .turn .ensures)
+    (sym (c .before .before .is-accepted .ensures) ∙ c .before .if1 .taken) in omega (arith, k .0, k .1)
 
 returns : tie.Need-returns
-returns c = turn-accepted (c .before .before .before .before .before .before .before .before .args .r) (c .before .before .before .before .before .before .before .before .args .today) (c .before .before .before .before .before .before .before .before .args .p) (c .before .before .before .before .before .before .before .before .args .a) (c .before .before .before .before .before .point-on .result) (c .before .before .before .before .turn .result) (c .before .before .before .before .before .point-on .ensures) (c .before .before .before .before .turn .ensures) (c .advance .result) (c .advance .ensures) (sym (c .before .before .is-accepted .ensures) ∙ c .before .if1 .taken)
+returns c =
+    turn-accepted (c .before .before .before .before .before .before .before .before .args .r)
+    (c .before .before .before .before .before .before .before .before .args .today)
+    (c .before .before .before .before .before .before .before .before .args .p) (c .before .before .before .before .before .before .before .before .args .a)
+    (c .before .before .before .before .before .point-on .result) (c .before .before .before .before .turn .result)
+    (c .before .before .before .before .before .point-on .ensures) (c .before .before .before .before .turn .ensures) (c .advance .result)
+    (c .advance .ensures) (sym (c .before .before .is-accepted .ensures) ∙ c .before .if1 .taken)
 
 returns-2 : tie.Need-returns-2
-returns-2 c = turn-refused (c .before .before .before .before .before .before .before .args .r) (c .before .before .before .before .before .before .before .args .today) (c .before .before .before .before .before .before .before .args .p) (c .before .before .before .before .before .before .before .args .a) (c .before .before .before .before .point-on .result) (c .before .before .before .turn .result) (c .before .before .before .before .point-on .ensures) (c .before .before .before .turn .ensures) (sym (c .before .is-accepted .ensures) ∙ c .if1 .left)
+returns-2 c =
+    turn-refused (c .before .before .before .before .before .before .before .args .r) (c .before .before .before .before .before .before .before .args .today)
+    (c .before .before .before .before .before .before .before .args .p) (c .before .before .before .before .before .before .before .args .a)
+    (c .before .before .before .before .point-on .result) (c .before .before .before .turn .result) (c .before .before .before .before .point-on .ensures)
+    (c .before .before .before .turn .ensures) (sym (c .before .is-accepted .ensures) ∙ c .if1 .left)
 
 pub at-spec : {M : Type 1} → statement M
 at-spec =
-    tie.close
-    (tie.spec
-    point-on-requires
-    turn-requires
-    is-accepted-requires
-    advance-requires
-    sub-i
-    mul-q
-    element-set-from-q
-    returns
-    returns-2)
+    tie.close (tie.spec (λ c κs. search needs) (λ c κs. search needs) (λ c κs. search needs) (λ c κs. search needs)
+    sub-i mul-q element-set-from-q returns returns-2)

@@ -1,60 +1,51 @@
 -- A failure of a supplier under contract: 29, 30, then last resort at each of its points.
-use mathlib.Core.Path.{_≡_, refl, sym, _∙_, ap}
-use mathlib.Core.Bool.{true, false}
-use Prim.Native.Nat.{_+_, _≤_, _<_}
+use mathlib.Core.Path.{_≡_, _∙_, ap}
+use Prim.Native.Nat.{_≤_}
 use native.Mathlib.Omega.{arith}
-use borrow.Author.Tests.{lt-ltb, le-ltb, eq-eqb, ne-eqb, not-true, not-false}
-use Rattle.rules.specs.Rejections.{answer, answerTo, firstOf, outOfRange, offCalendar, rows, accepted}
-use Rattle.rules.specs.declared.Register.{Register}
-use Rattle.rules.specs.Register.{says, done, applied}
+use borrow.Author.Tests.{eq-eqb}
+use Rattle.rules.specs.Rejections.{firstOf, accepted}
+use Rattle.rules.specs.declared.{Register.Register}
+use Rattle.rules.specs.Register.{done, applied}
 use Rattle.register.proofs.AtPoint.{advanced-on, advancedTo-settings}
-use Rattle.register.proofs.Failing.{failure-says, failedBy-on, supplier-in, protected, protected-last}
+use Rattle.register.proofs.Failing.{failure-says, failedBy-on, protected, protected-last}
 use borrow.Author.Needs.{needs}
 use Rattle.register.proofs.fail_under_contract.Statement.{statement}
 use Rattle.register.proofs.fail_under_contract.Tie as tie
-use Rattle.register.proofs.fail_under_contract.Reads as reads
-use Rattle.register.proofs.fail_under_contract.Lts as lts
-use Rattle.register.proofs.accepted.Reads as accepted-reads
-use Rattle.register.proofs.points.advance.Reads as advance-reads
-use Rattle.register.proofs.points.all_failed.Reads as all-failed-reads
-use Rattle.register.proofs.points.any_filled.Reads as any-filled-reads
-use Rattle.register.proofs.refused.Reads as refused-reads
-
-refused-requires : tie.Need-refused-requires
-refused-requires c κs = search needs
 
 returns : tie.Need-returns
 unfolding applied firstOf
-returns c = rw (failure-says (c .before .before .before .before .args .t) (c .before .before .before .before .args .s) (c .before .before .before .before .args .r) (c .before .before .before .before .pre), eq-eqb _ _ (c .before .if1 .taken)) (c .refused .ensures)
-
-refused-requires-2 : tie.Need-refused-requires-2
-refused-requires-2 c κs = search needs
+returns c =
+    rw (
+      failure-says (c .before .before .before .before .args .t) (c .before .before .before .before .args .s) (c .before .before .before .before .args .r)
+          (c .before .before .before .before .pre),
+      eq-eqb _ _ (c .before .if1 .taken),
+    ) (c .refused .ensures)
 
 returns-2 : tie.Need-returns-2
 unfolding applied firstOf
-returns-2 c = rw (failure-says (c .before .before .before .before .before .before .args .t) (c .before .before .before .before .before .before .args .s) (c .before .before .before .before .before .before .args .r) (c .before .before .before .before .before .before .pre), protected-last _ _ _ (c .before .before .before .if1 .left) (c .before .if2 .taken)) (c .refused2 .ensures)
-
-advance-requires : tie.Need-advance-requires
-advance-requires c κs = search needs
-
-any-filled-requires : tie.Need-any-filled-requires
-any-filled-requires c κs = search needs
-
-refused-requires-3 : tie.Need-refused-requires-3
-refused-requires-3 c κs = search needs
+returns-2 c =
+    rw (
+      failure-says (c .before .before .before .before .before .before .args .t) (c .before .before .before .before .before .before .args .s)
+          (c .before .before .before .before .before .before .args .r) (c .before .before .before .before .before .before .pre),
+      protected-last _ _ _ (c .before .before .before .if1 .left) (c .before .if2 .taken),
+    ) (c .refused2 .ensures)
 
 returns-3 : tie.Need-returns-3
 unfolding applied firstOf
-returns-3 c = rw (failure-says (c .before .before .before .before .before .before .before .before .before .before .args .t) (c .before .before .before .before .before .before .before .before .before .before .args .s) (c .before .before .before .before .before .before .before .before .before .before .args .r) (c .before .before .before .before .before .before .before .before .before .before .pre), protected _ _ _ (c .before .before .before .before .before .before .before .if1 .left) (c .before .before .before .before .before .if2 .left), ← (advanced-on (c .before .before .before .before .before .before .before .before .before .before .args .t) (c .before .before .before .before .before .before .before .before .before .before .args .r) (omega (arith, c .before .before .before .before .before .before .before .before .before .before .pre .calendar))), ← (c .before .before .before .before .advance .ensures), ← (c .before .before .any-filled .ensures), c .before .if3 .taken) (c .refused3 .ensures)
-
-element-write-next : tie.Need-element-write-next
-element-write-next c = omega (arith, c .before .before .before .before .before .before .before .before .before .pre .most)
-
-all-failed-requires : tie.Need-all-failed-requires
-all-failed-requires c κs = search needs
-
-accepted-requires : tie.Need-accepted-requires
-accepted-requires c κs = search needs
+returns-3 c =
+    rw (
+      failure-says (c .before .before .before .before .before .before .before .before .before .before .args .t)
+          (c .before .before .before .before .before .before .before .before .before .before .args .s)
+          (c .before .before .before .before .before .before .before .before .before .before .args .r)
+          (c .before .before .before .before .before .before .before .before .before .before .pre),
+      protected _ _ _ (c .before .before .before .before .before .before .before .if1 .left) (c .before .before .before .before .before .if2 .left),
+      ← (advanced-on (c .before .before .before .before .before .before .before .before .before .before .args .t)
+          (c .before .before .before .before .before .before .before .before .before .before .args .r)
+          (omega (arith, c .before .before .before .before .before .before .before .before .before .before .pre .calendar))),
+      ← (c .before .before .before .before .advance .ensures),
+      ← (c .before .before .any-filled .ensures),
+      c .before .if3 .taken,
+    ) (c .refused3 .ensures)
 
 returns-4 : tie.Need-returns-4
 unfolding applied firstOf done
@@ -62,21 +53,21 @@ returns-4 c = let a = c .before .before .before .before .before .before .before 
     let set : c .before .before .before .before .before .advance .result .settings ≡ a .r .settings
     = ap (λ (x : Register). x .settings) (c .before .before .before .before .before .advance .ensures) ∙ advancedTo-settings (a .t) (a .r) in
     let on : a .t ≤ 73048 = omega (arith, c .before .before .before .before .before .before .before .before .before .before .before .pre .calendar) in
-    rw (failure-says (a .t) (a .s) (a .r) (c .before .before .before .before .before .before .before .before .before .before .before .pre), protected _ _ _ (c .before .before .before .before .before .before .before .before .if1 .left) (c .before .before .before .before .before .before .if2 .left), ← (advanced-on (a .t) (a .r) on), ← (c .before .before .before .before .before .advance .ensures), ← (c .before .before .before .any-filled .ensures), c .before .before .if3 .left, ← (failedBy-on (c .before .before .before .before .before .advance .result .settings) (a .t) (a .s) on)) (rw (c .accepted .ensures, c .before .all-failed .ensures, set))
+    rw (
+      failure-says (a .t) (a .s) (a .r) (c .before .before .before .before .before .before .before .before .before .before .before .pre),
+      protected _ _ _ (c .before .before .before .before .before .before .before .before .if1 .left)
+          (c .before .before .before .before .before .before .if2 .left),
+      ← (advanced-on (a .t) (a .r) on),
+      ← (c .before .before .before .before .before .advance .ensures),
+      ← (c .before .before .before .any-filled .ensures),
+      c .before .before .if3 .left,
+      ← (failedBy-on (c .before .before .before .before .before .advance .result .settings) (a .t) (a .s) on),
+    )
+    (rw (c .accepted .ensures, c .before .all-failed .ensures, set))
 
 pub fail-under-contract-spec : {M : Type 1} → statement M
 fail-under-contract-spec =
-    tie.close
-    (tie.spec
-    refused-requires
-    returns
-    refused-requires-2
-    returns-2
-    advance-requires
-    any-filled-requires
-    refused-requires-3
-    returns-3
-    element-write-next
-    all-failed-requires
-    accepted-requires
-    returns-4)
+    tie.close (tie.spec (λ c κs. search needs) returns (λ c κs. search needs) returns-2 (λ c κs. search needs)
+    (λ c κs. search needs) (λ c κs. search needs) returns-3
+    (λ c. omega (arith, c .before .before .before .before .before .before .before .before .before .pre .most))
+    (λ c κs. search needs) (λ c κs. search needs) returns-4)

@@ -1,18 +1,14 @@
 -- Document 01, "Volumes": the questions, and 22 off their range or on a point not enrolled. Definitions only.
 use mathlib.Core.Path.{_≡_}
-use mathlib.Core.List.{List, [], _∷_, _++_}
-use Rattle.rules.specs.declared.Register.{Register}
-use Rattle.rules.specs.declared.Action.the-variants.{At, Day}
-use Rattle.rules.specs.declared.PointAction.the-variants.{Enrol, IntoService, Read}
-use Rattle.rules.specs.declared.Answer.the-variants.{Accepted}
-use Rattle.rules.specs.declared.HolderAnswer.the-variants.{Holder}
-use Rattle.rules.specs.declared.PeriodAnswer.the-variants.{Of}
-use Rattle.rules.specs.declared.AdvanceAnswer.the-variants.{Volume}
+use mathlib.Core.List.{[], _∷_, _++_}
+use Rattle.rules.specs.declared.{Register.Register, Action.Action, PointAction.PointAction, Answer.Answer}
+use Rattle.rules.specs.declared.{HolderAnswer.HolderAnswer, PeriodAnswer.PeriodAnswer}
+use Rattle.rules.specs.declared.{AdvanceAnswer.AdvanceAnswer}
 use Rattle.rules.specs.Answers.{holderNumber, periodNumber, advanceNumber}
 use Rattle.rules.specs.Register.{period}
 use Rattle.rules.specs.Questions.{holderAnswer, periodAnswer, advanceAnswer}
-use Rattle.rules.specs.Demand3.{register}
-use Rattle.rules.specs.Scenes.{Line, _gives_, on, calls}
+use Rattle.rules.specs.Periods.{register}
+use Rattle.rules.specs.Scenes.{_gives_, on, calls}
 use Rattle.rules.specs.RowExamples.Scene.{opens, ready}
 
 -- Point 32 is enrolled on day 12, served by 5 from day 15 and read on day 22; the register's day is 25.
@@ -21,25 +17,27 @@ r =
     register opens
     (calls
     (ready ++
-    (on 12 (At 32 (Enrol 3 0 100)) gives Accepted ∷ on 15 (At 32 (IntoService 5 77)) gives Accepted ∷
-    on 22 (At 32 (Read 22 110 0)) gives Accepted ∷ on 25 Day gives Accepted ∷ [])))
+    (on 12 (Action.At 32 (PointAction.Enrol 3 0 100)) gives Answer.Accepted ∷
+    on 15 (Action.At 32 (PointAction.IntoService 5 77)) gives Answer.Accepted ∷
+    on 22 (Action.At 32 (PointAction.Read 22 110 0)) gives Answer.Accepted ∷ on 25 Action.Day gives Answer.Accepted ∷
+    [])))
 
 pub record QuestionExamples : Type 0 where
   -- "holder of p on day d (enrolment to register's day)"
   pub holder-before-enrolment : holderNumber (holderAnswer r 32 11) ≡ 22
-  pub holder-on-enrolment : holderAnswer r 32 12 ≡ Holder 0
-  pub holder-on-14 : holderAnswer r 32 14 ≡ Holder 0
-  pub holder-on-15 : holderAnswer r 32 15 ≡ Holder 5
-  pub holder-on-registers-day : holderAnswer r 32 25 ≡ Holder 5
+  pub holder-on-enrolment : holderAnswer r 32 12 ≡ HolderAnswer.Holder 0
+  pub holder-on-14 : holderAnswer r 32 14 ≡ HolderAnswer.Holder 0
+  pub holder-on-15 : holderAnswer r 32 15 ≡ HolderAnswer.Holder 5
+  pub holder-on-registers-day : holderAnswer r 32 25 ≡ HolderAnswer.Holder 5
   pub holder-after-registers-day : holderNumber (holderAnswer r 32 26) ≡ 22
   -- "period n of p (start, holder, volume; n from 1 to their count)"
   pub period-0 : periodNumber (periodAnswer r 32 0) ≡ 22
-  pub period-1 : periodAnswer r 32 1 ≡ Of (period 12 0 3000)
-  pub period-2 : periodAnswer r 32 2 ≡ Of (period 15 5 7000)
+  pub period-1 : periodAnswer r 32 1 ≡ PeriodAnswer.Of (period 12 0 3000)
+  pub period-2 : periodAnswer r 32 2 ≡ PeriodAnswer.Of (period 15 5 7000)
   pub period-3 : periodNumber (periodAnswer r 32 3) ≡ 22
   -- "advance of p"
-  pub advance : advanceAnswer r 32 ≡ Volume 10000
-  pub advance-not-read : advanceAnswer r 1 ≡ Volume 0
+  pub advance : advanceAnswer r 32 ≡ AdvanceAnswer.Volume 10000
+  pub advance-not-read : advanceAnswer r 1 ≡ AdvanceAnswer.Volume 0
   -- off the range of points, or not enrolled
   pub holder-of-0 : holderNumber (holderAnswer r 0 20) ≡ 22
   pub holder-of-33 : holderNumber (holderAnswer r 33 20) ≡ 22

@@ -2,21 +2,8 @@
 use mathlib.Core.Bool.{true}
 use mathlib.Core.List.{List, [], _∷_, _++_}
 use Prim.Native.Nat.{ℕ, zero, suc}
-use Rattle.rules.specs.declared.Fields.{Fields}
-use Rattle.rules.specs.declared.Supply.{Supply}
-use Rattle.rules.specs.declared.Period.{Period}
-use Rattle.rules.specs.declared.Opening.{Opening}
-use Rattle.rules.specs.declared.Action.{Action}
-use Rattle.rules.specs.declared.Action.the-variants.{SignContract, At}
-use Rattle.rules.specs.declared.PointAction.the-variants.{
-  Enrol,
-  IntoService,
-  DefaultSupply,
-  AskSwitch,
-  OutOfService,
-}
-use Rattle.rules.specs.declared.Answer.{Answer}
-use Rattle.rules.specs.declared.Answer.the-variants.{Accepted, AcceptedOn}
+use Rattle.rules.specs.declared.{Fields.Fields, Supply.Supply, Period.Period, Opening.Opening, Action.Action}
+use Rattle.rules.specs.declared.{PointAction.PointAction, Answer.Answer}
 use Rattle.rules.specs.Fields.{fields, meter, reading}
 use Rattle.rules.specs.Scenes.{Line, _gives_, opening, on, Plays, IsOn, Keeps, Shows}
 
@@ -28,12 +15,15 @@ opens = opening 10 2 30 40 1 2
 -- default supply to day 40. Point 4 is served by 5, and 6 has asked for it from day 31 on. No other point is enrolled.
 abbrev pub ready : List Line
 ready =
-    on 10 (SignContract 5) gives Accepted ∷ on 10 (SignContract 6) gives Accepted ∷
-    on 10 (At 1 (Enrol 3 0 990)) gives Accepted ∷ on 10 (At 1 (IntoService 5 77)) gives Accepted ∷
-    on 10 (At 2 (Enrol 3 0 990)) gives Accepted ∷
-    on 10 (At 3 (Enrol 3 0 990)) gives Accepted ∷ on 10 (At 3 (DefaultSupply 77)) gives Accepted ∷
-    on 10 (At 4 (Enrol 3 0 990)) gives Accepted ∷ on 10 (At 4 (IntoService 5 77)) gives Accepted ∷
-    on 10 (At 4 (AskSwitch 6 77 10)) gives AcceptedOn 31 ∷ []
+    on 10 (Action.SignContract 5) gives Answer.Accepted ∷ on 10 (Action.SignContract 6) gives Answer.Accepted ∷
+    on 10 (Action.At 1 (PointAction.Enrol 3 0 990)) gives Answer.Accepted ∷
+    on 10 (Action.At 1 (PointAction.IntoService 5 77)) gives Answer.Accepted ∷
+    on 10 (Action.At 2 (PointAction.Enrol 3 0 990)) gives Answer.Accepted ∷
+    on 10 (Action.At 3 (PointAction.Enrol 3 0 990)) gives Answer.Accepted ∷
+    on 10 (Action.At 3 (PointAction.DefaultSupply 77)) gives Answer.Accepted ∷
+    on 10 (Action.At 4 (PointAction.Enrol 3 0 990)) gives Answer.Accepted ∷
+    on 10 (Action.At 4 (PointAction.IntoService 5 77)) gives Answer.Accepted ∷
+    on 10 (Action.At 4 (PointAction.AskSwitch 6 77 10)) gives Answer.AcceptedOn 31 ∷ []
 
 -- The fields of points 1 and 4 there, with another supply.
 abbrev pub kept : Supply → Fields
@@ -61,5 +51,5 @@ each t a (c ∷ cs) = on t c gives a ∷ each t a cs
 abbrev pub turns : ℕ → ℕ → ℕ → ℕ → List Line
 turns s p zero d = []
 turns s p (suc n) d =
-    on d (At p OutOfService) gives Accepted ∷
-    on (suc d) (At p (IntoService s 77)) gives Accepted ∷ turns s p n (suc (suc d))
+    on d (Action.At p PointAction.OutOfService) gives Answer.Accepted ∷
+    on (suc d) (Action.At p (PointAction.IntoService s 77)) gives Answer.Accepted ∷ turns s p n (suc (suc d))

@@ -3,8 +3,5 @@ use mathlib.Core.Path.{refl}
 use Rattle.tables.proofs.joined.Statement.{statement}
 use Rattle.tables.proofs.joined.Tie as tie
 
-returns : tie.Need-returns
-returns c = refl
-
 pub joined-spec : {M : Type 1} → statement M
-joined-spec = tie.close (tie.spec returns)
+joined-spec = tie.close (tie.spec (λ c. refl))

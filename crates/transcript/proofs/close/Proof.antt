@@ -1,22 +1,19 @@
 use borrow.Author.Needs.{needs}
 use Rattle.transcript.proofs.close.Statement.{statement}
 use Rattle.transcript.proofs.close.Tie as tie
-use Rattle.transcript.proofs.close.Reads as reads
-use Rattle.transcript.proofs.close.Lts as lts
-use Rattle.listing.proofs.put_listing.Reads as put-listing-reads
 use Rattle.transcript.proofs.Ends.{closed-ready, closed-unready}
 
-put-listing-requires : tie.Need-put-listing-requires
-put-listing-requires c κs = search needs
-
-same-length : tie.Need-same-length
-same-length c = search needs
-
 returns : tie.Need-returns
-returns c = closed-ready ((c .before .before .before .before .before .before .before .before) .args .s .desk) ((c .before .before .before .before .before .before .before .before) .args .from) ((c .before .before .before .before .before .before .before .before) .args .out .now) _ ((c .before .before .put-listing) .result) ((c .before .before .before .before .before .if1) .taken) ((c .before .before .put-listing) .ensures)
+returns c =
+    closed-ready ((c .before .before .before .before .before .before .before .before) .args .s .desk)
+    ((c .before .before .before .before .before .before .before .before) .args .from)
+    ((c .before .before .before .before .before .before .before .before) .args .out .now) _ ((c .before .before .put-listing) .result)
+    ((c .before .before .before .before .before .if1) .taken) ((c .before .before .put-listing) .ensures)
 
 returns-2 : tie.Need-returns-2
-returns-2 c = closed-unready ((c .before .before .before) .args .s .desk) ((c .before .before .before) .args .from) ((c .before .before .before) .args .out .now) ((c .if1) .left)
+returns-2 c =
+    closed-unready ((c .before .before .before) .args .s .desk) ((c .before .before .before) .args .from) ((c .before .before .before) .args .out .now)
+    ((c .if1) .left)
 
 pub close-spec : {M : Type 1} → statement M
-close-spec = tie.close (tie.spec put-listing-requires same-length returns returns-2)
+close-spec = tie.close (tie.spec (λ c κs. search needs) (λ c. search needs) returns returns-2)

@@ -3,80 +3,6 @@ use Rattle.rules.specs.Rejections.{outOfRangeAt}
 use borrow.Author.Needs.{needs}
 use Rattle.answers.proofs.ranges.out_of_range_at.Statement.{statement}
 use Rattle.answers.proofs.ranges.out_of_range_at.Tie as tie
-use Rattle.answers.proofs.ranges.out_of_range_at.Reads as reads
-use Rattle.answers.proofs.ranges.out_of_range_at.Lts as lts
-use Rattle.answers.proofs.ranges.not_wheels.Reads as not-wheels-reads
-use Rattle.answers.proofs.ranges.or.Reads as or-reads
-use Rattle.checks.proofs.outside.Reads as outside-reads
-
-enum-known-a : tie.Need-enum-known-a
-enum-known-a c = search needs
-
-not-wheels-requires : tie.Need-not-wheels-requires
-not-wheels-requires c κs = search needs
-
-enum-known-a-2 : tie.Need-enum-known-a-2
-enum-known-a-2 c = search needs
-
-outside-requires : tie.Need-outside-requires
-outside-requires c κs = search needs
-
-outside-requires-2 : tie.Need-outside-requires-2
-outside-requires-2 c κs = search needs
-
-or-requires : tie.Need-or-requires
-or-requires c κs = search needs
-
-enum-known-a-3 : tie.Need-enum-known-a-3
-enum-known-a-3 c = search needs
-
-outside-requires-3 : tie.Need-outside-requires-3
-outside-requires-3 c κs = search needs
-
-enum-known-a-4 : tie.Need-enum-known-a-4
-enum-known-a-4 c = search needs
-
-outside-requires-4 : tie.Need-outside-requires-4
-outside-requires-4 c κs = search needs
-
-outside-requires-5 : tie.Need-outside-requires-5
-outside-requires-5 c κs = search needs
-
-or-requires-2 : tie.Need-or-requires-2
-or-requires-2 c κs = search needs
-
-enum-known-a-5 : tie.Need-enum-known-a-5
-enum-known-a-5 c = search needs
-
-outside-requires-6 : tie.Need-outside-requires-6
-outside-requires-6 c κs = search needs
-
-enum-known-a-6 : tie.Need-enum-known-a-6
-enum-known-a-6 c = search needs
-
-outside-requires-7 : tie.Need-outside-requires-7
-outside-requires-7 c κs = search needs
-
-enum-known-a-7 : tie.Need-enum-known-a-7
-enum-known-a-7 c = search needs
-
-outside-requires-8 : tie.Need-outside-requires-8
-outside-requires-8 c κs = search needs
-
-not-wheels-requires-2 : tie.Need-not-wheels-requires-2
-not-wheels-requires-2 c κs = search needs
-
-or-requires-3 : tie.Need-or-requires-3
-or-requires-3 c κs = search needs
-
-enum-told : tie.Need-enum-told
-enum-told c = search needs
-
-enum-known-a-8 : tie.Need-enum-known-a-8
-enum-known-a-8 c = search needs
-
-outside-requires-9 : tie.Need-outside-requires-9
-outside-requires-9 c κs = search needs
 
 returns : tie.Need-returns
 unfolding outOfRangeAt
@@ -128,37 +54,9 @@ returns-9 c =
 
 pub out-of-range-at-spec : {M : Type 1} → statement M
 out-of-range-at-spec =
-    tie.close
-    (tie.spec
-    enum-known-a
-    not-wheels-requires
-    enum-known-a-2
-    outside-requires
-    outside-requires-2
-    or-requires
-    enum-known-a-3
-    outside-requires-3
-    enum-known-a-4
-    outside-requires-4
-    outside-requires-5
-    or-requires-2
-    enum-known-a-5
-    outside-requires-6
-    enum-known-a-6
-    outside-requires-7
-    enum-known-a-7
-    outside-requires-8
-    not-wheels-requires-2
-    or-requires-3
-    enum-told
-    enum-known-a-8
-    outside-requires-9
-    returns
-    returns-2
-    returns-3
-    returns-4
-    returns-5
-    returns-6
-    returns-7
-    returns-8
-    returns-9)
+    tie.close (tie.spec (λ c. search needs) (λ c κs. search needs) (λ c. search needs) (λ c κs. search needs)
+    (λ c κs. search needs) (λ c κs. search needs) (λ c. search needs) (λ c κs. search needs) (λ c. search needs)
+    (λ c κs. search needs) (λ c κs. search needs) (λ c κs. search needs) (λ c. search needs) (λ c κs. search needs)
+    (λ c. search needs) (λ c κs. search needs) (λ c. search needs) (λ c κs. search needs) (λ c κs. search needs)
+    (λ c κs. search needs) (λ c. search needs) (λ c. search needs) (λ c κs. search needs) returns returns-2 returns-3
+    returns-4 returns-5 returns-6 returns-7 returns-8 returns-9)

@@ -1,29 +1,11 @@
 -- The rows of a request, in order.
-use native.Mathlib.Omega.{arith}
-use borrow.Author.Tests.{lt-ltb, le-ltb, le-leb, lt-leb, eq-eqb, ne-eqb, not-true, not-false}
+use borrow.Author.Tests.{eq-eqb, ne-eqb}
 use Rattle.rules.specs.Effects.{effectOf}
 use Rattle.rules.specs.Rejections.{firstOf, rowsAt, acceptedAt}
 use Rattle.answers.specs.Ruling.{rulingAt}
 use borrow.Author.Needs.{needs}
 use Rattle.answers.proofs.rows.ask_switch.Statement.{statement}
 use Rattle.answers.proofs.rows.ask_switch.Tie as tie
-use Rattle.answers.proofs.rows.ask_switch.Reads as reads
-use Rattle.answers.proofs.rows.ask_switch.Lts as lts
-use Rattle.answers.proofs.rows.last_rows.Reads as last-rows-reads
-use Rattle.checks.proofs.bad_day.Reads as bad-day-reads
-use Rattle.answers.proofs.ranges.is_pending.Reads as is-pending-reads
-use Rattle.answers.proofs.ranges.no_contract.Reads as no-contract-reads
-use Rattle.answers.proofs.ranges.not_enrolled.Reads as not-enrolled-reads
-
-no-contract-requires : tie.Need-no-contract-requires
-no-contract-requires c κs = search needs
-
-returns : tie.Need-returns
-unfolding rulingAt rowsAt acceptedAt firstOf
-returns c = rw (← (c .before .no-contract .ensures), c .if1 .taken)
-
-not-enrolled-requires : tie.Need-not-enrolled-requires
-not-enrolled-requires c κs = search needs
 
 returns-2 : tie.Need-returns-2
 unfolding rulingAt rowsAt acceptedAt firstOf
@@ -34,12 +16,6 @@ returns-2 c =
       ← (c .before .not-enrolled .ensures),
       c .if2 .taken,
     )
-
-cast-bad-day : tie.Need-cast-bad-day
-cast-bad-day c = search needs
-
-bad-day-requires : tie.Need-bad-day-requires
-bad-day-requires c κs = search needs
 
 returns-3 : tie.Need-returns-3
 unfolding rulingAt rowsAt acceptedAt firstOf
@@ -53,9 +29,6 @@ returns-3 c =
       c .if3 .taken,
     )
 
-cast-if4 : tie.Need-cast-if4
-cast-if4 c = search needs
-
 returns-4 : tie.Need-returns-4
 unfolding rulingAt rowsAt acceptedAt firstOf
 returns-4 c =
@@ -68,9 +41,6 @@ returns-4 c =
       c .before .before .if3 .left,
       ne-eqb _ _ (c .if4 .taken),
     )
-
-is-pending-requires : tie.Need-is-pending-requires
-is-pending-requires c κs = search needs
 
 returns-5 : tie.Need-returns-5
 unfolding rulingAt rowsAt acceptedAt firstOf
@@ -128,9 +98,6 @@ returns-7 c =
       eq-eqb _ _ (c .if7 .taken),
     )
 
-last-rows-requires : tie.Need-last-rows-requires
-last-rows-requires c κs = search needs
-
 returns-8 : tie.Need-returns-8
 unfolding rulingAt rowsAt acceptedAt firstOf effectOf
 returns-8 c =
@@ -155,20 +122,7 @@ returns-8 c =
 
 pub ask-switch-spec : {M : Type 1} → statement M
 ask-switch-spec =
-    tie.close
-    (tie.spec
-    no-contract-requires
-    returns
-    not-enrolled-requires
-    returns-2
-    cast-bad-day
-    bad-day-requires
-    returns-3
-    cast-if4
-    returns-4
-    is-pending-requires
-    returns-5
-    returns-6
-    returns-7
-    last-rows-requires
-    returns-8)
+    tie.close (tie.spec (λ c κs. search needs)
+    (λ c. unfold rulingAt rowsAt acceptedAt firstOf in rw (← (c .before .no-contract .ensures), c .if1 .taken))
+    (λ c κs. search needs) returns-2 (λ c. search needs) (λ c κs. search needs) returns-3 (λ c. search needs)
+    returns-4 (λ c κs. search needs) returns-5 returns-6 returns-7 (λ c κs. search needs) returns-8)

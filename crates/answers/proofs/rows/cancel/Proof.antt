@@ -5,25 +5,7 @@ use Rattle.answers.specs.Ruling.{rulingAt}
 use borrow.Author.Needs.{needs}
 use Rattle.answers.proofs.rows.cancel.Statement.{statement}
 use Rattle.answers.proofs.rows.cancel.Tie as tie
-use Rattle.answers.proofs.rows.cancel.Reads as reads
-use Rattle.answers.proofs.rows.cancel.Lts as lts
 use Rattle.holidays.proofs.Counting.{between-counted}
-use Rattle.holidays.proofs.working_days.Reads as working-days-reads
-use Rattle.periods.proofs.less.Reads as less-reads
-use Rattle.answers.proofs.ranges.not_enrolled.Reads as not-enrolled-reads
-
-not-enrolled-requires : tie.Need-not-enrolled-requires
-not-enrolled-requires c κs = search needs
-
-returns : tie.Need-returns
-unfolding rulingAt rowsAt acceptedAt firstOf
-returns c = rw (← (c .before .not-enrolled .ensures), c .if1 .taken)
-
-enum-known-q : tie.Need-enum-known-q
-enum-known-q c = search needs
-
-enum-told : tie.Need-enum-told
-enum-told c = search needs
 
 returns-2 : tie.Need-returns-2
 unfolding rulingAt rowsAt acceptedAt firstOf
@@ -34,9 +16,6 @@ returns-2 c =
       c .enum-told .given .1,
     )
 
-cast-if2 : tie.Need-cast-if2
-cast-if2 c = search needs
-
 returns-3 : tie.Need-returns-3
 unfolding rulingAt rowsAt acceptedAt firstOf
 returns-3 c =
@@ -46,21 +25,6 @@ returns-3 c =
       c .before .before .q .given .1,
       ne-eqb _ _ (c .if2 .taken),
     )
-
-cast-less : tie.Need-cast-less
-cast-less c = search needs
-
-less-requires : tie.Need-less-requires
-less-requires c κs = search needs
-
-add-working-days : tie.Need-add-working-days
-add-working-days c = search needs
-
-working-days-requires : tie.Need-working-days-requires
-working-days-requires c κs = search needs
-
-cast-if3 : tie.Need-cast-if3
-cast-if3 c = search needs
 
 returns-4 : tie.Need-returns-4
 unfolding rulingAt rowsAt acceptedAt firstOf
@@ -90,19 +54,7 @@ returns-5 c =
 
 pub cancel-spec : {M : Type 1} → statement M
 cancel-spec =
-    tie.close
-    (tie.spec
-    not-enrolled-requires
-    returns
-    enum-known-q
-    enum-told
-    returns-2
-    cast-if2
-    returns-3
-    cast-less
-    less-requires
-    add-working-days
-    working-days-requires
-    cast-if3
-    returns-4
-    returns-5)
+    tie.close (tie.spec (λ c κs. search needs)
+    (λ c. unfold rulingAt rowsAt acceptedAt firstOf in rw (← (c .before .not-enrolled .ensures), c .if1 .taken))
+    (λ c. search needs) (λ c. search needs) returns-2 (λ c. search needs) returns-3 (λ c. search needs)
+    (λ c κs. search needs) (λ c. search needs) (λ c κs. search needs) (λ c. search needs) returns-4 returns-5)

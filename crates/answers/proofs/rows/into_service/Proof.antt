@@ -1,27 +1,11 @@
 -- The rows of into service, in order.
-use native.Mathlib.Omega.{arith}
-use borrow.Author.Tests.{lt-ltb, le-ltb, le-leb, lt-leb, eq-eqb, ne-eqb, not-true, not-false}
+use borrow.Author.Tests.{lt-ltb, le-ltb}
 use Rattle.rules.specs.Effects.{effectOf}
 use Rattle.rules.specs.Rejections.{firstOf, rowsAt, acceptedAt}
 use Rattle.answers.specs.Ruling.{rulingAt}
 use borrow.Author.Needs.{needs}
 use Rattle.answers.proofs.rows.into_service.Statement.{statement}
 use Rattle.answers.proofs.rows.into_service.Tie as tie
-use Rattle.answers.proofs.rows.into_service.Reads as reads
-use Rattle.answers.proofs.rows.into_service.Lts as lts
-use Rattle.checks.proofs.is_full_named.Reads as is-full-named-reads
-use Rattle.answers.proofs.ranges.no_contract.Reads as no-contract-reads
-use Rattle.answers.proofs.ranges.not_enrolled.Reads as not-enrolled-reads
-
-no-contract-requires : tie.Need-no-contract-requires
-no-contract-requires c κs = search needs
-
-returns : tie.Need-returns
-unfolding rulingAt rowsAt acceptedAt firstOf
-returns c = rw (← (c .before .no-contract .ensures), c .if1 .taken)
-
-not-enrolled-requires : tie.Need-not-enrolled-requires
-not-enrolled-requires c κs = search needs
 
 returns-2 : tie.Need-returns-2
 unfolding rulingAt rowsAt acceptedAt firstOf
@@ -43,9 +27,6 @@ returns-3 c =
       c .before .before .if2 .left,
       lt-ltb _ _ (c .if3 .taken),
     )
-
-is-full-named-requires : tie.Need-is-full-named-requires
-is-full-named-requires c κs = search needs
 
 returns-4 : tie.Need-returns-4
 unfolding rulingAt rowsAt acceptedAt firstOf effectOf
@@ -75,13 +56,6 @@ returns-5 c =
 
 pub into-service-spec : {M : Type 1} → statement M
 into-service-spec =
-    tie.close
-    (tie.spec
-    no-contract-requires
-    returns
-    not-enrolled-requires
-    returns-2
-    returns-3
-    is-full-named-requires
-    returns-4
-    returns-5)
+    tie.close (tie.spec (λ c κs. search needs)
+    (λ c. unfold rulingAt rowsAt acceptedAt firstOf in rw (← (c .before .no-contract .ensures), c .if1 .taken))
+    (λ c κs. search needs) returns-2 returns-3 (λ c κs. search needs) returns-4 returns-5)

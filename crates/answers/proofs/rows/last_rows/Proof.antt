@@ -7,40 +7,6 @@ use Rattle.rules.specs.Rejections.{firstOf}
 use Rattle.answers.proofs.rows.last_rows.Statement.{statement}
 use Rattle.answers.proofs.rows.last_rows.Tie as tie
 
-cast-effective-day : tie.Need-cast-effective-day
-cast-effective-day c = search needs
-
-effective-day-requires : tie.Need-effective-day-requires
-effective-day-requires c κs = search needs
-
-cast-e : tie.Need-cast-e
-unfolding effectiveDay
-cast-e c = omega (arith, c .effective-day .ensures)
-
-cast-t15 : tie.Need-cast-t15
-cast-t15 c = search needs
-
-is-full-kept-requires : tie.Need-is-full-kept-requires
-is-full-kept-requires c κs = search needs
-
-if-room-requires : tie.Need-if-room-requires
-if-room-requires c κs = search needs
-
-enum-told : tie.Need-enum-told
-enum-told c = search needs
-
-enum-told-2 : tie.Need-enum-told-2
-enum-told-2 c = search needs
-
-enum-known-k : tie.Need-enum-known-k
-enum-known-k c = search needs
-
-add-if1 : tie.Need-add-if1
-add-if1 c = search needs
-
-enum-told-3 : tie.Need-enum-told-3
-enum-told-3 c = search needs
-
 returns : tie.Need-returns
 unfolding firstOf
 returns c =
@@ -62,10 +28,6 @@ returns-2 c =
       c .enum-told2 .given .1,
     )
     (room .if-room .ensures)
-
-returns-3 : tie.Need-returns-3
-unfolding firstOf
-returns-3 c = rw (c .before .before .k .given .1, le-leb _ _ (c .if1 .taken))
 
 returns-4 : tie.Need-returns-4
 unfolding firstOf
@@ -92,21 +54,8 @@ returns-5 c =
 
 pub last-rows-spec : {M : Type 1} → statement M
 last-rows-spec =
-    tie.close
-    (tie.spec
-    cast-effective-day
-    effective-day-requires
-    cast-e
-    cast-t15
-    is-full-kept-requires
-    if-room-requires
-    enum-told
-    enum-told-2
-    enum-known-k
-    add-if1
-    enum-told-3
-    returns
-    returns-2
-    returns-3
-    returns-4
-    returns-5)
+    tie.close (tie.spec (λ c. search needs) (λ c κs. search needs)
+    (λ c. unfold effectiveDay in omega (arith, c .effective-day .ensures)) (λ c. search needs) (λ c κs. search needs)
+    (λ c κs. search needs) (λ c. search needs) (λ c. search needs) (λ c. search needs) (λ c. search needs)
+    (λ c. search needs) returns returns-2
+    (λ c. unfold firstOf in rw (c .before .before .k .given .1, le-leb _ _ (c .if1 .taken))) returns-4 returns-5)

@@ -1,23 +1,11 @@
 -- The rows of out of service, in order.
-use native.Mathlib.Omega.{arith}
-use borrow.Author.Tests.{lt-ltb, le-ltb, le-leb, lt-leb, eq-eqb, ne-eqb, not-true, not-false}
+use borrow.Author.Tests.{eq-eqb, ne-eqb}
 use Rattle.rules.specs.Effects.{effectOf}
 use Rattle.rules.specs.Rejections.{firstOf, rowsAt, acceptedAt}
 use Rattle.answers.specs.Ruling.{rulingAt}
 use borrow.Author.Needs.{needs}
 use Rattle.answers.proofs.rows.out_of_service.Statement.{statement}
 use Rattle.answers.proofs.rows.out_of_service.Tie as tie
-use Rattle.answers.proofs.rows.out_of_service.Reads as reads
-use Rattle.answers.proofs.rows.out_of_service.Lts as lts
-use Rattle.checks.proofs.is_full_named.Reads as is-full-named-reads
-use Rattle.answers.proofs.ranges.not_enrolled.Reads as not-enrolled-reads
-
-not-enrolled-requires : tie.Need-not-enrolled-requires
-not-enrolled-requires c κs = search needs
-
-returns : tie.Need-returns
-unfolding rulingAt rowsAt acceptedAt firstOf
-returns c = rw (← (c .before .not-enrolled .ensures), c .if1 .taken)
 
 returns-2 : tie.Need-returns-2
 unfolding rulingAt rowsAt acceptedAt firstOf
@@ -27,9 +15,6 @@ returns-2 c =
       c .before .before .if1 .left,
       eq-eqb _ _ (c .if2 .taken),
     )
-
-is-full-named-requires : tie.Need-is-full-named-requires
-is-full-named-requires c κs = search needs
 
 returns-3 : tie.Need-returns-3
 unfolding rulingAt rowsAt acceptedAt firstOf effectOf
@@ -55,5 +40,6 @@ returns-4 c =
 
 pub out-of-service-spec : {M : Type 1} → statement M
 out-of-service-spec =
-    tie.close
-    (tie.spec not-enrolled-requires returns returns-2 is-full-named-requires returns-3 returns-4)
+    tie.close (tie.spec (λ c κs. search needs)
+    (λ c. unfold rulingAt rowsAt acceptedAt firstOf in rw (← (c .before .not-enrolled .ensures), c .if1 .taken))
+    returns-2 (λ c κs. search needs) returns-3 returns-4)

@@ -4,15 +4,9 @@ use Rattle.answers.proofs.Readings.{read-ruling}
 use borrow.Author.Needs.{needs}
 use Rattle.answers.proofs.rows.read.Statement.{statement}
 use Rattle.answers.proofs.rows.read.Tie as tie
-use Rattle.answers.proofs.rows.read.Reads as reads
-use Rattle.answers.proofs.rows.read.Lts as lts
-use Rattle.answers.proofs.rows.read_rows.Reads as read-rows-reads
-
-read-rows-requires : tie.Need-read-rows-requires
-read-rows-requires c κs = search needs
 
 returns : tie.Need-returns
 returns c = let s = (c .before .before) .args in rw (read-ruling (s .set) (s .contracts) (s .t) (s .p) (s .d) (s .x) (s .z) (s .g)) ((c .read-rows) .ensures)
 
 pub read-spec : {M : Type 1} → statement M
-read-spec = tie.close (tie.spec read-rows-requires returns)
+read-spec = tie.close (tie.spec (λ c κs. search needs) returns)

@@ -7,28 +7,6 @@ use Rattle.rules.specs.Volumes.{fullTurn}
 use borrow.Author.Needs.{needs}
 use Rattle.checks.proofs.meter.full_turn.Statement.{statement}
 use Rattle.checks.proofs.meter.full_turn.Tie as tie
-use Rattle.checks.proofs.meter.full_turn.Reads as reads
-use Rattle.checks.proofs.meter.full_turn.Lts as lts
-use Rattle.checks.proofs.meter.power.Reads as power-reads
-
-cast-w : tie.Need-cast-w
-cast-w c = search needs
-
-cast-w-2 : tie.Need-cast-w-2
-cast-w-2 c = search needs
-
-add-w : tie.Need-add-w
-add-w c = search needs
-
-power-requires : tie.Need-power-requires
-power-requires c κs = search needs
-
-returns : tie.Need-returns
-unfolding fullTurn
-returns c = c .power .ensures ∙ ap (λ (n : ℕ). 10 ^ n) (omega arith)
-
-power-requires-2 : tie.Need-power-requires-2
-power-requires-2 c κs = search needs
 
 returns-2 : tie.Need-returns-2
 unfolding fullTurn
@@ -38,4 +16,6 @@ returns-2 c = let m = c .before .before .before .before .args .m in
 
 pub full-turn-spec : {M : Type 1} → statement M
 full-turn-spec =
-    tie.close (tie.spec cast-w cast-w-2 add-w power-requires returns power-requires-2 returns-2)
+    tie.close (tie.spec (λ c. search needs) (λ c. search needs) (λ c. search needs) (λ c κs. search needs)
+    (λ c. unfold fullTurn in c .power .ensures ∙ ap (λ (n : ℕ). 10 ^ n) (omega arith)) (λ c κs. search needs)
+    returns-2)

@@ -7,18 +7,6 @@ use borrow.Author.Needs.{needs}
 use Rattle.dates.proofs.month.length.Statement.{statement}
 use Rattle.dates.proofs.month.length.Tie as tie
 
-mul-n : tie.Need-mul-n
-mul-n c = search needs
-
-index-1-n : tie.Need-index-1-n
-index-1-n c = search needs
-
-index-2-n : tie.Need-index-2-n
-index-2-n c = search needs
-
-wide-requires : tie.Need-wide-requires
-wide-requires c κs = search needs
-
 returns : tie.Need-returns
 unfolding monthLength
 returns c =
@@ -28,4 +16,5 @@ returns c =
     omega arith
 
 pub length-spec : {M : Type 1} → statement M
-length-spec = tie.close (tie.spec mul-n index-1-n index-2-n wide-requires returns)
+length-spec =
+    tie.close (tie.spec (λ c. search needs) (λ c. search needs) (λ c. search needs) (λ c κs. search needs) returns)

@@ -7,26 +7,11 @@ use borrow.Author.Needs.{needs}
 use Rattle.dates.proofs.month.of_day.Statement.{statement}
 use Rattle.dates.proofs.month.of_day.Tie as tie
 
-cast-m : tie.Need-cast-m
-cast-m c = search needs
-
-start-requires : tie.Need-start-requires
-start-requires c κs = omega (arith, year-length (c .args .row) (c .pre .0))
-
-length-requires : tie.Need-length-requires
-length-requires c κs = omega (arith, year-length (c .before .args .row) (c .before .pre .0))
-
-add-if1 : tie.Need-add-if1
-add-if1 c = search needs
-
 returns : tie.Need-returns
 unfolding monthStart
 returns c =
     let p = c .before .before .before .pre in
     month-kept _ _ (p .0) (p .1) (omega arith)
-
-add-result : tie.Need-add-result
-add-result c = search needs
 
 returns-2 : tie.Need-returns-2
 unfolding monthStart
@@ -36,4 +21,6 @@ returns-2 c =
 
 pub of-day-spec : {M : Type 1} → statement M
 of-day-spec =
-    tie.close (tie.spec cast-m start-requires length-requires add-if1 returns add-result returns-2)
+    tie.close (tie.spec (λ c. search needs) (λ c κs. omega (arith, year-length (c .args .row) (c .pre .0)))
+    (λ c κs. omega (arith, year-length (c .before .args .row) (c .before .pre .0))) (λ c. search needs) returns
+    (λ c. search needs) returns-2)

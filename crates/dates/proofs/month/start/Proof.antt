@@ -6,21 +6,6 @@ use borrow.Author.Needs.{needs}
 use Rattle.dates.proofs.month.start.Statement.{statement}
 use Rattle.dates.proofs.month.start.Tie as tie
 
-mul-n : tie.Need-mul-n
-mul-n c = search needs
-
-mul-n-2 : tie.Need-mul-n-2
-mul-n-2 c = search needs
-
-index-1-n : tie.Need-index-1-n
-index-1-n c = search needs
-
-index-2-n : tie.Need-index-2-n
-index-2-n c = search needs
-
-wide-start-requires : tie.Need-wide-start-requires
-wide-start-requires c κs = search needs
-
 returns : tie.Need-returns
 returns c =
     let a = c .before .before .args in
@@ -29,4 +14,6 @@ returns c =
     omega arith
 
 pub start-spec : {M : Type 1} → statement M
-start-spec = tie.close (tie.spec mul-n mul-n-2 index-1-n index-2-n wide-start-requires returns)
+start-spec =
+    tie.close (tie.spec (λ c. search needs) (λ c. search needs) (λ c. search needs) (λ c. search needs)
+    (λ c κs. search needs) returns)

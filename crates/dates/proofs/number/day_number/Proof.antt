@@ -7,24 +7,6 @@ use borrow.Author.Needs.{needs}
 use Rattle.dates.proofs.number.day_number.Statement.{statement}
 use Rattle.dates.proofs.number.day_number.Tie as tie
 
-add-leap-row : tie.Need-add-leap-row
-add-leap-row c = search needs
-
-leap-row-requires : tie.Need-leap-row-requires
-leap-row-requires c κs = search needs
-
-start-requires : tie.Need-start-requires
-start-requires c κs = search needs
-
-start-requires-2 : tie.Need-start-requires-2
-start-requires-2 c κs = search needs
-
-add-result : tie.Need-add-result
-add-result c = search needs
-
-add-result-2 : tie.Need-add-result-2
-add-result-2 c = search needs
-
 returns : tie.Need-returns
 unfolding dayNumber
 returns c =
@@ -37,12 +19,5 @@ returns c =
 
 pub day-number-spec : {M : Type 1} → statement M
 day-number-spec =
-    tie.close
-    (tie.spec
-    add-leap-row
-    leap-row-requires
-    start-requires
-    start-requires-2
-    add-result
-    add-result-2
-    returns)
+    tie.close (tie.spec (λ c. search needs) (λ c κs. search needs) (λ c κs. search needs) (λ c κs. search needs)
+    (λ c. search needs) (λ c. search needs) returns)

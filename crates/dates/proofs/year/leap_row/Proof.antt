@@ -5,14 +5,6 @@ use Rattle.dates.specs.Dates.{leapRow}
 use Rattle.dates.proofs.year.leap_row.Statement.{statement}
 use Rattle.dates.proofs.year.leap_row.Tie as tie
 
-returns : tie.Need-returns
-unfolding leapRow
-returns c = (simp (eq-eqb _ _ (c .if1 .taken)), omega arith)
-
-returns-2 : tie.Need-returns-2
-unfolding leapRow
-returns-2 c = (simp (ne-eqb _ _ (c .before .if1 .left), eq-eqb _ _ (c .if2 .taken)), omega arith)
-
 returns-3 : tie.Need-returns-3
 unfolding leapRow
 returns-3 c =
@@ -28,4 +20,7 @@ returns-4 c =
     (simp (not-400, not-100, ne-eqb _ _ (c .if3 .left)), omega arith)
 
 pub leap-row-spec : {M : Type 1} → statement M
-leap-row-spec = tie.close (tie.spec returns returns-2 returns-3 returns-4)
+leap-row-spec =
+    tie.close (tie.spec (λ c. unfold leapRow in (simp (eq-eqb _ _ (c .if1 .taken)), omega arith))
+    (λ c. unfold leapRow in (simp (ne-eqb _ _ (c .before .if1 .left), eq-eqb _ _ (c .if2 .taken)), omega arith))
+    returns-3 returns-4)

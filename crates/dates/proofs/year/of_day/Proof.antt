@@ -9,19 +9,10 @@ use borrow.Author.Needs.{needs}
 use Rattle.dates.proofs.year.of_day.Statement.{statement}
 use Rattle.dates.proofs.year.of_day.Tie as tie
 
-add-start : tie.Need-add-start
-add-start c = search needs
-
-start-requires : tie.Need-start-requires
-start-requires c κs = search needs
-
 returns : tie.Need-returns
 returns c =
     let n = c .before .before .args .n in
     omega (arith, year-is (n / 366) (omega arith), ap yearStart (add-one (n / 366)))
-
-add-result : tie.Need-add-result
-add-result c = search needs
 
 returns-2 : tie.Need-returns-2
 returns-2 c =
@@ -31,4 +22,4 @@ returns-2 c =
     omega (arith, year-is (suc (n / 366 + 1)) (omega arith))
 
 pub of-day-spec : {M : Type 1} → statement M
-of-day-spec = tie.close (tie.spec add-start start-requires returns add-result returns-2)
+of-day-spec = tie.close (tie.spec (λ c. search needs) (λ c κs. search needs) returns (λ c. search needs) returns-2)

@@ -6,28 +6,10 @@ use borrow.Author.Needs.{needs}
 use Rattle.holidays.proofs.easter.easter_day.Statement.{statement}
 use Rattle.holidays.proofs.easter.easter_day.Tie as tie
 
-day-of-requires : tie.Need-day-of-requires
-day-of-requires c κs = search needs
-
-enum-known-march-22 : tie.Need-enum-known-march-22
-enum-known-march-22 c = search needs
-
-enum-told : tie.Need-enum-told
-enum-told c = search needs
-
-returns : tie.Need-returns
-returns c = easter-none _ (sym (c .before .before .day-of .ensures) ∙ c .enum-told .given .1)
-
-sub-offset : tie.Need-sub-offset
-sub-offset c = easter-years _ _ (sym (c .before .before .before .day-of .ensures) ∙ c .before .march-22 .given .1) .0
-
 offset-requires : tie.Need-offset-requires
 offset-requires c κs =
     let years = easter-years _ _ (sym (c .before .before .before .day-of .ensures) ∙ c .before .march-22 .given .1) in
     omega arith
-
-cast-t7 : tie.Need-cast-t7
-cast-t7 c = search needs
 
 add-t8 : tie.Need-add-t8
 add-t8 c =
@@ -42,14 +24,7 @@ returns-2 c =
 
 pub easter-day-spec : {M : Type 1} → statement M
 easter-day-spec =
-    tie.close
-    (tie.spec
-    day-of-requires
-    enum-known-march-22
-    enum-told
-    returns
-    sub-offset
-    offset-requires
-    cast-t7
-    add-t8
-    returns-2)
+    tie.close (tie.spec (λ c κs. search needs) (λ c. search needs) (λ c. search needs)
+    (λ c. easter-none _ (sym (c .before .before .day-of .ensures) ∙ c .enum-told .given .1))
+    (λ c. easter-years _ _ (sym (c .before .before .before .day-of .ensures) ∙ c .before .march-22 .given .1) .0)
+    offset-requires (λ c. search needs) add-t8 returns-2)

@@ -4,11 +4,5 @@ use Rattle.holidays.proofs.EasterTable.{table-follows}
 use Rattle.holidays.proofs.easter.offset.Statement.{statement}
 use Rattle.holidays.proofs.easter.offset.Tie as tie
 
-array-read-result : tie.Need-array-read-result
-array-read-result c = search needs
-
-returns : tie.Need-returns
-returns c = table-follows (c .args .k) (search needs)
-
 pub offset-spec : {M : Type 1} → statement M
-offset-spec = tie.close (tie.spec array-read-result returns)
+offset-spec = tie.close (tie.spec (λ c. search needs) (λ c. table-follows (c .args .k) (search needs)))

@@ -1,13 +1,10 @@
 -- `kinds::words::is_word` meets its contract: the word is compared with the one that the code holds.
-use mathlib.Core.Path.{_≡_, sym}
+use mathlib.Core.Path.{sym}
 use lib.Seq.{length-take-le}
 use Rattle.kinds.proofs.KindTable.{word-padded}
 use borrow.Author.Needs.{needs}
 use Rattle.kinds.proofs.words.is_word.Statement.{statement}
 use Rattle.kinds.proofs.words.is_word.Tie as tie
-
-word-of-requires : tie.Need-word-of-requires
-word-of-requires c κs = search needs
 
 array-share-prefix-bytes : tie.Need-array-share-prefix-bytes
 array-share-prefix-bytes c =
@@ -20,9 +17,6 @@ slice-aggregate-same c =
     let c₄ = c₂ .before .before in
     sym (length-take-le _ _ (word-padded (c₄ .args .kind) _ (c₂ .word-of .ensures) .inside))
 
-same-requires : tie.Need-same-requires
-same-requires c κs = search needs
-
 returns : tie.Need-returns
 returns c =
     let c₃ = c .before .before .before in
@@ -31,10 +25,5 @@ returns c =
 
 pub is-word-spec : {M : Type 1} → statement M
 is-word-spec =
-    tie.close
-    (tie.spec
-    word-of-requires
-    array-share-prefix-bytes
-    slice-aggregate-same
-    same-requires
+    tie.close (tie.spec (λ c κs. search needs) array-share-prefix-bytes slice-aggregate-same (λ c κs. search needs)
     returns)

@@ -1,34 +1,25 @@
 -- `kinds::words::kind_of_three` meets its contract: each word passed is another one.
-use mathlib.Core.Path.{_≡_, sym, _∙_}
+use mathlib.Core.Path.{sym, _∙_}
 use mathlib.Core.List.{[], _∷_}
-use Rattle.kinds.specs.declared.Kind.the-variants.{Set, Ctr, Def, Enr, Adc, Cdt, Sus}
+use Rattle.kinds.specs.declared.{Kind.Kind}
 use Rattle.kinds.specs.Kinds.{kindIn}
 use Rattle.kinds.proofs.Naming.{kind-here, kind-past}
 use borrow.Author.Needs.{needs}
 use Rattle.kinds.proofs.words.kind_of_three.Statement.{statement}
 use Rattle.kinds.proofs.words.kind_of_three.Tie as tie
 
-is-word-requires : tie.Need-is-word-requires
-is-word-requires c κs = search needs
-
 returns : tie.Need-returns
 returns c =
     sym
-    (kind-here Set _ _ (sym (c .before .is-word .ensures) ∙ c .if1 .taken))
-
-is-word-requires-2 : tie.Need-is-word-requires-2
-is-word-requires-2 c κs = search needs
+    (kind-here Kind.Set _ _ (sym (c .before .is-word .ensures) ∙ c .if1 .taken))
 
 returns-2 : tie.Need-returns-2
 returns-2 c =
     let c₂ = c .before .before in
     let c₃ = c₂ .before in
     sym
-    (kind-past Set (Ctr ∷ Def ∷ Enr ∷ Adc ∷ Cdt ∷ Sus ∷ []) _ (sym (c₃ .is-word .ensures) ∙ c₂ .if1 .left) ∙
-    kind-here Ctr _ _ (sym (c .before .is-word2 .ensures) ∙ c .if2 .taken))
-
-is-word-requires-3 : tie.Need-is-word-requires-3
-is-word-requires-3 c κs = search needs
+    (kind-past Kind.Set (Kind.Ctr ∷ Kind.Def ∷ Kind.Enr ∷ Kind.Adc ∷ Kind.Cdt ∷ Kind.Sus ∷ []) _ (sym (c₃ .is-word .ensures) ∙ c₂ .if1 .left) ∙
+    kind-here Kind.Ctr _ _ (sym (c .before .is-word2 .ensures) ∙ c .if2 .taken))
 
 returns-3 : tie.Need-returns-3
 returns-3 c =
@@ -37,12 +28,9 @@ returns-3 c =
     let c₄ = c₃ .before in
     let c₅ = c₄ .before in
     sym
-    (kind-past Set (Ctr ∷ Def ∷ Enr ∷ Adc ∷ Cdt ∷ Sus ∷ []) _ (sym (c₅ .is-word .ensures) ∙ c₄ .if1 .left) ∙
-    kind-past Ctr (Def ∷ Enr ∷ Adc ∷ Cdt ∷ Sus ∷ []) _ (sym (c₃ .is-word2 .ensures) ∙ c₂ .if2 .left) ∙
-    kind-here Def _ _ (sym (c .before .is-word3 .ensures) ∙ c .if3 .taken))
-
-is-word-requires-4 : tie.Need-is-word-requires-4
-is-word-requires-4 c κs = search needs
+    (kind-past Kind.Set (Kind.Ctr ∷ Kind.Def ∷ Kind.Enr ∷ Kind.Adc ∷ Kind.Cdt ∷ Kind.Sus ∷ []) _ (sym (c₅ .is-word .ensures) ∙ c₄ .if1 .left) ∙
+    kind-past Kind.Ctr (Kind.Def ∷ Kind.Enr ∷ Kind.Adc ∷ Kind.Cdt ∷ Kind.Sus ∷ []) _ (sym (c₃ .is-word2 .ensures) ∙ c₂ .if2 .left) ∙
+    kind-here Kind.Def _ _ (sym (c .before .is-word3 .ensures) ∙ c .if3 .taken))
 
 returns-4 : tie.Need-returns-4
 returns-4 c =
@@ -53,13 +41,10 @@ returns-4 c =
     let c₆ = c₅ .before in
     let c₇ = c₆ .before in
     sym
-    (kind-past Set (Ctr ∷ Def ∷ Enr ∷ Adc ∷ Cdt ∷ Sus ∷ []) _ (sym (c₇ .is-word .ensures) ∙ c₆ .if1 .left) ∙
-    kind-past Ctr (Def ∷ Enr ∷ Adc ∷ Cdt ∷ Sus ∷ []) _ (sym (c₅ .is-word2 .ensures) ∙ c₄ .if2 .left) ∙
-    kind-past Def (Enr ∷ Adc ∷ Cdt ∷ Sus ∷ []) _ (sym (c₃ .is-word3 .ensures) ∙ c₂ .if3 .left) ∙
-    kind-here Enr _ _ (sym (c .before .is-word4 .ensures) ∙ c .if4 .taken))
-
-is-word-requires-5 : tie.Need-is-word-requires-5
-is-word-requires-5 c κs = search needs
+    (kind-past Kind.Set (Kind.Ctr ∷ Kind.Def ∷ Kind.Enr ∷ Kind.Adc ∷ Kind.Cdt ∷ Kind.Sus ∷ []) _ (sym (c₇ .is-word .ensures) ∙ c₆ .if1 .left) ∙
+    kind-past Kind.Ctr (Kind.Def ∷ Kind.Enr ∷ Kind.Adc ∷ Kind.Cdt ∷ Kind.Sus ∷ []) _ (sym (c₅ .is-word2 .ensures) ∙ c₄ .if2 .left) ∙
+    kind-past Kind.Def (Kind.Enr ∷ Kind.Adc ∷ Kind.Cdt ∷ Kind.Sus ∷ []) _ (sym (c₃ .is-word3 .ensures) ∙ c₂ .if3 .left) ∙
+    kind-here Kind.Enr _ _ (sym (c .before .is-word4 .ensures) ∙ c .if4 .taken))
 
 returns-5 : tie.Need-returns-5
 returns-5 c =
@@ -72,14 +57,11 @@ returns-5 c =
     let c₈ = c₇ .before in
     let c₉ = c₈ .before in
     sym
-    (kind-past Set (Ctr ∷ Def ∷ Enr ∷ Adc ∷ Cdt ∷ Sus ∷ []) _ (sym (c₉ .is-word .ensures) ∙ c₈ .if1 .left) ∙
-    kind-past Ctr (Def ∷ Enr ∷ Adc ∷ Cdt ∷ Sus ∷ []) _ (sym (c₇ .is-word2 .ensures) ∙ c₆ .if2 .left) ∙
-    kind-past Def (Enr ∷ Adc ∷ Cdt ∷ Sus ∷ []) _ (sym (c₅ .is-word3 .ensures) ∙ c₄ .if3 .left) ∙
-    kind-past Enr (Adc ∷ Cdt ∷ Sus ∷ []) _ (sym (c₃ .is-word4 .ensures) ∙ c₂ .if4 .left) ∙
-    kind-here Adc _ _ (sym (c .before .is-word5 .ensures) ∙ c .if5 .taken))
-
-is-word-requires-6 : tie.Need-is-word-requires-6
-is-word-requires-6 c κs = search needs
+    (kind-past Kind.Set (Kind.Ctr ∷ Kind.Def ∷ Kind.Enr ∷ Kind.Adc ∷ Kind.Cdt ∷ Kind.Sus ∷ []) _ (sym (c₉ .is-word .ensures) ∙ c₈ .if1 .left) ∙
+    kind-past Kind.Ctr (Kind.Def ∷ Kind.Enr ∷ Kind.Adc ∷ Kind.Cdt ∷ Kind.Sus ∷ []) _ (sym (c₇ .is-word2 .ensures) ∙ c₆ .if2 .left) ∙
+    kind-past Kind.Def (Kind.Enr ∷ Kind.Adc ∷ Kind.Cdt ∷ Kind.Sus ∷ []) _ (sym (c₅ .is-word3 .ensures) ∙ c₄ .if3 .left) ∙
+    kind-past Kind.Enr (Kind.Adc ∷ Kind.Cdt ∷ Kind.Sus ∷ []) _ (sym (c₃ .is-word4 .ensures) ∙ c₂ .if4 .left) ∙
+    kind-here Kind.Adc _ _ (sym (c .before .is-word5 .ensures) ∙ c .if5 .taken))
 
 returns-6 : tie.Need-returns-6
 returns-6 c =
@@ -94,15 +76,12 @@ returns-6 c =
     let c₁₀ = c₉ .before in
     let c₁₁ = c₁₀ .before in
     sym
-    (kind-past Set (Ctr ∷ Def ∷ Enr ∷ Adc ∷ Cdt ∷ Sus ∷ []) _ (sym (c₁₁ .is-word .ensures) ∙ c₁₀ .if1 .left) ∙
-    kind-past Ctr (Def ∷ Enr ∷ Adc ∷ Cdt ∷ Sus ∷ []) _ (sym (c₉ .is-word2 .ensures) ∙ c₈ .if2 .left) ∙
-    kind-past Def (Enr ∷ Adc ∷ Cdt ∷ Sus ∷ []) _ (sym (c₇ .is-word3 .ensures) ∙ c₆ .if3 .left) ∙
-    kind-past Enr (Adc ∷ Cdt ∷ Sus ∷ []) _ (sym (c₅ .is-word4 .ensures) ∙ c₄ .if4 .left) ∙
-    kind-past Adc (Cdt ∷ Sus ∷ []) _ (sym (c₃ .is-word5 .ensures) ∙ c₂ .if5 .left) ∙
-    kind-here Cdt _ _ (sym (c .before .is-word6 .ensures) ∙ c .if6 .taken))
-
-is-word-requires-7 : tie.Need-is-word-requires-7
-is-word-requires-7 c κs = search needs
+    (kind-past Kind.Set (Kind.Ctr ∷ Kind.Def ∷ Kind.Enr ∷ Kind.Adc ∷ Kind.Cdt ∷ Kind.Sus ∷ []) _ (sym (c₁₁ .is-word .ensures) ∙ c₁₀ .if1 .left) ∙
+    kind-past Kind.Ctr (Kind.Def ∷ Kind.Enr ∷ Kind.Adc ∷ Kind.Cdt ∷ Kind.Sus ∷ []) _ (sym (c₉ .is-word2 .ensures) ∙ c₈ .if2 .left) ∙
+    kind-past Kind.Def (Kind.Enr ∷ Kind.Adc ∷ Kind.Cdt ∷ Kind.Sus ∷ []) _ (sym (c₇ .is-word3 .ensures) ∙ c₆ .if3 .left) ∙
+    kind-past Kind.Enr (Kind.Adc ∷ Kind.Cdt ∷ Kind.Sus ∷ []) _ (sym (c₅ .is-word4 .ensures) ∙ c₄ .if4 .left) ∙
+    kind-past Kind.Adc (Kind.Cdt ∷ Kind.Sus ∷ []) _ (sym (c₃ .is-word5 .ensures) ∙ c₂ .if5 .left) ∙
+    kind-here Kind.Cdt _ _ (sym (c .before .is-word6 .ensures) ∙ c .if6 .taken))
 
 returns-7 : tie.Need-returns-7
 returns-7 c =
@@ -119,13 +98,13 @@ returns-7 c =
     let c₁₂ = c₁₁ .before in
     let c₁₃ = c₁₂ .before in
     sym
-    (kind-past Set (Ctr ∷ Def ∷ Enr ∷ Adc ∷ Cdt ∷ Sus ∷ []) _ (sym (c₁₃ .is-word .ensures) ∙ c₁₂ .if1 .left) ∙
-    kind-past Ctr (Def ∷ Enr ∷ Adc ∷ Cdt ∷ Sus ∷ []) _ (sym (c₁₁ .is-word2 .ensures) ∙ c₁₀ .if2 .left) ∙
-    kind-past Def (Enr ∷ Adc ∷ Cdt ∷ Sus ∷ []) _ (sym (c₉ .is-word3 .ensures) ∙ c₈ .if3 .left) ∙
-    kind-past Enr (Adc ∷ Cdt ∷ Sus ∷ []) _ (sym (c₇ .is-word4 .ensures) ∙ c₆ .if4 .left) ∙
-    kind-past Adc (Cdt ∷ Sus ∷ []) _ (sym (c₅ .is-word5 .ensures) ∙ c₄ .if5 .left) ∙
-    kind-past Cdt (Sus ∷ []) _ (sym (c₃ .is-word6 .ensures) ∙ c₂ .if6 .left) ∙
-    kind-here Sus _ _ (sym (c .before .is-word7 .ensures) ∙ c .if7 .taken))
+    (kind-past Kind.Set (Kind.Ctr ∷ Kind.Def ∷ Kind.Enr ∷ Kind.Adc ∷ Kind.Cdt ∷ Kind.Sus ∷ []) _ (sym (c₁₃ .is-word .ensures) ∙ c₁₂ .if1 .left) ∙
+    kind-past Kind.Ctr (Kind.Def ∷ Kind.Enr ∷ Kind.Adc ∷ Kind.Cdt ∷ Kind.Sus ∷ []) _ (sym (c₁₁ .is-word2 .ensures) ∙ c₁₀ .if2 .left) ∙
+    kind-past Kind.Def (Kind.Enr ∷ Kind.Adc ∷ Kind.Cdt ∷ Kind.Sus ∷ []) _ (sym (c₉ .is-word3 .ensures) ∙ c₈ .if3 .left) ∙
+    kind-past Kind.Enr (Kind.Adc ∷ Kind.Cdt ∷ Kind.Sus ∷ []) _ (sym (c₇ .is-word4 .ensures) ∙ c₆ .if4 .left) ∙
+    kind-past Kind.Adc (Kind.Cdt ∷ Kind.Sus ∷ []) _ (sym (c₅ .is-word5 .ensures) ∙ c₄ .if5 .left) ∙
+    kind-past Kind.Cdt (Kind.Sus ∷ []) _ (sym (c₃ .is-word6 .ensures) ∙ c₂ .if6 .left) ∙
+    kind-here Kind.Sus _ _ (sym (c .before .is-word7 .ensures) ∙ c .if7 .taken))
 
 returns-8 : tie.Need-returns-8
 unfolding kindIn
@@ -143,30 +122,16 @@ returns-8 c =
     let c₁₂ = c₁₁ .before in
     let c₁₃ = c₁₂ .before in
     sym
-    (kind-past Set (Ctr ∷ Def ∷ Enr ∷ Adc ∷ Cdt ∷ Sus ∷ []) _ (sym (c₁₃ .is-word .ensures) ∙ c₁₂ .if1 .left) ∙
-    kind-past Ctr (Def ∷ Enr ∷ Adc ∷ Cdt ∷ Sus ∷ []) _ (sym (c₁₁ .is-word2 .ensures) ∙ c₁₀ .if2 .left) ∙
-    kind-past Def (Enr ∷ Adc ∷ Cdt ∷ Sus ∷ []) _ (sym (c₉ .is-word3 .ensures) ∙ c₈ .if3 .left) ∙
-    kind-past Enr (Adc ∷ Cdt ∷ Sus ∷ []) _ (sym (c₇ .is-word4 .ensures) ∙ c₆ .if4 .left) ∙
-    kind-past Adc (Cdt ∷ Sus ∷ []) _ (sym (c₅ .is-word5 .ensures) ∙ c₄ .if5 .left) ∙
-    kind-past Cdt (Sus ∷ []) _ (sym (c₃ .is-word6 .ensures) ∙ c₂ .if6 .left) ∙
-    kind-past Sus [] _ (sym (c .before .is-word7 .ensures) ∙ c .if7 .left))
+    (kind-past Kind.Set (Kind.Ctr ∷ Kind.Def ∷ Kind.Enr ∷ Kind.Adc ∷ Kind.Cdt ∷ Kind.Sus ∷ []) _ (sym (c₁₃ .is-word .ensures) ∙ c₁₂ .if1 .left) ∙
+    kind-past Kind.Ctr (Kind.Def ∷ Kind.Enr ∷ Kind.Adc ∷ Kind.Cdt ∷ Kind.Sus ∷ []) _ (sym (c₁₁ .is-word2 .ensures) ∙ c₁₀ .if2 .left) ∙
+    kind-past Kind.Def (Kind.Enr ∷ Kind.Adc ∷ Kind.Cdt ∷ Kind.Sus ∷ []) _ (sym (c₉ .is-word3 .ensures) ∙ c₈ .if3 .left) ∙
+    kind-past Kind.Enr (Kind.Adc ∷ Kind.Cdt ∷ Kind.Sus ∷ []) _ (sym (c₇ .is-word4 .ensures) ∙ c₆ .if4 .left) ∙
+    kind-past Kind.Adc (Kind.Cdt ∷ Kind.Sus ∷ []) _ (sym (c₅ .is-word5 .ensures) ∙ c₄ .if5 .left) ∙
+    kind-past Kind.Cdt (Kind.Sus ∷ []) _ (sym (c₃ .is-word6 .ensures) ∙ c₂ .if6 .left) ∙
+    kind-past Kind.Sus [] _ (sym (c .before .is-word7 .ensures) ∙ c .if7 .left))
 
 pub kind-of-three-spec : {M : Type 1} → statement M
 kind-of-three-spec =
-    tie.close
-    (tie.spec
-    is-word-requires
-    returns
-    is-word-requires-2
-    returns-2
-    is-word-requires-3
-    returns-3
-    is-word-requires-4
-    returns-4
-    is-word-requires-5
-    returns-5
-    is-word-requires-6
-    returns-6
-    is-word-requires-7
-    returns-7
-    returns-8)
+    tie.close (tie.spec (λ c κs. search needs) returns (λ c κs. search needs) returns-2 (λ c κs. search needs)
+    returns-3 (λ c κs. search needs) returns-4 (λ c κs. search needs) returns-5 (λ c κs. search needs) returns-6
+    (λ c κs. search needs) returns-7 returns-8)

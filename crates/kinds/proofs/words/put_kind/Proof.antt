@@ -1,13 +1,10 @@
 -- `kinds::words::put_kind` meets its contract: the word that the code holds is copied.
-use mathlib.Core.Path.{_≡_, sym}
+use mathlib.Core.Path.{sym}
 use lib.Seq.{length-take-le}
 use Rattle.kinds.proofs.KindTable.{word-padded}
 use borrow.Author.Needs.{needs}
 use Rattle.kinds.proofs.words.put_kind.Statement.{statement}
 use Rattle.kinds.proofs.words.put_kind.Tie as tie
-
-word-of-requires : tie.Need-word-of-requires
-word-of-requires c κs = search needs
 
 array-share-prefix-bytes : tie.Need-array-share-prefix-bytes
 array-share-prefix-bytes c =
@@ -21,12 +18,6 @@ slice-aggregate-put-word c =
     let c₅ = c₃ .before .before in
     sym (length-take-le _ _ (word-padded (c₅ .args .kind) _ (c₃ .word-of .ensures) .inside))
 
-put-word-requires : tie.Need-put-word-requires
-put-word-requires c κs = search needs
-
-same-length : tie.Need-same-length
-same-length c = search needs
-
 returns : tie.Need-returns
 returns c =
     let c₂ = c .before .before in
@@ -36,11 +27,5 @@ returns c =
 
 pub put-kind-spec : {M : Type 1} → statement M
 put-kind-spec =
-    tie.close
-    (tie.spec
-    word-of-requires
-    array-share-prefix-bytes
-    slice-aggregate-put-word
-    put-word-requires
-    same-length
-    returns)
+    tie.close (tie.spec (λ c κs. search needs) array-share-prefix-bytes slice-aggregate-put-word
+    (λ c κs. search needs) (λ c. search needs) returns)

@@ -1,25 +1,13 @@
 -- A reading is booked, and it becomes the last one.
 use Prim.Native.Nat.{_≤_, _<_}
 use Rattle.dates.specs.Dates.{lastDay}
-use Rattle.rules.specs.declared.Span.{Span}
 use Rattle.rules.specs.Register.{booked}
-use mathlib.Core.Path.{_≡_, _∙_, ap, sym}
-use native.Mathlib.Omega.{arith}
+use mathlib.Core.Path.{_≡_, _∙_}
 use Rattle.rules.specs.Volumes.{spanTo}
 use Rattle.point.proofs.Fairness.{fair-booked}
 use borrow.Author.Needs.{needs}
 use Rattle.point.proofs.effects.read.Statement.{statement}
 use Rattle.point.proofs.effects.read.Tie as tie
-use Rattle.point.proofs.effects.read.Reads as reads
-use Rattle.point.proofs.effects.read.Lts as lts
-use Rattle.periods.proofs.book.Reads as book-reads
-use Rattle.point.proofs.meter.span_to.Reads as span-to-reads
-
-span-to-requires : tie.Need-span-to-requires
-span-to-requires c κs = search needs
-
-book-requires : tie.Need-book-requires
-book-requires c κs = search needs
 
 returns : tie.Need-returns
 unfolding spanTo
@@ -36,4 +24,4 @@ returns c =
     rw (books, e)
 
 pub read-spec : {M : Type 1} → statement M
-read-spec = tie.close (tie.spec span-to-requires book-requires returns)
+read-spec = tie.close (tie.spec (λ c κs. search needs) (λ c κs. search needs) returns)

@@ -5,19 +5,6 @@ use Rattle.point.specs.Turn.{caughtUp}
 use borrow.Author.Needs.{needs}
 use Rattle.point.proofs.events.catch_up.Statement.{statement}
 use Rattle.point.proofs.events.catch_up.Tie as tie
-use Rattle.point.proofs.events.catch_up.Reads as reads
-use Rattle.point.proofs.events.catch_up.Lts as lts
-use Rattle.point.proofs.events.next_event.Reads as next-event-reads
-
-returns : tie.Need-returns
-unfolding caughtUp
-returns c = rw (lt-leb _ _ (c .if1 .taken))
-
-next-event-requires : tie.Need-next-event-requires
-next-event-requires c κs = search needs
-
-next-event-requires-2 : tie.Need-next-event-requires-2
-next-event-requires-2 c κs = search needs
 
 returns-2 : tie.Need-returns-2
 unfolding caughtUp catchUp
@@ -29,4 +16,6 @@ returns-2 c =
     (c .next-event2 .ensures)
 
 pub catch-up-spec : {M : Type 1} → statement M
-catch-up-spec = tie.close (tie.spec returns next-event-requires next-event-requires-2 returns-2)
+catch-up-spec =
+    tie.close (tie.spec (λ c. unfold caughtUp in rw (lt-leb _ _ (c .if1 .taken))) (λ c κs. search needs)
+    (λ c κs. search needs) returns-2)

@@ -12,56 +12,54 @@ use Rattle.point.proofs.NewestTurn.{read-passed}
 use borrow.Author.Needs.{needs}
 use Rattle.point.proofs.latest.read_newest.Statement.{statement}
 use Rattle.point.proofs.latest.read_newest.Tie as tie
-use Rattle.point.proofs.latest.read_newest.Reads as reads
-use Rattle.point.proofs.latest.read_newest.Lts as lts
-use Rattle.answers.proofs.read_answer.Reads as read-answer-reads
-use Rattle.checks.proofs.is_accepted.Reads as is-accepted-reads
-use Rattle.periods.proofs.book_newest.Reads as book-newest-reads
-use Rattle.point.proofs.meter.span_to.Reads as span-to-reads
-
-read-answer-requires : tie.Need-read-answer-requires
-read-answer-requires c κs = search needs
-
-is-accepted-requires : tie.Need-is-accepted-requires
-is-accepted-requires c κs = search needs
 
 returns : tie.Need-returns
 unfolding readNewest
-returns c = rw (← ((c .before .before .read-answer) .ensures), ← ((c .before .is-accepted) .ensures), not-true ((c .before .is-accepted) .result) ((c .if1) .taken))
+returns c =
+    rw (← ((c .before .before .read-answer) .ensures), ← ((c .before .is-accepted) .ensures), not-true ((c .before .is-accepted) .result) ((c .if1) .taken))
 
 returns-2 : tie.Need-returns-2
 unfolding readNewest
 returns-2 c =
     let s = (c .before .before .before .before .before .before .before) .args in
     let before : s .f .reading .day < s .q .start = omega (arith, c .if2 .taken) in
-    rw (← ((c .before .before .before .before .before .read-answer) .ensures), ← ((c .before .before .before .before .is-accepted) .ensures), not-false ((c .before .before .before .before .is-accepted) .result) ((c .before .before .before .if1) .left), lt-leb _ _ before)
+    rw (
+      ← ((c .before .before .before .before .before .read-answer) .ensures),
+      ← ((c .before .before .before .before .is-accepted) .ensures),
+      not-false ((c .before .before .before .before .is-accepted) .result) ((c .before .before .before .if1) .left),
+      lt-leb _ _ before,
+    )
 
 cast-span-to : tie.Need-cast-span-to
 cast-span-to c =
     let s = (c .before .before .before .before .before .before .before .before) .args in
-    let k = read-passed (s .day) (s .today) (s .p) (s .d) (s .x) (s .z) (s .f) _ ((c .before .before .before .before .before .before .read-answer) .ensures) _ ((c .before .before .before .before .before .is-accepted) .ensures) (not-false _ ((c .before .before .before .before .if1) .left)) in
+    let k = read-passed (s .day) (s .today) (s .p) (s .d) (s .x) (s .z) (s .f) _ ((c .before .before .before .before .before .before .read-answer) .ensures) _
+    ((c .before .before .before .before .before .is-accepted) .ensures) (not-false _ ((c .before .before .before .before .if1) .left)) in
     omega (arith, k .0)
 
 span-to-requires : tie.Need-span-to-requires
 span-to-requires c κs =
     let s = (c .before .before .before .before .before .before .before .before) .args in
-    let k = read-passed (s .day) (s .today) (s .p) (s .d) (s .x) (s .z) (s .f) _ ((c .before .before .before .before .before .before .read-answer) .ensures) _ ((c .before .before .before .before .before .is-accepted) .ensures) (not-false _ ((c .before .before .before .before .if1) .left)) in
+    let k = read-passed (s .day) (s .today) (s .p) (s .d) (s .x) (s .z) (s .f) _ ((c .before .before .before .before .before .before .read-answer) .ensures) _
+    ((c .before .before .before .before .before .is-accepted) .ensures) (not-false _ ((c .before .before .before .before .if1) .left)) in
     (k .3, k .1)
 
 cast-t15 : tie.Need-cast-t15
 cast-t15 c =
     let s = (c .before .before .before .before .before .before .before .before .before) .args in
-    let k = read-passed (s .day) (s .today) (s .p) (s .d) (s .x) (s .z) (s .f) _ ((c .before .before .before .before .before .before .before .read-answer) .ensures) _ ((c .before .before .before .before .before .before .is-accepted) .ensures) (not-false _ ((c .before .before .before .before .before .if1) .left)) in
+    let k = read-passed (s .day) (s .today) (s .p) (s .d) (s .x) (s .z) (s .f) _
+    ((c .before .before .before .before .before .before .before .read-answer) .ensures) _
+    ((c .before .before .before .before .before .before .is-accepted) .ensures) (not-false _ ((c .before .before .before .before .before .if1) .left)) in
     omega (arith, k .0)
-
-book-newest-requires : tie.Need-book-newest-requires
-book-newest-requires c κs = search needs
 
 returns-3 : tie.Need-returns-3
 unfolding readNewest spanTo
 returns-3 c =
     let s = (c .before .before .before .before .before .before .before .before .before .before .before .before) .args in
-    let k = read-passed (s .day) (s .today) (s .p) (s .d) (s .x) (s .z) (s .f) _ ((c .before .before .before .before .before .before .before .before .before .before .read-answer) .ensures) _ ((c .before .before .before .before .before .before .before .before .before .is-accepted) .ensures) (not-false _ ((c .before .before .before .before .before .before .before .before .if1) .left)) in
+    let k = read-passed (s .day) (s .today) (s .p) (s .d) (s .x) (s .z) (s .f) _
+    ((c .before .before .before .before .before .before .before .before .before .before .read-answer) .ensures) _
+    ((c .before .before .before .before .before .before .before .before .before .is-accepted) .ensures)
+    (not-false _ ((c .before .before .before .before .before .before .before .before .if1) .left)) in
     let made = (c .before .before .before .span-to) in
     let e = made .ensures .0 in
     let n = made .result in
@@ -69,18 +67,17 @@ returns-3 c =
     let within : n .to ≤ lastDay = rw e (k .0) in
     let books : (c .book-newest) .result ≡ bookedPeriod n (n .to) (s .q) =
     (c .book-newest) .ensures ∙ fair-newest n forward within (made .ensures .1) (made .ensures .2) (s .q) in
-    rw (← ((c .before .before .before .before .before .before .before .before .before .before .read-answer) .ensures), ← ((c .before .before .before .before .before .before .before .before .before .is-accepted) .ensures), not-false ((c .before .before .before .before .before .before .before .before .before .is-accepted) .result) ((c .before .before .before .before .before .before .before .before .if1) .left), le-leb _ _ ((c .before .before .before .before .before .if2) .left), books, e)
+    rw (
+      ← ((c .before .before .before .before .before .before .before .before .before .before .read-answer) .ensures),
+      ← ((c .before .before .before .before .before .before .before .before .before .is-accepted) .ensures),
+      not-false ((c .before .before .before .before .before .before .before .before .before .is-accepted) .result)
+          ((c .before .before .before .before .before .before .before .before .if1) .left),
+      le-leb _ _ ((c .before .before .before .before .before .if2) .left),
+      books,
+      e,
+    )
 
 pub read-newest-spec : {M : Type 1} → statement M
 read-newest-spec =
-    tie.close
-    (tie.spec
-    read-answer-requires
-    is-accepted-requires
-    returns
-    returns-2
-    cast-span-to
-    span-to-requires
-    cast-t15
-    book-newest-requires
-    returns-3)
+    tie.close (tie.spec (λ c κs. search needs) (λ c κs. search needs) returns returns-2 cast-span-to span-to-requires
+    cast-t15 (λ c κs. search needs) returns-3)

@@ -4,9 +4,6 @@ use borrow.Author.Needs.{needs}
 use Rattle.register.proofs.opening.no_register.Statement.{statement}
 use Rattle.register.proofs.opening.no_register.Tie as tie
 
-returns : tie.Need-returns
-unfolding noRegister
-returns c = rw (c .blank-point .ensures)
-
 pub no-register-spec : {M : Type 1} → statement M
-no-register-spec = tie.close (tie.spec (λ c κs. search needs) returns)
+no-register-spec =
+    tie.close (tie.spec (λ c κs. search needs) (λ c. unfold noRegister in rw (c .blank-point .ensures)))

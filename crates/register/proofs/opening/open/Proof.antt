@@ -1,6 +1,6 @@
 -- An opening: the numbers of an accepted one fit; a refused one leaves the register as it came.
 use native.Mathlib.Omega.{arith}
-use mathlib.Core.Path.{_≡_, sym, _∙_, ap}
+use mathlib.Core.Path.{sym, _∙_, ap}
 use Rattle.rules.specs.Answers.{isAccepted}
 use Rattle.rules.specs.Register.{opened}
 use Rattle.register.specs.Opens.{openedOver}
@@ -40,5 +40,5 @@ returns-2 c =
 
 pub open-spec : {M : Type 1} → statement M
 open-spec =
-    tie.close
-    (tie.spec (λ c κs. search needs) (λ c κs. search needs) settings-of-requires cast-new-register (λ c κs. search needs) returns returns-2)
+    tie.close (tie.spec (λ c κs. search needs) (λ c κs. search needs) settings-of-requires cast-new-register
+    (λ c κs. search needs) returns returns-2)

@@ -1,27 +1,15 @@
 -- The register brought up to a day: as it is past the calendar or where the day is not new, else every point caught up.
-use mathlib.Core.Path.{_≡_, sym, _∙_}
+use mathlib.Core.Path.{sym}
 use native.Mathlib.Omega.{arith}
 use borrow.Author.Needs.{needs}
 use Rattle.register.proofs.Advanced.{advanced-off, advanced-same, advanced-new}
 use Rattle.register.proofs.points.advance.Statement.{statement}
 use Rattle.register.proofs.points.advance.Tie as tie
 
-cast-if1 : tie.Need-cast-if1
-cast-if1 c = search needs
-
-returns : tie.Need-returns
-returns c = sym (advanced-off (c .before .args .today) (c .before .args .r) (c .if1 .taken))
-
-cast-t : tie.Need-cast-t
-cast-t c = search needs
-
 returns-2 : tie.Need-returns-2
 returns-2 c =
     let a = c .before .before .before .args in
     sym (advanced-same (a .today) (a .r) (omega arith) (c .if2 .taken))
-
-all-caught-up-requires : tie.Need-all-caught-up-requires
-all-caught-up-requires c κs = search needs
 
 returns-3 : tie.Need-returns-3
 returns-3 c =
@@ -30,4 +18,7 @@ returns-3 c =
     (sym (advanced-new (a .today) (a .r) (omega arith) (c .before .before .before .if2 .left)))
 
 pub advance-spec : {M : Type 1} → statement M
-advance-spec = tie.close (tie.spec cast-if1 returns cast-t returns-2 all-caught-up-requires returns-3)
+advance-spec =
+    tie.close (tie.spec (λ c. search needs)
+    (λ c. sym (advanced-off (c .before .args .today) (c .before .args .r) (c .if1 .taken))) (λ c. search needs)
+    returns-2 (λ c κs. search needs) returns-3)

@@ -4,7 +4,6 @@ use Rattle.register.proofs.Search.{point-next}
 use mathlib.Core.Path.{_≡_, refl, sym, _∙_, ap}
 use Prim.Native.Nat.{ℕ, _≤_, _-_, _+_}
 use native.Mathlib.Omega.{arith}
-use lib.ListN.{getD}
 use Rattle.rules.specs.Rejections.{anyPoint}
 use Rattle.rules.specs.Register.{pointAt}
 use Rattle.point.specs.Turn.{failureFills}
@@ -12,43 +11,27 @@ use Rattle.register.proofs.Search.{any-found, any-passed, any-none}
 use borrow.Author.Needs.{needs}
 use Rattle.register.proofs.points.any_filled.Statement.{statement}
 use Rattle.register.proofs.points.any_filled.Tie as tie
-use Rattle.register.proofs.points.any_filled.Reads as reads
-use Rattle.register.proofs.points.any_filled.Lts as lts
-use Rattle.point.proofs.failure_fills.Reads as failure-fills-reads
 
 abbrev Inv-loop : tie.InvT-loop
-Inv-loop set t s ps i₀ i = (i ≤ 32) × (anyPoint 1 32 (λ p. failureFills set t s (pointAt p ps)) ≡ anyPoint (i + 1) (32 - i) (λ p. failureFills set t s (pointAt p ps)))
+Inv-loop set t s ps i₀ i =
+    (i ≤ 32) × (anyPoint 1 32 (λ p. failureFills set t s (pointAt p ps)) ≡ anyPoint (i + 1) (32 - i) (λ p. failureFills set t s (pointAt p ps)))
 
 abbrev μ-loop : tie.MeasureT-loop
 μ-loop set t s ps i₀ i = 32 - i
 
-loop-holds : tie.Need-loop-holds Inv-loop μ-loop
-loop-holds c = (search needs, refl)
-
-mul-g : tie.Need-mul-g Inv-loop μ-loop
-mul-g c = search needs
-
-array-copy-out-g : tie.Need-array-copy-out-g Inv-loop μ-loop
-array-copy-out-g c = search needs
-
-failure-fills-requires : tie.Need-failure-fills-requires Inv-loop μ-loop
-failure-fills-requires c κs = search needs
-
 returns : tie.Need-returns Inv-loop μ-loop
 returns c = let a = c .before .before .before .before .before .args in let i = c .before .before .before .before .loop .k in
     let f : ℕ → Bool = λ p. failureFills (a .set) (a .t) (a .s) (pointAt p (a .t4)) in
-    sym (c .before .before .before .before .loop .inv .1 ∙ any-found f (i + 1) (32 - i) (omega arith) (rw (point-next (a .t4) i) (sym (c .before .failure-fills .ensures) ∙ c .if1 .taken)))
-
-add-k : tie.Need-add-k Inv-loop μ-loop
-add-k c = search needs
-
-loop-less : tie.Need-loop-less Inv-loop μ-loop
-loop-less c = search needs
+    sym (c .before .before .before .before .loop .inv .1 ∙ any-found f (i + 1) (32 - i) (omega arith)
+    (rw (point-next (a .t4) i) (sym (c .before .failure-fills .ensures) ∙ c .if1 .taken)))
 
 loop-again : tie.Need-loop-again Inv-loop μ-loop
 loop-again c = let a = c .before .before .before .before .before .args in let i = c .before .before .before .before .loop .k in
-    let f : ℕ → Bool = λ p. failureFills (a .set) (a .t) (a .s) (pointAt p (a .t4)) in
-    (search needs, c .before .before .before .before .loop .inv .1 ∙ any-passed f i (omega arith) (rw (point-next (a .t4) i) (sym (c .before .failure-fills .ensures) ∙ c .if1 .left)))
+    let f : ℕ → Bool = λ p. failureFills (a .set) (a .t) (a .s) (pointAt p (a .t4)) in (
+      search needs,
+      c .before .before .before .before .loop .inv .1 ∙ any-passed f i (omega arith)
+          (rw (point-next (a .t4) i) (sym (c .before .failure-fills .ensures) ∙ c .if1 .left)),
+    )
 
 returns-2 : tie.Need-returns-2 Inv-loop μ-loop
 returns-2 c = let a = c .before .before .args in let i = c .before .loop .k in
@@ -58,16 +41,5 @@ returns-2 c = let a = c .before .before .args in let i = c .before .loop .k in
 
 pub any-filled-spec : {M : Type 1} → statement M
 any-filled-spec =
-    tie.close
-    (tie.spec
-    Inv-loop
-    μ-loop
-    loop-holds
-    mul-g
-    array-copy-out-g
-    failure-fills-requires
-    returns
-    add-k
-    loop-less
-    loop-again
-    returns-2)
+    tie.close (tie.spec Inv-loop μ-loop (λ c. (search needs, refl)) (λ c. search needs) (λ c. search needs)
+    (λ c κs. search needs) returns (λ c. search needs) (λ c. search needs) loop-again returns-2)

@@ -16,17 +16,11 @@ Inv-loop n v₀ count₀ v count = (v < 10 ^ 20) × (n < 10 ^ 20) × (length (de
 abbrev μ-loop : tie.MeasureT-loop
 μ-loop n v₀ count₀ v count = v
 
-loop-holds : tie.Need-loop-holds Inv-loop μ-loop
-loop-holds c = (omega arith, omega arith, omega arith)
-
 add-count : tie.Need-add-count Inv-loop μ-loop
 add-count c =
     let l = c .before .loop in
     let all = decimal-length 20 _ (omega arith) (l .inv .1) in
     let some = count-some (l .v) in omega arith
-
-loop-less : tie.Need-loop-less Inv-loop μ-loop
-loop-less c = search needs
 
 loop-again : tie.Need-loop-again Inv-loop μ-loop
 loop-again c =
@@ -41,4 +35,5 @@ returns c =
 
 pub digit-count-spec : {M : Type 1} → statement M
 digit-count-spec =
-    tie.close (tie.spec Inv-loop μ-loop loop-holds add-count loop-less loop-again returns)
+    tie.close (tie.spec Inv-loop μ-loop (λ c. (omega arith, omega arith, omega arith)) add-count (λ c. search needs)
+    loop-again returns)

@@ -12,19 +12,10 @@ returns c =
     let a = c .before .args in
     not-appended (a .at) (a .b ∷ []) (a .out .now) (omega arith)
 
-slice-write-out : tie.Need-slice-write-out
-slice-write-out c = search needs
-
-add-result : tie.Need-add-result
-add-result c = search needs
-
-same-length : tie.Need-same-length
-same-length c = search needs
-
 returns-2 : tie.Need-returns-2
 returns-2 c =
     let a = c .before .args in
     appended (a .at) (a .b ∷ []) (a .out .now) _ _ (omega arith) (put-sets (a .at) (a .b ∷ []) (a .out .now) (omega arith)) refl
 
 pub put-byte-spec : {M : Type 1} → statement M
-put-byte-spec = tie.close (tie.spec returns slice-write-out add-result same-length returns-2)
+put-byte-spec = tie.close (tie.spec returns (λ c. search needs) (λ c. search needs) (λ c. search needs) returns-2)

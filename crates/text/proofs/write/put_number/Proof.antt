@@ -18,24 +18,15 @@ Inv-loop out₀ at n count end v₀ i₀ out v i =
 abbrev μ-loop : tie.MeasureT-loop
 μ-loop out₀ at n count end v₀ i₀ out v i = i
 
-digit-count-requires : tie.Need-digit-count-requires Inv-loop μ-loop
-digit-count-requires c κs = search needs
-
 returns : tie.Need-returns Inv-loop μ-loop
 returns c =
     let a = c .before .before .before .args in
     not-appended (a .at) (decimal (a .n) []) (a .out .now) (omega (arith, c .before .digit-count .ensures))
 
-sub-if2 : tie.Need-sub-if2 Inv-loop μ-loop
-sub-if2 c = search needs
-
 returns-2 : tie.Need-returns-2 Inv-loop μ-loop
 returns-2 c =
     let a = c .before .before .before .before .args in
     not-appended (a .at) (decimal (a .n) []) (a .out .now) (omega (arith, c .before .before .digit-count .ensures))
-
-add-end : tie.Need-add-end Inv-loop μ-loop
-add-end c = search needs
 
 loop-holds : tie.Need-loop-holds Inv-loop μ-loop
 loop-holds c =
@@ -48,12 +39,6 @@ sub-i : tie.Need-sub-i Inv-loop μ-loop
 sub-i c =
     let l = c .before .loop in
     let some = left-some _ _ _ _ _ _ (l .inv .0) in omega arith
-
-cast-out : tie.Need-cast-out Inv-loop μ-loop
-cast-out c = search needs
-
-add-out : tie.Need-add-out Inv-loop μ-loop
-add-out c = search needs
 
 slice-write-out : tie.Need-slice-write-out Inv-loop μ-loop
 slice-write-out c =
@@ -69,12 +54,6 @@ loop-again : tie.Need-loop-again Inv-loop μ-loop
 loop-again c =
     let l = c .before .loop in
     (left-step _ _ _ _ _ _ (l .inv .0) (omega arith) (c .loop-test .taken), omega arith, omega arith)
-
-cast-out-2 : tie.Need-cast-out-2 Inv-loop μ-loop
-cast-out-2 c = search needs
-
-add-out-2 : tie.Need-add-out-2 Inv-loop μ-loop
-add-out-2 c = search needs
 
 slice-write-out-2 : tie.Need-slice-write-out-2 Inv-loop μ-loop
 slice-write-out-2 c =
@@ -97,24 +76,6 @@ returns-3 c =
 
 pub put-number-spec : {M : Type 1} → statement M
 put-number-spec =
-    tie.close
-    (tie.spec
-    Inv-loop
-    μ-loop
-    digit-count-requires
-    returns
-    sub-if2
-    returns-2
-    add-end
-    loop-holds
-    sub-i
-    cast-out
-    add-out
-    slice-write-out
-    loop-less
-    loop-again
-    cast-out-2
-    add-out-2
-    slice-write-out-2
-    same-length
-    returns-3)
+    tie.close (tie.spec Inv-loop μ-loop (λ c κs. search needs) returns (λ c. search needs) returns-2
+    (λ c. search needs) loop-holds sub-i (λ c. search needs) (λ c. search needs) slice-write-out loop-less loop-again
+    (λ c. search needs) (λ c. search needs) slice-write-out-2 same-length returns-3)

@@ -21,9 +21,6 @@ returns c =
     let a = c .before .args in
     not-appended (a .at) (a .word .now) (a .out .now) (omega arith)
 
-sub-if2 : tie.Need-sub-if2 Inv-loop μ-loop
-sub-if2 c = search needs
-
 returns-2 : tie.Need-returns-2 Inv-loop μ-loop
 returns-2 c =
     let a = c .before .before .args in
@@ -34,12 +31,6 @@ loop-holds c =
     let a = c .before .before .args in
     (omega arith, refl, omega arith, paste-zero (a .out .now) (a .at) (a .word .now))
 
-shared-slice-read-out : tie.Need-shared-slice-read-out Inv-loop μ-loop
-shared-slice-read-out c = search needs
-
-add-out : tie.Need-add-out Inv-loop μ-loop
-add-out c = search needs
-
 slice-write-out : tie.Need-slice-write-out Inv-loop μ-loop
 slice-write-out c =
     let c₂ = c .before .before in
@@ -49,12 +40,6 @@ slice-write-out c =
     let pasted = length-paste (a .out .now) (a .at) (a .word .now) (l .i) (omega arith) (omega arith) in
     let e : length (l .out) ≡ length (a .out .now) = ap length (l .inv .3) ∙ pasted in
     omega arith
-
-add-i : tie.Need-add-i Inv-loop μ-loop
-add-i c = search needs
-
-loop-less : tie.Need-loop-less Inv-loop μ-loop
-loop-less c = search needs
 
 loop-again : tie.Need-loop-again Inv-loop μ-loop
 loop-again c =
@@ -67,9 +52,6 @@ loop-again c =
       l .inv .2,
       rw (l .inv .3, add-one (l .i)) (paste-suc (a .out .now) (a .at) (a .word .now) (l .i) 0 (omega arith) (omega arith)),
     )
-
-add-result : tie.Need-add-result Inv-loop μ-loop
-add-result c = search needs
 
 same-length : tie.Need-same-length Inv-loop μ-loop
 same-length c =
@@ -86,20 +68,6 @@ returns-3 c =
 
 pub put-word-spec : {M : Type 1} → statement M
 put-word-spec =
-    tie.close
-    (tie.spec
-    Inv-loop
-    μ-loop
-    returns
-    sub-if2
-    returns-2
-    loop-holds
-    shared-slice-read-out
-    add-out
-    slice-write-out
-    add-i
-    loop-less
-    loop-again
-    add-result
-    same-length
-    returns-3)
+    tie.close (tie.spec Inv-loop μ-loop returns (λ c. search needs) returns-2 loop-holds (λ c. search needs)
+    (λ c. search needs) slice-write-out (λ c. search needs) (λ c. search needs) loop-again (λ c. search needs)
+    same-length returns-3)

@@ -13,11 +13,9 @@ use lib.Dec.{eqb, leb, ltb}
 use lib.ListN.{length, getD, set, take, length-set}
 use lib.Seq.{getD-set-same, getD-set-other, set-comm, take-suc, append-snoc}
 use borrow.Author.Tests.{lt-ltb, le-leb, lt-leb}
-use Rattle.rules.specs.declared.Period.{Period}
-use Rattle.rules.specs.declared.History.{History}
-use Rattle.rules.specs.declared.Span.{Span}
+use Rattle.rules.specs.declared.{Period.Period, History.History, Span.Span}
 use Rattle.rules.specs.Volumes.{registered}
 use Rattle.rules.specs.Register.{
   period,
   noPeriod,
   used,
@@ -31,8 +29,8 @@ use Rattle.rules.specs.Register.{
   booked,
   bookedAll,
 }
-use Rattle.rules.proofs.Shares.{All, sub-mul, given, given-before, given-after, given-le}
-use Rattle.rules.proofs.Tally.{
+use Rattle.agreement.proofs.Shares.{All, sub-mul, given, given-before, given-after, given-le}
+use Rattle.agreement.proofs.Tally.{
   begin,
   beganOn,
   bookTotal,

@@ -1,27 +1,23 @@
 -- The two machines brought up to a day: the book day by day, the register by catch-up.
-use mathlib.Core.Path.{_≡_, refl, sym, _∙_, ap, subst}
+use mathlib.Core.Path.{_≡_, refl, sym, _∙_, subst}
 use mathlib.Core.Bool.{Bool, true, false, cond}
-use mathlib.Core.List.{List, [], _∷_, _++_, append-nil, map}
+use mathlib.Core.List.{List, [], _∷_, append-nil, map}
 use Prim.Native.Nat.{ℕ, zero, suc, _+_, _-_, _≤_, _<_}
 use native.Mathlib.Omega.{arith}
 use native.Mathlib.Nat.{add-zero, add-suc, suc-add}
 use lib.Dec.{eqb}
 use lib.ListN.{length, getD}
-use borrow.Author.Tests.{eqb-true, eqb-false}
+use borrow.Author.Tests.{eqb-true}
 use Rattle.dates.specs.Dates.{lastDay}
-use Rattle.rules.specs.declared.Fields.{Fields}
-use Rattle.rules.specs.declared.Point.{Point}
-use Rattle.rules.specs.declared.Register.{Register}
-use Rattle.rules.specs.declared.Settings.{Settings}
-use Rattle.rules.specs.declared.Span.{Span}
+use Rattle.rules.specs.declared.{Fields.Fields, Point.Point, Register.Register, Settings.Settings, Span.Span}
 use Rattle.rules.specs.Effects.{Effect, event}
 use Rattle.rules.specs.Volumes.{volume}
 use Rattle.rules.specs.Register.{catchUp, register, pointAt, noPoint, advanced}
-use Rattle.rules.specs.DayBook.{Cell, cell, Page, Book, newDay, goOn, upToDay, look}
-use Rattle.rules.proofs.Tally.{live-runs, dawn}
-use Rattle.rules.proofs.Theorem.Jump.{Ahead, onDay, daily, daily-catchUp}
-use Rattle.rules.proofs.Theorem.Good.{Fine, Good, event-good}
-use Rattle.rules.proofs.Tied.{Told, Tied, effect-tied}
+use Rattle.rules.specs.DayBook.{cell, Page, Book, newDay, goOn, upToDay, look}
+use Rattle.agreement.proofs.Tally.{live-runs, dawn}
+use Rattle.agreement.proofs.Jump.{Ahead, onDay, daily, daily-catchUp}
+use Rattle.agreement.proofs.Good.{Fine, event-good}
+use Rattle.agreement.proofs.Tied.{Told, Tied, effect-tied}
 
 module _ (S : Settings) (B : 0 < S .b) where
   -- one day on both sides

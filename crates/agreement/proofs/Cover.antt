@@ -12,10 +12,9 @@ use native.Mathlib.Nat.{add-zero, sub-self}
 use native.Mathlib.Decide.{ℕ-discrete}
 use lib.ListN.{take}
 use borrow.Author.Tests.{eq-eqb, ne-eqb, le-leb, lt-leb, lt-ltb, le-ltb}
-use Rattle.rules.specs.declared.Period.{Period}
-use Rattle.rules.specs.declared.Point.{Point}
+use Rattle.rules.specs.declared.{Period.Period, Point.Point}
 use Rattle.rules.specs.DayBook.{Cell, cell}
-use Rattle.rules.specs.Demand3.{
+use Rattle.rules.specs.Periods.{
   periodsOf,
   startsOf,
   volumesOf,
@@ -28,9 +27,9 @@ use Rattle.rules.specs.Demand3.{
   dailySums,
   total,
 }
 use Rattle.rules.specs.Register.{period}
-use Rattle.rules.proofs.Tally.{tally, Runs, Live, Held, Desc, live-runs, tally-desc, sumVolumes, oldest}
-use Rattle.rules.proofs.Slots.{listed, Sized, take-listed}
+use Rattle.agreement.proofs.Tally.{tally, Runs, Live, Held, Desc, live-runs, tally-desc, sumVolumes, oldest}
+use Rattle.agreement.proofs.Slots.{listed, Sized, take-listed}
 
 abbrev starts : List Period → List ℕ
 starts ps = map (λ (q : Period). q .start) ps

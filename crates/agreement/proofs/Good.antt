@@ -3,28 +3,20 @@
 -- Fine   what holds of a point's view on day t, of any list of calls
 -- Good   what holds of an effect on such a view, with the readings sp and the enrolments j that come with it
 use mathlib.Core.Path.{_≡_, refl, sym, _∙_, ap, subst}
-use mathlib.Core.Bool.{Bool, true, false, cond, not, _&&_, _||_, true≢false, false≢true}
+use mathlib.Core.Bool.{Bool, true, false, cond, true≢false}
 use mathlib.Core.List.{List, [], _∷_}
-use Prim.Native.Nat.{ℕ, zero, suc, _+_, _-_, _*_, _^_, _≤_, _<_, min, max}
+use Prim.Native.Nat.{ℕ, suc, _+_, _*_, _≤_, _<_}
 use native.Mathlib.Omega.{arith}
-use lib.Dec.{eqb, leb, ltb}
-use borrow.Author.Tests.{eq-eqb, ne-eqb, eqb-true, eqb-false, leb-false, ltb-false}
-use Rattle.rules.specs.declared.Fields.{Fields}
-use Rattle.rules.specs.declared.Settings.{Settings}
-use Rattle.rules.specs.declared.Supply.{Supply}
-use Rattle.rules.specs.declared.SupplyKind.{SupplyKind}
-use Rattle.rules.specs.declared.SupplyKind.the-variants.{None, Contract, Default, LastResort}
-use Rattle.rules.specs.declared.Pending.{Pending}
-use Rattle.rules.specs.declared.Pending.the-variants.{Nothing, Request}
-use Rattle.rules.specs.declared.Meter.{Meter}
-use Rattle.rules.specs.declared.Reading.{Reading}
-use Rattle.rules.specs.declared.Span.{Span}
-use Rattle.rules.specs.Fields.{supply, fields, withSupply, withPending, unsupplied}
+use lib.Dec.{eqb}
+use borrow.Author.Tests.{eqb-false}
+use Rattle.rules.specs.declared.{Fields.Fields, Settings.Settings, Supply.Supply, SupplyKind.SupplyKind}
+use Rattle.rules.specs.declared.{Pending.Pending, Meter.Meter, Reading.Reading, Span.Span}
+use Rattle.rules.specs.Fields.{supply, fields, withSupply, unsupplied}
 use Rattle.rules.specs.Effects.{Effect, keep, name, fieldsOf, event, pendingEvent, deadlineEvent}
 use Rattle.rules.specs.Volumes.{registered}
-use Rattle.rules.specs.Rejections.{View, due, kindDue, pendingDue, marksAfter}
-use Rattle.rules.proofs.Shares.{All}
-use Rattle.rules.proofs.Theorem.Jump.{Ahead, KindAhead, PendingAhead}
+use Rattle.rules.specs.Rejections.{View, due, marksAfter}
+use Rattle.agreement.proofs.Shares.{All}
+use Rattle.agreement.proofs.Jump.{Ahead, KindAhead, PendingAhead}
 
 -- No reading books more than this, and each takes a day.
 abbrev pub perDay : ℕ
@@ -180,37 +172,39 @@ module _ (S : Settings) (B : 0 < S .b) (t : ℕ) where
           → (n ≡ false → (marks ≡ 0) × (supply h k q ≡ unsupplied)) → KindAhead t k → PendingAhead (suc t) q
           → Good (suc t) (seen k q) (deadlineEvent S (suc t) (seen k q .fields) k) [] []
       unfolding deadlineEvent
-      deadline-good None q f b a c = nothing None q f b tt c
-      deadline-good Contract q f b a c = nothing Contract q f b tt c
-      deadline-good (Default d) q f b a c = go (eqb d (suc t)) refl
+      deadline-good SupplyKind.None q f b a c = nothing SupplyKind.None q f b tt c
+      deadline-good SupplyKind.Contract q f b a c = nothing SupplyKind.Contract q f b tt c
+      deadline-good (SupplyKind.Default d) q f b a c = go (eqb d (suc t)) refl
         where
           go : (x : Bool) → eqb d (suc t) ≡ x
-              → Good (suc t) (seen (Default d) q) (deadlineEvent S (suc t) (seen (Default d) q .fields) (Default d)) [] []
+              → Good (suc t) (seen (SupplyKind.Default d) q) (deadlineEvent S (suc t) (seen (SupplyKind.Default d) q .fields) (SupplyKind.Default d)) [] []
           go true z =
-              rw z (spends (seen (Default d) q) (omega arith) u f b (supply (S .resort) (LastResort (suc t + S .b)) q)
+              rw z (spends (seen (SupplyKind.Default d) q) (omega arith) u f b (supply (S .resort) (SupplyKind.LastResort (suc t + S .b)) q)
               (record { kind = omega arith; pending = c }) (omega arith))
-          go false z = rw z (nothing (Default d) q f b (later d a z) c)
-      deadline-good (LastResort d) q f b a c = go (eqb d (suc t)) refl
+          go false z = rw z (nothing (SupplyKind.Default d) q f b (later d a z) c)
+      deadline-good (SupplyKind.LastResort d) q f b a c = go (eqb d (suc t)) refl
         where
           go : (x : Bool) → eqb d (suc t) ≡ x
-              → Good (suc t) (seen (LastResort d) q) (deadlineEvent S (suc t) (seen (LastResort d) q .fields) (LastResort d)) [] []
+              → Good (suc t) (seen (SupplyKind.LastResort d) q) (deadlineEvent S (suc t) (seen (SupplyKind.LastResort d) q .fields) (SupplyKind.LastResort d))
+              [] []
           go true z =
-              rw z (spends (seen (LastResort d) q) (omega arith) u f b unsupplied (record { kind = tt; pending = tt }) (omega arith))
-          go false z = rw z (nothing (LastResort d) q f b (later d a z) c)
+              rw z (spends (seen (SupplyKind.LastResort d) q) (omega arith) u f b unsupplied (record { kind = tt; pending = tt }) (omega arith))
+          go false z = rw z (nothing (SupplyKind.LastResort d) q f b (later d a z) c)
 
       pending-good : (k : SupplyKind) (q : Pending) → marks + due (supply h k q) ≤ 24
           → (n ≡ false → (marks ≡ 0) × (supply h k q ≡ unsupplied)) → KindAhead t k → PendingAhead t q
           → Good (suc t) (seen k q) (pendingEvent S (suc t) (seen k q .fields) q) [] []
       unfolding pendingEvent
-      pending-good k Nothing f b a c = deadline-good k Nothing f b a tt
-      pending-good k (Request s e) f b a c = go (eqb e (suc t)) refl
+      pending-good k Pending.Nothing f b a c = deadline-good k Pending.Nothing f b a tt
+      pending-good k (Pending.Request s e) f b a c = go (eqb e (suc t)) refl
         where
           go : (x : Bool) → eqb e (suc t) ≡ x
-              → Good (suc t) (seen k (Request s e)) (pendingEvent S (suc t) (seen k (Request s e) .fields) (Request s e)) [] []
+              → Good (suc t) (seen k (Pending.Request s e)) (pendingEvent S (suc t) (seen k (Pending.Request s e) .fields) (Pending.Request s e)) [] []
           go true z =
-              rw z (spends (seen k (Request s e)) (omega arith) u f b (supply s Contract Nothing) (record { kind = tt; pending = tt })
+              rw z (spends (seen k (Pending.Request s e)) (omega arith) u f b (supply s SupplyKind.Contract Pending.Nothing)
+              (record { kind = tt; pending = tt })
               (omega arith))
-          go false z = rw z (deadline-good k (Request s e) f b a (later e c z))
+          go false z = rw z (deadline-good k (Pending.Request s e) f b a (later e c z))
 
   pub event-good : (v : View) → Fine t v → Good (suc t) v (event S (suc t) (v .fields)) [] []
   unfolding event

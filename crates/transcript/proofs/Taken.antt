@@ -5,8 +5,7 @@ use mathlib.Core.List.{List}
 use native.Mathlib.Omega.{arith}
 use lib.ListN.{length, take, drop, length-take}
 use Rattle.input.proofs.Feeds.{fitting-le}
-use Rattle.session.specs.declared.Session.{Session}
-use Rattle.session.specs.declared.Fed.{Fed}
+use Rattle.session.specs.declared.{Session.Session, Fed.Fed}
 use Rattle.session.specs.Session.{takenOf, fedAs, FedBy}
 
 pub part-taken : (s : Session) (input : List ℕ) (from end : ℕ) (before after : List ℕ) (f : Fed) →

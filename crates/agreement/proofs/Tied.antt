@@ -2,32 +2,27 @@
 --
 -- Told   the point says what the page says, by the readings l and the enrolments n of the list so far
 -- Tied   besides, all that is due lies ahead and there is room for it
-use mathlib.Core.Path.{_≡_, refl, sym, _∙_, ap, subst, fun-ext}
-use mathlib.Core.Bool.{Bool, true, false, cond, true≢false, false≢true}
+use mathlib.Core.Path.{_≡_, refl, sym, _∙_, ap, fun-ext}
+use mathlib.Core.Bool.{Bool, true, false, cond, true≢false}
 use mathlib.Core.List.{List, [], _∷_, _++_, append-nil}
-use Prim.Native.Nat.{ℕ, zero, suc, _+_, _-_, _*_, _^_, _≤_, _<_}
+use Prim.Native.Nat.{ℕ, suc, _+_, _*_, _^_, _≤_, _<_}
 use native.Mathlib.Omega.{arith}
 use native.Mathlib.Nat.{add-zero, le-trans}
 use native.Mathlib.Numerals.{add-one}
 use lib.ListN.{length}
 use Rattle.dates.specs.Dates.{lastDay}
-use Rattle.rules.specs.declared.Fields.{Fields}
-use Rattle.rules.specs.declared.History.{History}
-use Rattle.rules.specs.declared.Period.{Period}
-use Rattle.rules.specs.declared.Point.{Point}
-use Rattle.rules.specs.declared.Span.{Span}
+use Rattle.rules.specs.declared.{Fields.Fields, History.History, Period.Period, Point.Point, Span.Span}
 use Rattle.rules.specs.Effects.{Effect, keep, name, fieldsOf}
 use Rattle.rules.specs.Volumes.{volume, registered}
-use Rattle.rules.specs.Rejections.{View, due, marksAfter}
-use Rattle.rules.specs.Register.{startsOn, named, entered, bookedAll, view, used}
+use Rattle.rules.specs.Rejections.{marksAfter}
+use Rattle.rules.specs.Register.{startsOn, named, entered, bookedAll, view}
 use Rattle.rules.specs.DayBook.{Cell, cell, Page, overwritten, written, countMarks, isMarked, look}
-use Rattle.rules.proofs.Shares.{All, all-map, volume-append, registered-append, volume-after}
-use Rattle.rules.proofs.Tally.{
+use Rattle.agreement.proofs.Shares.{All, all-map, volume-append, registered-append, volume-after}
+use Rattle.agreement.proofs.Tally.{
   begin,
   beganOn,
   bookTotals,
   tally,
-  Runs,
   Live,
   live-runs,
   live-overwritten,
@@ -46,7 +41,7 @@ use Rattle.rules.proofs.Tally.{
   sum-bookTotals,
   oldest-bookTotals,
 }
-use Rattle.rules.proofs.Slots.{
+use Rattle.agreement.proofs.Slots.{
   listed,
   Sized,
   used-count,
@@ -57,7 +52,7 @@ use Rattle.rules.proofs.Slots.{
   bookedAll-listed,
   bookedAll-sized,
 }
-use Rattle.rules.proofs.Theorem.Good.{perDay, Wheels, Fine, Keeps, Names, Enrols, Good}
+use Rattle.agreement.proofs.Good.{perDay, Fine, Names, Good}
 
 -- The oldest period starts on the one enrolment day, at or before the last reading.
 pub record Since (n : List ℕ) (ps : List Period) (d : ℕ) : Type 0 where

@@ -1,52 +1,42 @@
 -- From event to event is the same as day by day: n days of a point, one at a time, are what `catchUp` does.
 use mathlib.Core.Path.{_≡_, refl, sym, _∙_, ap, subst}
-use mathlib.Core.Bool.{Bool, true, false, cond, not, _&&_}
+use mathlib.Core.Bool.{Bool, true, false, _&&_}
 use Prim.Native.Nat.{ℕ, zero, suc, _+_, _-_, _≤_, _<_, min}
 use native.Mathlib.Omega.{arith}
 use native.Mathlib.Nat.{add-zero, zero-add, suc-add, add-suc}
 use lib.Dec.{eqb, leb, ltb}
 use borrow.Author.Tests.{eq-eqb, ne-eqb, le-leb, lt-leb, lt-ltb, le-ltb, leb-true, leb-false}
-use Rattle.rules.specs.declared.Fields.{Fields}
-use Rattle.rules.specs.declared.Point.{Point}
-use Rattle.rules.specs.declared.History.{History}
-use Rattle.rules.specs.declared.Settings.{Settings}
-use Rattle.rules.specs.declared.Supply.{Supply}
-use Rattle.rules.specs.declared.SupplyKind.{SupplyKind}
-use Rattle.rules.specs.declared.SupplyKind.the-variants.{None, Contract, Default, LastResort}
-use Rattle.rules.specs.declared.Pending.{Pending}
-use Rattle.rules.specs.declared.Pending.the-variants.{Nothing, Request}
-use Rattle.rules.specs.declared.Meter.{Meter}
-use Rattle.rules.specs.declared.Reading.{Reading}
-use Rattle.rules.specs.declared.Due.{Due}
+use Rattle.rules.specs.declared.{Fields.Fields, Point.Point, History.History, Settings.Settings, Supply.Supply}
+use Rattle.rules.specs.declared.{SupplyKind.SupplyKind, Pending.Pending, Meter.Meter, Reading.Reading}
 use Rattle.rules.specs.declared.Due.the-variants as due
 use Rattle.rules.specs.Fields.{supply, fields}
 use Rattle.rules.specs.Effects.{Effect, keep, name, fieldsOf, event, pendingEvent, deadlineEvent}
 use Rattle.rules.specs.Register.{entered, expiryBy, endsBefore, dueBy, happened, nextEvent, catchUp}
 
 -- What is due lies after day t.
 abbrev pub KindAhead : ℕ → SupplyKind → Type 0
-KindAhead t None = Unit {0}
-KindAhead t Contract = Unit {0}
-KindAhead t (Default d) = t < d
-KindAhead t (LastResort d) = t < d
+KindAhead t SupplyKind.None = Unit {0}
+KindAhead t SupplyKind.Contract = Unit {0}
+KindAhead t (SupplyKind.Default d) = t < d
+KindAhead t (SupplyKind.LastResort d) = t < d
 
 abbrev pub PendingAhead : ℕ → Pending → Type 0
-PendingAhead t Nothing = Unit {0}
-PendingAhead t (Request s e) = t < e
+PendingAhead t Pending.Nothing = Unit {0}
+PendingAhead t (Pending.Request s e) = t < e
 
 pub record Ahead (t : ℕ) (s : Supply) : Type 0 where
   pub kind : KindAhead t (s .kind)
   pub pending : PendingAhead t (s .pending)
 
 kind-back : {a b : ℕ} (k : SupplyKind) → a ≤ b → KindAhead b k → KindAhead a k
-kind-back None h r = tt
-kind-back Contract h r = tt
-kind-back (Default d) h r = omega arith
-kind-back (LastResort d) h r = omega arith
+kind-back SupplyKind.None h r = tt
+kind-back SupplyKind.Contract h r = tt
+kind-back (SupplyKind.Default d) h r = omega arith
+kind-back (SupplyKind.LastResort d) h r = omega arith
 
 pending-back : {a b : ℕ} (q : Pending) → a ≤ b → PendingAhead b q → PendingAhead a q
-pending-back Nothing h r = tt
-pending-back (Request s e) h r = omega arith
+pending-back Pending.Nothing h r = tt
+pending-back (Pending.Request s e) h r = omega arith
 
 ahead-back : {a b : ℕ} (s : Supply) → a ≤ b → Ahead b s → Ahead a s
 ahead-back s h r = record { kind = kind-back (s .kind) h (r .kind); pending = pending-back (s .pending) h (r .pending) }
@@ -54,16 +44,16 @@ ahead-back s h r = record { kind = kind-back (s .kind) h (r .kind); pending = pe
 -- A day before what is due has no event.
 deadline-quiet : (S : Settings) (t : ℕ) (f : Fields) (k : SupplyKind) → KindAhead t k → deadlineEvent S t f k ≡ keep f
 unfolding deadlineEvent
-deadline-quiet S t f None r = refl
-deadline-quiet S t f Contract r = refl
-deadline-quiet S t f (Default d) r = rw (ne-eqb d t (omega arith))
-deadline-quiet S t f (LastResort d) r = rw (ne-eqb d t (omega arith))
+deadline-quiet S t f SupplyKind.None r = refl
+deadline-quiet S t f SupplyKind.Contract r = refl
+deadline-quiet S t f (SupplyKind.Default d) r = rw (ne-eqb d t (omega arith))
+deadline-quiet S t f (SupplyKind.LastResort d) r = rw (ne-eqb d t (omega arith))
 
 pending-quiet : (S : Settings) (t : ℕ) (f : Fields) (q : Pending) → PendingAhead t q → KindAhead t (f .supply .kind)
     → pendingEvent S t f q ≡ keep f
 unfolding pendingEvent
-pending-quiet S t f Nothing r k = deadline-quiet S t f _ k
-pending-quiet S t f (Request s e) r k = rw (ne-eqb e t (omega arith)) (deadline-quiet S t f _ k)
+pending-quiet S t f Pending.Nothing r k = deadline-quiet S t f _ k
+pending-quiet S t f (Pending.Request s e) r k = rw (ne-eqb e t (omega arith)) (deadline-quiet S t f _ k)
 
 event-quiet : (S : Settings) (t : ℕ) (f : Fields) → Ahead t (f .supply) → event S t f ≡ keep f
 unfolding event
@@ -95,18 +85,18 @@ pub data NextDay : Type 0 where
   on : ℕ → NextDay
 
 abbrev deadlineOf : SupplyKind → NextDay
-deadlineOf None = never
-deadlineOf Contract = never
-deadlineOf (Default d) = on d
-deadlineOf (LastResort d) = on d
+deadlineOf SupplyKind.None = never
+deadlineOf SupplyKind.Contract = never
+deadlineOf (SupplyKind.Default d) = on d
+deadlineOf (SupplyKind.LastResort d) = on d
 
 abbrev sooner : ℕ → NextDay → NextDay
 sooner e never = on e
 sooner e (on d) = on (min e d)
 
 abbrev nextDay : SupplyKind → Pending → NextDay
-nextDay k Nothing = deadlineOf k
-nextDay k (Request s e) = sooner e (deadlineOf k)
+nextDay k Pending.Nothing = deadlineOf k
+nextDay k (Pending.Request s e) = sooner e (deadlineOf k)
 
 abbrev After : ℕ → NextDay → Type 0
 After t never = Unit {0}
@@ -117,58 +107,58 @@ AtDay never P = Unit {0}
 AtDay (on d) P = P d
 
 after-kind : (t : ℕ) (k : SupplyKind) → KindAhead t k → After t (deadlineOf k)
-after-kind t None r = tt
-after-kind t Contract r = tt
-after-kind t (Default d) r = r
-after-kind t (LastResort d) r = r
+after-kind t SupplyKind.None r = tt
+after-kind t SupplyKind.Contract r = tt
+after-kind t (SupplyKind.Default d) r = r
+after-kind t (SupplyKind.LastResort d) r = r
 
 kind-after : (t : ℕ) (k : SupplyKind) → After t (deadlineOf k) → KindAhead t k
-kind-after t None r = tt
-kind-after t Contract r = tt
-kind-after t (Default d) r = r
-kind-after t (LastResort d) r = r
+kind-after t SupplyKind.None r = tt
+kind-after t SupplyKind.Contract r = tt
+kind-after t (SupplyKind.Default d) r = r
+kind-after t (SupplyKind.LastResort d) r = r
 
 after-ahead : (t : ℕ) (k : SupplyKind) (q : Pending) → After t (nextDay k q) → KindAhead t k × PendingAhead t q
-after-ahead t k Nothing r = (kind-after t k r, tt)
-after-ahead t None (Request s e) r = (tt, r)
-after-ahead t Contract (Request s e) r = (tt, r)
-after-ahead t (Default d) (Request s e) r = omega arith
-after-ahead t (LastResort d) (Request s e) r = omega arith
+after-ahead t k Pending.Nothing r = (kind-after t k r, tt)
+after-ahead t SupplyKind.None (Pending.Request s e) r = (tt, r)
+after-ahead t SupplyKind.Contract (Pending.Request s e) r = (tt, r)
+after-ahead t (SupplyKind.Default d) (Pending.Request s e) r = omega arith
+after-ahead t (SupplyKind.LastResort d) (Pending.Request s e) r = omega arith
 
 ahead-after : (t : ℕ) (k : SupplyKind) (q : Pending) → KindAhead t k → PendingAhead t q → After t (nextDay k q)
-ahead-after t k Nothing a b = after-kind t k a
-ahead-after t None (Request s e) a b = b
-ahead-after t Contract (Request s e) a b = b
-ahead-after t (Default d) (Request s e) a b = omega arith
-ahead-after t (LastResort d) (Request s e) a b = omega arith
+ahead-after t k Pending.Nothing a b = after-kind t k a
+ahead-after t SupplyKind.None (Pending.Request s e) a b = b
+ahead-after t SupplyKind.Contract (Pending.Request s e) a b = b
+ahead-after t (SupplyKind.Default d) (Pending.Request s e) a b = omega arith
+ahead-after t (SupplyKind.LastResort d) (Pending.Request s e) a b = omega arith
 
 -- How many events can still come: a deadline takes the place of a request, since last resort ends by dropping it.
 abbrev eventsLeft : SupplyKind → Pending → ℕ
-eventsLeft None Nothing = 0
-eventsLeft None (Request s e) = 1
-eventsLeft Contract Nothing = 0
-eventsLeft Contract (Request s e) = 1
-eventsLeft (Default d) q = 2
-eventsLeft (LastResort d) q = 1
+eventsLeft SupplyKind.None Pending.Nothing = 0
+eventsLeft SupplyKind.None (Pending.Request s e) = 1
+eventsLeft SupplyKind.Contract Pending.Nothing = 0
+eventsLeft SupplyKind.Contract (Pending.Request s e) = 1
+eventsLeft (SupplyKind.Default d) q = 2
+eventsLeft (SupplyKind.LastResort d) q = 1
 
 abbrev left : Supply → ℕ
 left s = eventsLeft (s .kind) (s .pending)
 
 left-most : (k : SupplyKind) (q : Pending) → eventsLeft k q ≤ 2
-left-most None Nothing = omega arith
-left-most None (Request s e) = omega arith
-left-most Contract Nothing = omega arith
-left-most Contract (Request s e) = omega arith
-left-most (Default d) q = omega arith
-left-most (LastResort d) q = omega arith
+left-most SupplyKind.None Pending.Nothing = omega arith
+left-most SupplyKind.None (Pending.Request s e) = omega arith
+left-most SupplyKind.Contract Pending.Nothing = omega arith
+left-most SupplyKind.Contract (Pending.Request s e) = omega arith
+left-most (SupplyKind.Default d) q = omega arith
+left-most (SupplyKind.LastResort d) q = omega arith
 
 none-left : (t : ℕ) (k : SupplyKind) (q : Pending) → eventsLeft k q ≤ 0 → KindAhead t k × PendingAhead t q
-none-left t None Nothing h = (tt, tt)
-none-left t None (Request s e) h = absurd (omega arith)
-none-left t Contract Nothing h = (tt, tt)
-none-left t Contract (Request s e) h = absurd (omega arith)
-none-left t (Default d) q h = absurd (omega arith)
-none-left t (LastResort d) q h = absurd (omega arith)
+none-left t SupplyKind.None Pending.Nothing h = (tt, tt)
+none-left t SupplyKind.None (Pending.Request s e) h = absurd (omega arith)
+none-left t SupplyKind.Contract Pending.Nothing h = (tt, tt)
+none-left t SupplyKind.Contract (Pending.Request s e) h = absurd (omega arith)
+none-left t (SupplyKind.Default d) q h = absurd (omega arith)
+none-left t (SupplyKind.LastResort d) q h = absurd (omega arith)
 
 and-false : (b : Bool) → (b && false) ≡ false
 and-false true = refl
@@ -181,14 +171,14 @@ entered-fields t (name f) h = refl
 -- Nothing is due by a day before the next event.
 due-quiet : (S : Settings) (t : ℕ) (k : SupplyKind) (q : Pending) → KindAhead t k → PendingAhead t q → dueBy S t k q ≡ due.Nothing
 unfolding dueBy expiryBy
-due-quiet S t None Nothing a b = refl
-due-quiet S t Contract Nothing a b = refl
-due-quiet S t (Default d) Nothing a b = rw (lt-leb d t a)
-due-quiet S t (LastResort d) Nothing a b = rw (lt-leb d t a)
-due-quiet S t None (Request s e) a b = rw (lt-leb e t b)
-due-quiet S t Contract (Request s e) a b = rw (lt-leb e t b)
-due-quiet S t (Default d) (Request s e) a b = rw (lt-leb e t b, lt-leb d t a)
-due-quiet S t (LastResort d) (Request s e) a b = rw (lt-leb e t b, lt-leb d t a)
+due-quiet S t SupplyKind.None Pending.Nothing a b = refl
+due-quiet S t SupplyKind.Contract Pending.Nothing a b = refl
+due-quiet S t (SupplyKind.Default d) Pending.Nothing a b = rw (lt-leb d t a)
+due-quiet S t (SupplyKind.LastResort d) Pending.Nothing a b = rw (lt-leb d t a)
+due-quiet S t SupplyKind.None (Pending.Request s e) a b = rw (lt-leb e t b)
+due-quiet S t SupplyKind.Contract (Pending.Request s e) a b = rw (lt-leb e t b)
+due-quiet S t (SupplyKind.Default d) (Pending.Request s e) a b = rw (lt-leb e t b, lt-leb d t a)
+due-quiet S t (SupplyKind.LastResort d) (Pending.Request s e) a b = rw (lt-leb e t b, lt-leb d t a)
 
 module _ (S : Settings) (B : 0 < S .b) where
   -- The event of day d leaves fewer to come, all after d; and it is what is due first by any day from d on.
@@ -203,7 +193,7 @@ module _ (S : Settings) (B : 0 < S .b) where
     point k q = record { fields = fields n (supply h k q) y m w r; history = H }
 
     -- the pending request comes first
-    switches : (k : SupplyKind) (s e : ℕ) → endsBefore k e ≡ false → 0 < eventsLeft k (Request s e) → Fires (point k (Request s e)) e
+    switches : (k : SupplyKind) (s e : ℕ) → endsBefore k e ≡ false → 0 < eventsLeft k (Pending.Request s e) → Fires (point k (Pending.Request s e)) e
     unfolding event pendingEvent nextEvent dueBy happened
     switches k s e z l = record {
       fewer = rw (eq-eqb e e refl) l;
@@ -213,11 +203,11 @@ module _ (S : Settings) (B : 0 < S .b) where
     }
 
     -- a request and a deadline d: the earlier one, and on one day the request
-    request-or-deadline : (k : SupplyKind) (s e d : ℕ) → endsBefore k e ≡ ltb d e → 0 < eventsLeft k (Request s e)
-        → (d < e → Fires (point k (Request s e)) d) → Fires (point k (Request s e)) (min e d)
+    request-or-deadline : (k : SupplyKind) (s e d : ℕ) → endsBefore k e ≡ ltb d e → 0 < eventsLeft k (Pending.Request s e)
+        → (d < e → Fires (point k (Pending.Request s e)) d) → Fires (point k (Pending.Request s e)) (min e d)
     request-or-deadline k s e d ends l deadline = go (leb e d) refl
       where
-        go : (b : Bool) → leb e d ≡ b → Fires (point k (Request s e)) (min e d)
+        go : (b : Bool) → leb e d ≡ b → Fires (point k (Pending.Request s e)) (min e d)
         go true z =
             let x : min e d ≡ e = omega (arith, leb-true e d z) in
             rw x (switches k s e (ends ∙ le-ltb d e (leb-true e d z)) l)
@@ -227,23 +217,23 @@ module _ (S : Settings) (B : 0 < S .b) where
 
     fires : (k : SupplyKind) (q : Pending) → AtDay (nextDay k q) (Fires (point k q))
     unfolding event pendingEvent deadlineEvent nextEvent dueBy expiryBy endsBefore happened
-    fires None Nothing = tt
-    fires Contract Nothing = tt
-    fires (Default d) Nothing = record {
+    fires SupplyKind.None Pending.Nothing = tt
+    fires SupplyKind.Contract Pending.Nothing = tt
+    fires (SupplyKind.Default d) Pending.Nothing = record {
       fewer = rw (eq-eqb d d refl) (omega arith);
       kind = rw (eq-eqb d d refl) (omega arith);
       pending = rw (eq-eqb d d refl) tt;
       next = λ t le. rw (le-leb d t le, eq-eqb d d refl);
     }
-    fires (LastResort d) Nothing = record {
+    fires (SupplyKind.LastResort d) Pending.Nothing = record {
       fewer = rw (eq-eqb d d refl) (omega arith);
       kind = rw (eq-eqb d d refl) tt;
       pending = rw (eq-eqb d d refl) tt;
       next = λ t le. rw (le-leb d t le, eq-eqb d d refl);
     }
-    fires None (Request s e) = switches None s e refl (omega arith)
-    fires Contract (Request s e) = switches Contract s e refl (omega arith)
-    fires (Default d) (Request s e) = request-or-deadline (Default d) s e d refl (omega arith) (λ lt.
+    fires SupplyKind.None (Pending.Request s e) = switches SupplyKind.None s e refl (omega arith)
+    fires SupplyKind.Contract (Pending.Request s e) = switches SupplyKind.Contract s e refl (omega arith)
+    fires (SupplyKind.Default d) (Pending.Request s e) = request-or-deadline (SupplyKind.Default d) s e d refl (omega arith) (λ lt.
         let f : eqb e d ≡ false = ne-eqb e d (omega arith) in
         record {
           fewer = rw (f, eq-eqb d d refl) (omega arith);
@@ -251,7 +241,7 @@ module _ (S : Settings) (B : 0 < S .b) where
           pending = rw (f, eq-eqb d d refl) lt;
           next = λ t le. rw (lt-ltb d e lt, and-false (leb e t), le-leb d t le, f, eq-eqb d d refl);
         })
-    fires (LastResort d) (Request s e) = request-or-deadline (LastResort d) s e d refl (omega arith) (λ lt.
+    fires (SupplyKind.LastResort d) (Pending.Request s e) = request-or-deadline (SupplyKind.LastResort d) s e d refl (omega arith) (λ lt.
         let f : eqb e d ≡ false = ne-eqb e d (omega arith) in
         record {
           fewer = rw (f, eq-eqb d d refl) (omega arith);

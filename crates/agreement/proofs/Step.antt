@@ -1,56 +1,22 @@
 -- One call on both sides: the same answer, and the register stays beside the day book.
-use mathlib.Core.Path.{_≡_, refl, sym, _∙_, ap, subst, fun-ext}
-use mathlib.Core.Bool.{Bool, true, false, cond, _||_, _&&_}
+use mathlib.Core.Path.{_≡_, refl, sym, _∙_, ap, subst}
+use mathlib.Core.Bool.{Bool, true, false, cond}
 use mathlib.Core.List.{List, [], _∷_, _++_, append-nil, map}
-use Prim.Native.Nat.{ℕ, zero, suc, _+_, _-_, _≤_, _<_}
+use Prim.Native.Nat.{ℕ, _-_, _≤_, _<_}
 use native.Mathlib.Omega.{arith}
 use lib.Dec.{eqb, ltb}
-use lib.ListN.{length, getD, set, length-set, length-map}
+use lib.ListN.{length, set, length-set, length-map}
 use lib.Seq.{getD-set-same, getD-set-other}
-use borrow.Author.Tests.{eqb-true, eqb-false, ltb-false, le-ltb}
+use borrow.Author.Tests.{eqb-true, eqb-false, ltb-false}
 use Rattle.dates.specs.Dates.{lastDay}
-use Rattle.rules.specs.declared.Fields.{Fields}
-use Rattle.rules.specs.declared.Point.{Point}
-use Rattle.rules.specs.declared.Register.{Register}
-use Rattle.rules.specs.declared.Settings.{Settings}
-use Rattle.rules.specs.declared.Span.{Span}
-use Rattle.rules.specs.declared.Call.{Call}
-use Rattle.rules.specs.declared.Action.{Action}
-use Rattle.rules.specs.declared.Action.the-variants.{SignContract, Failure, At, Day}
-use Rattle.rules.specs.declared.PointAction.{PointAction}
-use Rattle.rules.specs.declared.PointAction.the-variants.{
-  Enrol,
-  IntoService,
-  DefaultSupply,
-  AskSwitch,
-  Cancel,
-  Read,
-  ChangeMeter,
-  OutOfService,
-  Suspend,
-}
-use Rattle.rules.specs.declared.Answer.{Answer}
+use Rattle.rules.specs.declared.{Fields.Fields, Point.Point, Register.Register, Settings.Settings, Span.Span}
+use Rattle.rules.specs.declared.{Call.Call, Action.Action}
 use Rattle.rules.specs.Effects.{Effect, keep, effectOf, effect}
 use Rattle.rules.specs.Volumes.{spansOf, spans}
 use Rattle.rules.specs.Answers.{isAccepted}
-use Rattle.rules.specs.Rejections.{
-  View,
-  blankView,
-  firstOf,
-  notPoint,
-  notEnrolled,
-  outOfRange,
-  offCalendar,
-  rowsAt,
-  rows,
-  acceptedAt,
-  accepted,
-  shown,
-  answer,
-  answerTo,
-}
+use Rattle.rules.specs.Rejections.{View, firstOf, rows, accepted, shown, answer}
 use Rattle.rules.specs.Register
 use Rattle.rules.specs.Register.{
   entered,
   catchUp,
   bookedAll,
@@ -64,10 +30,10 @@ use Rattle.rules.specs.Register.{
   done,
   applied,
 }
 use Rattle.rules.specs.DayBook
-use Rattle.rules.specs.DayBook.{Book, Page, goOn, upToDay, look, signed, written, next, enrols}
-use Rattle.rules.proofs.Theorem.Good.{Fine, Good}
-use Rattle.rules.proofs.Theorem.Answered.{
+use Rattle.rules.specs.DayBook.{Book, Page, upToDay, look, signed, written, next, enrols}
+use Rattle.agreement.proofs.Good.{Good}
+use Rattle.rules.proofs.Views.{
   shown-in,
   answer-ext,
   answer-off,
@@ -76,10 +42,10 @@ use Rattle.rules.proofs.Theorem.Answered.{
   passed,
   names-point,
 }
-use Rattle.rules.proofs.Accept.{pass, neither}
-use Rattle.rules.proofs.Theorem.Kept.{call-good}
-use Rattle.rules.proofs.Tied.{Told, Tied, views-agree, effect-tied}
-use Rattle.rules.proofs.Theorem.Days.{gone-on, point-map, caught}
+use Rattle.rules.proofs.Accept.{neither}
+use Rattle.agreement.proofs.Kept.{call-good}
+use Rattle.agreement.proofs.Tied.{Tied, views-agree, effect-tied}
+use Rattle.agreement.proofs.Days.{gone-on, point-map, caught}
 
 -- The whole book beside the whole register, with the readings and enrolments of each point so far.
 pub record Agree (l : ℕ → List Span) (n : ℕ → List ℕ) (b : Book) (r : Register) : Type 0 where
@@ -98,17 +64,17 @@ does S t c p g = entered t (effect S t c p (g .fields)) (bookedAll (spans t c p 
 module _ (r : Register) (count : length (r .points) ≡ 32) (t : ℕ) (u : List Bool) (v : ℕ → View) where
   done-count : (c : Action) → length (done t c r .points) ≡ 32
   unfolding done
-  done-count (SignContract s) = count
-  done-count (Failure s) = length-map (r .points) (failedPoint (r .settings) t s) ∙ count
-  done-count (At q a) = length-set (r .points) (q - 1) _ ∙ count
-  done-count Day = count
+  done-count (Action.SignContract s) = count
+  done-count (Action.Failure s) = length-map (r .points) (failedPoint (r .settings) t s) ∙ count
+  done-count (Action.At q a) = length-set (r .points) (q - 1) _ ∙ count
+  done-count Action.Day = count
 
   done-points : (c : Action) → isAccepted (firstOf (rows (r .settings) u t c v) (accepted t c)) ≡ true → (p : ℕ) → 1 ≤ p → p ≤ 32
       → pointAt p (done t c r .points) ≡ does (r .settings) t c p (pointAt p (r .points))
   unfolding done effect spans failedPoint acted rows accepted
-  done-points (SignContract s) ok p lo hi = refl
-  done-points (Failure s) ok p lo hi = point-map (failedPoint (r .settings) t s) (r .points) p lo (omega arith)
-  done-points (At q a) ok p lo hi = go (eqb p q) refl
+  done-points (Action.SignContract s) ok p lo hi = refl
+  done-points (Action.Failure s) ok p lo hi = point-map (failedPoint (r .settings) t s) (r .points) p lo (omega arith)
+  done-points (Action.At q a) ok p lo hi = go (eqb p q) refl
     where
       at : (1 ≤ q) × (q ≤ 32)
       at =
@@ -128,14 +94,14 @@ module _ (r : Register) (count : length (r .points) ≡ 32) (t : ℕ) (u : List 
       go false e =
           let w : p ≡ q → ⊥ = eqb-false p q e in
           getD-set-other (r .points) (q - 1) (p - 1) new noPoint (λ z. w (omega (arith, at .0, at .1)))
-  done-points Day ok p lo hi = refl
+  done-points Action.Day ok p lo hi = refl
 
   done-rest : (c : Action) → (done t c r .settings ≡ r .settings) × (done t c r .day ≡ r .day) × (done t c r .contracts ≡ signed c (r .contracts))
   unfolding done
-  done-rest (SignContract s) = (refl, refl, refl)
-  done-rest (Failure s) = (refl, refl, refl)
-  done-rest (At q a) = (refl, refl, refl)
-  done-rest Day = (refl, refl, refl)
+  done-rest (Action.SignContract s) = (refl, refl, refl)
+  done-rest (Action.Failure s) = (refl, refl, refl)
+  done-rest (Action.At q a) = (refl, refl, refl)
+  done-rest Action.Day = (refl, refl, refl)
 
 -- The register brought up to a day.
 advanced-rest : (t : ℕ) (r : Register)

@@ -1,31 +1,26 @@
 -- The whole list: from a newly opened register on, the register stays beside the day book.
-use mathlib.Core.Path.{_≡_, refl, sym, _∙_, ap, ap₂, subst₂, fun-ext}
-use mathlib.Core.Bool.{Bool, true, false, cond, false≢true, true≢false}
+use mathlib.Core.Path.{_≡_, refl, sym, _∙_, ap₂, subst₂, fun-ext}
+use mathlib.Core.Bool.{Bool, true, false, cond, false≢true}
 use mathlib.Core.List.{List, [], _∷_, _++_, append-nil, append-assoc}
-use Prim.Native.Nat.{ℕ, zero, suc, _+_, _-_, _≤_, _<_}
+use Prim.Native.Nat.{ℕ, _-_, _<_}
 use native.Mathlib.Omega.{arith}
 use lib.Dec.{ltb}
-use lib.ListN.{replicate, getD-replicate}
+use lib.ListN.{getD-replicate}
 use borrow.Author.Tests.{ltb-false}
-use Rattle.rules.specs.declared.Register.{Register}
-use Rattle.rules.specs.declared.Span.{Span}
-use Rattle.rules.specs.declared.Opening.{Opening}
-use Rattle.rules.specs.declared.Call.{Call}
-use Rattle.rules.specs.declared.Answer.{Answer}
+use Rattle.rules.specs.declared.{Register.Register, Span.Span, Opening.Opening, Call.Call, Answer.Answer}
 use Rattle.rules.specs.Volumes.{volume, registered}
 use Rattle.rules.specs.Answers.{isAccepted}
 use Rattle.rules.specs.Rejections.{openingAnswer}
 use Rattle.rules.specs.Register
 use Rattle.rules.specs.Register.{blankPoint, noPoint, applied}
 use Rattle.rules.specs.DayBook
 use Rattle.rules.specs.DayBook.{Book, upToDay}
 use Rattle.rules.specs.Opening.{settingsOf}
-use Rattle.rules.proofs.Tally.{tally, sumVolumes}
-use Rattle.rules.proofs.Slots.{recent}
+use Rattle.agreement.proofs.Tally.{tally, sumVolumes}
+use Rattle.agreement.proofs.Slots.{recent}
 use Rattle.rules.proofs.Accept.{pass, neither}
-use Rattle.rules.proofs.Theorem.Days.{gone-on}
-use Rattle.rules.proofs.Tied.{Tied}
-use Rattle.rules.proofs.Step.{Agree, says-agree, readNow, enrolledNow, call-agree}
+use Rattle.agreement.proofs.Days.{gone-on}
+use Rattle.agreement.proofs.Step.{Agree, says-agree, readNow, enrolledNow, call-agree}
 
 -- An accepted opening has A and B at least 1.
 lasting : (o : Opening) → isAccepted (openingAnswer o) ≡ true → (0 < o .a) × (0 < o .b)

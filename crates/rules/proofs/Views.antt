@@ -1,27 +1,12 @@
 -- What an answer looks at, and what an accepted call has passed.
 use mathlib.Core.Path.{_≡_, refl, fun-ext}
 use mathlib.Core.Bool.{Bool, true, false, cond, _||_}
-use mathlib.Core.List.{List, [], _∷_}
+use mathlib.Core.List.{List}
 use Prim.Native.Nat.{ℕ, _≤_}
 use lib.Dec.{ltb}
 use borrow.Author.Tests.{ltb-false, le-ltb}
 use Rattle.dates.specs.Dates.{lastDay}
-use Rattle.rules.specs.declared.Settings.{Settings}
-use Rattle.rules.specs.declared.Call.{Call}
-use Rattle.rules.specs.declared.Action.{Action}
-use Rattle.rules.specs.declared.Action.the-variants.{At}
-use Rattle.rules.specs.declared.PointAction.{PointAction}
-use Rattle.rules.specs.declared.PointAction.the-variants.{
-  Enrol,
-  IntoService,
-  DefaultSupply,
-  AskSwitch,
-  Cancel,
-  Read,
-  ChangeMeter,
-  OutOfService,
-  Suspend,
-}
+use Rattle.rules.specs.declared.{Settings.Settings, Call.Call, Action.Action, PointAction.PointAction}
 use Rattle.rules.specs.Answers.{isAccepted}
 use Rattle.rules.specs.Rejections.{
   View,
@@ -71,7 +56,7 @@ answer-back S day u t a v w q = rw q
 
 -- A call that names a point looks at that point only.
 pub answer-at : (S : Settings) (day : ℕ) (u : List Bool) (t p : ℕ) (a : PointAction) (v w : ℕ → View) → v p ≡ w p
-    → answerTo S day u t (At p a) v ≡ answerTo S day u t (At p a) w
+    → answerTo S day u t (Action.At p a) v ≡ answerTo S day u t (Action.At p a) w
 unfolding answerTo rows
 answer-at S day u t p a v w q = rw q
 
@@ -100,21 +85,21 @@ passed S day u t a v ok =
 pub names-point : (S : Settings) (u : List Bool) (t p : ℕ) (a : PointAction) (v : View)
     → isAccepted (firstOf (rowsAt S u t p a v) (acceptedAt t a)) ≡ true → notPoint p ≡ false
 unfolding rowsAt
-names-point S u t p (Enrol b a x) v ok = pass _ _ _ _ ok .0
-names-point S u t p (IntoService s k) v ok = neither (notPoint p) _ (pass _ _ _ _ (pass _ _ _ _ ok .1) .0) .0
-names-point S u t p (DefaultSupply k) v ok = neither (notPoint p) _ (pass _ _ _ _ ok .0) .0
-names-point S u t p (AskSwitch s k r) v ok = neither (notPoint p) _ (pass _ _ _ _ (pass _ _ _ _ ok .1) .0) .0
-names-point S u t p (Cancel s) v ok = neither (notPoint p) _ (pass _ _ _ _ ok .0) .0
-names-point S u t p (Read d x z) v ok = neither (notPoint p) _ (pass _ _ _ _ ok .0) .0
-names-point S u t p (ChangeMeter x z b a y) v ok = neither (notPoint p) _ (pass _ _ _ _ ok .0) .0
-names-point S u t p OutOfService v ok = neither (notPoint p) _ (pass _ _ _ _ ok .0) .0
-names-point S u t p (Suspend m) v ok = neither (notPoint p) _ (pass _ _ _ _ ok .0) .0
+names-point S u t p (PointAction.Enrol b a x) v ok = pass _ _ _ _ ok .0
+names-point S u t p (PointAction.IntoService s k) v ok = neither (notPoint p) _ (pass _ _ _ _ (pass _ _ _ _ ok .1) .0) .0
+names-point S u t p (PointAction.DefaultSupply k) v ok = neither (notPoint p) _ (pass _ _ _ _ ok .0) .0
+names-point S u t p (PointAction.AskSwitch s k r) v ok = neither (notPoint p) _ (pass _ _ _ _ (pass _ _ _ _ ok .1) .0) .0
+names-point S u t p (PointAction.Cancel s) v ok = neither (notPoint p) _ (pass _ _ _ _ ok .0) .0
+names-point S u t p (PointAction.Read d x z) v ok = neither (notPoint p) _ (pass _ _ _ _ ok .0) .0
+names-point S u t p (PointAction.ChangeMeter x z b a y) v ok = neither (notPoint p) _ (pass _ _ _ _ ok .0) .0
+names-point S u t p PointAction.OutOfService v ok = neither (notPoint p) _ (pass _ _ _ _ ok .0) .0
+names-point S u t p (PointAction.Suspend m) v ok = neither (notPoint p) _ (pass _ _ _ _ ok .0) .0
 
 -- The point that an accepted call names is one of 1 to 32.
 pub accepted-point : (S : Settings) (day : ℕ) (u : List Bool) (t p : ℕ) (a : PointAction) (v : ℕ → View)
-    → isAccepted (answerTo S day u t (At p a) v) ≡ true → (t ≤ lastDay) × (1 ≤ p) × (p ≤ 32)
+    → isAccepted (answerTo S day u t (Action.At p a) v) ≡ true → (t ≤ lastDay) × (1 ≤ p) × (p ≤ 32)
 unfolding rows accepted
 accepted-point S day u t p a v ok =
-    let w = passed S day u t (At p a) v ok in
+    let w = passed S day u t (Action.At p a) v ok in
     let k = neither (ltb p 1) (ltb 32 p) (names-point S u t p a (v p) (w .rest)) in
     (w .calendar, ltb-false p 1 (k .0), ltb-false 32 p (k .1))

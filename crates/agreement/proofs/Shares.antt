@@ -19,9 +19,9 @@ use native.Mathlib.Nat.{
   le-trans,
 }
 use borrow.Author.Tests.{lt-ltb, le-ltb, le-leb, lt-leb}
-use Rattle.rules.specs.declared.Span.{Span}
+use Rattle.rules.specs.declared.{Span.Span}
 use Rattle.rules.specs.Volumes.{upTo, share, dayVolume, volume, registered}
 use Rattle.rules.specs.Register.{sharesBefore}
 
 -- what is booked before gas day d
 abbrev pub given : Span → ℕ → ℕ

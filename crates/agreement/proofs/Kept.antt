@@ -2,41 +2,20 @@
 use mathlib.Core.Path.{_≡_, refl, sym, _∙_, ap, subst}
 use mathlib.Core.Bool.{Bool, true, false, cond, not, _&&_, _||_, false≢true}
 use mathlib.Core.List.{List, [], _∷_}
-use Prim.Native.Nat.{ℕ, zero, suc, _+_, _-_, _*_, _^_, _≤_, _<_, min, max}
+use Prim.Native.Nat.{ℕ, zero, suc, _+_, _-_, _*_, _≤_, _<_, min, max}
 use native.Mathlib.Omega.{arith}
 use native.Mathlib.Nat.{pow-le-pow-right, mul-le-mul-right, le-trans}
 use lib.Dec.{eqb, leb, ltb}
 use lib.Pow.{pow-add}
 use borrow.Author.Tests.{eqb-true, eqb-false, leb-false, ltb-true, ltb-false, not-false}
-use Rattle.rules.specs.declared.Fields.{Fields}
-use Rattle.rules.specs.declared.Settings.{Settings}
-use Rattle.rules.specs.declared.Supply.{Supply}
-use Rattle.rules.specs.declared.SupplyKind.{SupplyKind}
-use Rattle.rules.specs.declared.SupplyKind.the-variants.{None, Contract, Default, LastResort}
-use Rattle.rules.specs.declared.Pending.{Pending}
-use Rattle.rules.specs.declared.Pending.the-variants.{Nothing, Request}
-use Rattle.rules.specs.declared.Meter.{Meter}
-use Rattle.rules.specs.declared.Action.{Action}
-use Rattle.rules.specs.declared.Action.the-variants.{SignContract, Failure, At, Day}
-use Rattle.rules.specs.declared.PointAction.{PointAction}
-use Rattle.rules.specs.declared.PointAction.the-variants.{
-  Enrol,
-  IntoService,
-  DefaultSupply,
-  AskSwitch,
-  Cancel,
-  Read,
-  ChangeMeter,
-  OutOfService,
-  Suspend,
-}
-use Rattle.rules.specs.declared.Answer.{Answer}
-use Rattle.rules.specs.declared.Answer.the-variants.{RefusedUntil}
+use Rattle.rules.specs.declared.{Fields.Fields, Settings.Settings, Supply.Supply, SupplyKind.SupplyKind}
+use Rattle.rules.specs.declared.{Pending.Pending, Meter.Meter, Action.Action, PointAction.PointAction}
+use Rattle.rules.specs.declared.{Answer.Answer}
 use Rattle.rules.specs.Fields.{supply, meter, reading, fields, withSupply, withPending, unsupplied}
 use Rattle.rules.specs.Effects.{Effect, keep, name, fieldsOf, notice, effectiveDay, effectOf, failed, effect, dropped}
 use Rattle.rules.specs.Volumes.{fullTurn, unitOf, advanceOf, spanTo, registered, spansOf, spans}
 use Rattle.rules.specs.Answers.{isAccepted}
 use Rattle.rules.specs.Rejections.{
   View,
   Row,
   firstOf,
@@ -62,10 +41,10 @@ use Rattle.rules.specs.Rejections.{
   acceptedAt,
   accepted,
 }
 use Rattle.rules.specs.DayBook.{enrolsAt, enrols}
 use Rattle.rules.proofs.Accept.{pass, neither}
-use Rattle.rules.proofs.Theorem.Jump.{Ahead, PendingAhead}
-use Rattle.rules.proofs.Theorem.Good.{
+use Rattle.agreement.proofs.Jump.{PendingAhead}
+use Rattle.agreement.proofs.Good.{
   perDay,
   Wheels,
   Fine,
@@ -81,14 +60,14 @@ use Rattle.rules.proofs.Theorem.Good.{
 pass-near : (t : ℕ) (k : SupplyKind) (rs : List Row) (a : Answer) → isAccepted (firstOf (lastResortNear t k ∷ rs) a) ≡ true
     → isAccepted (firstOf rs a) ≡ true
 unfolding firstOf
-pass-near t None rs a h = h
-pass-near t Contract rs a h = h
-pass-near t (Default d) rs a h = go (leb d (t + notice)) h
+pass-near t SupplyKind.None rs a h = h
+pass-near t SupplyKind.Contract rs a h = h
+pass-near t (SupplyKind.Default d) rs a h = go (leb d (t + notice)) h
   where
-    go : (b : Bool) → isAccepted (cond b (RefusedUntil d) (firstOf rs a)) ≡ true → isAccepted (firstOf rs a) ≡ true
+    go : (b : Bool) → isAccepted (cond b (Answer.RefusedUntil d) (firstOf rs a)) ≡ true → isAccepted (firstOf rs a) ≡ true
     go true z = absurd (false≢true z)
     go false z = z
-pass-near t (LastResort d) rs a h = h
+pass-near t (SupplyKind.LastResort d) rs a h = h
 
 is-enrolled : (p : ℕ) (v : View) → notEnrolled p v ≡ false → v .fields .enrolled ≡ true
 is-enrolled p v h = not-false _ (neither (notPoint p) _ h .1)
@@ -119,18 +98,18 @@ span-most f d x z w m i =
     (turn-unit (f .meter) w)
 
 pending-dropped : (t s : ℕ) (q : Pending) → PendingAhead t q → PendingAhead t (dropped s q)
-pending-dropped t s Nothing h = tt
-pending-dropped t s (Request q e) h = go (eqb q s)
+pending-dropped t s Pending.Nothing h = tt
+pending-dropped t s (Pending.Request q e) h = go (eqb q s)
   where
-    go : (b : Bool) → PendingAhead t (cond b Nothing (Request q e))
+    go : (b : Bool) → PendingAhead t (cond b Pending.Nothing (Pending.Request q e))
     go true = tt
     go false = h
 
 due-dropped : (s : ℕ) (q : Pending) → pendingDue (dropped s q) ≤ pendingDue q
-due-dropped s Nothing = omega arith
-due-dropped s (Request q e) = go (eqb q s)
+due-dropped s Pending.Nothing = omega arith
+due-dropped s (Pending.Request q e) = go (eqb q s)
   where
-    go : (b : Bool) → pendingDue (cond b Nothing (Request q e)) ≤ 1
+    go : (b : Bool) → pendingDue (cond b Pending.Nothing (Pending.Request q e)) ≤ 1
     go true = omega arith
     go false = omega arith
 
@@ -141,7 +120,8 @@ module _ (S : Settings) (A : 0 < S .a) (B : 0 < S .b) (u : List Bool) (t : ℕ) 
     not-full e f = ltb-false 24 (marksAfter v e + due (fieldsOf e .supply)) f
 
     -- a pending request comes or goes
-    asks : v .fields .enrolled ≡ true → (q : Pending) → PendingAhead t q → marksAfter v (keep (withPending (v .fields) q)) + due (withPending (v .fields) q .supply) ≤ 24
+    asks : v .fields .enrolled ≡ true → (q : Pending) → PendingAhead t q →
+        marksAfter v (keep (withPending (v .fields) q)) + due (withPending (v .fields) q .supply) ≤ 24
         → Good t v (keep (withPending (v .fields) q)) [] []
     asks y q a f =
         unread t v h (keep (withPending (v .fields) q)) [] refl refl (record { kind = h .ahead .kind; pending = a }) refl (refl, refl) f
@@ -173,7 +153,7 @@ module _ (S : Settings) (A : 0 < S .a) (B : 0 < S .b) (u : List Bool) (t : ℕ) 
     at-good : (p : ℕ) (a : PointAction) → outOfRangeAt a ≡ false → isAccepted (firstOf (rowsAt S u t p a v) (acceptedAt t a)) ≡ true
         → Good t v (effectOf S t a (v .fields)) (spansOf t a (v .fields)) (cond (enrolsAt a) (t ∷ []) [])
     unfolding effectOf spansOf rowsAt outOfRangeAt enrolsAt registered effectiveDay
-    at-good p (Enrol b a x) bad ok =
+    at-good p (PointAction.Enrol b a x) bad ok =
         let k = pass _ _ _ _ (pass _ _ _ _ ok .1) in
         let w = neither (outside 1 8 b) (outside 0 3 a) bad in
         let z = h .blank (k .0) in
@@ -190,26 +170,26 @@ module _ (S : Settings) (A : 0 < S .a) (B : 0 < S .b) (u : List Bool) (t : ℕ) 
           fit = omega (arith, z .0, marks-most v (name (v .fields)));
           blank = not-blank refl;
         }
-    at-good p (IntoService s k) bad ok =
+    at-good p (PointAction.IntoService s k) bad ok =
         let b = pass _ _ _ _ (pass _ _ _ _ ok .1) in
         naming t v h (is-enrolled p v (b .0)) _ refl refl refl (record { kind = tt; pending = h .ahead .pending })
-        (not-full (effectOf S t (IntoService s k) (v .fields)) (pass _ _ _ _ (pass _ _ _ _ (b .1) .1) .0))
-    at-good p (DefaultSupply k) bad ok =
+        (not-full (effectOf S t (PointAction.IntoService s k) (v .fields)) (pass _ _ _ _ (pass _ _ _ _ (b .1) .1) .0))
+    at-good p (PointAction.DefaultSupply k) bad ok =
         let b = pass _ _ _ _ ok in
         naming t v h (is-enrolled p v (b .0)) _ refl refl refl (record { kind = omega arith; pending = h .ahead .pending })
-        (not-full (effectOf S t (DefaultSupply k) (v .fields)) (pass _ _ _ _ (pass _ _ _ _ (b .1) .1) .0))
-    at-good p (AskSwitch s k r) bad ok =
+        (not-full (effectOf S t (PointAction.DefaultSupply k) (v .fields)) (pass _ _ _ _ (pass _ _ _ _ (b .1) .1) .0))
+    at-good p (PointAction.AskSwitch s k r) bad ok =
         let b = pass _ _ _ _ (pass _ _ _ _ ok .1) in
         let f = pass _ _ _ _ (pass _ _ _ _ (pass _ _ _ _ (pass _ _ _ _ (pass _ _ _ _ (b .1) .1) .1) .1) .1) in
-        asks (is-enrolled p v (b .0)) (Request s (max r (t + notice))) (omega arith)
-        (not-full (effectOf S t (AskSwitch s k r) (v .fields)) (pass _ _ _ _ (pass-near t (v .fields .supply .kind) _ _ (f .1)) .0))
-    at-good p (Cancel s) bad ok =
-        asks (is-enrolled p v (pass _ _ _ _ ok .0)) Nothing tt (omega (arith, h .fit))
-    at-good p (Read d x z) bad ok =
+        asks (is-enrolled p v (b .0)) (Pending.Request s (max r (t + notice))) (omega arith)
+        (not-full (effectOf S t (PointAction.AskSwitch s k r) (v .fields)) (pass _ _ _ _ (pass-near t (v .fields .supply .kind) _ _ (f .1)) .0))
+    at-good p (PointAction.Cancel s) bad ok =
+        asks (is-enrolled p v (pass _ _ _ _ ok .0)) Pending.Nothing tt (omega (arith, h .fit))
+    at-good p (PointAction.Read d x z) bad ok =
         let k = pass _ _ _ _ ok in
         let l = pass _ _ _ _ (k .1) in
         reads (is-enrolled p v (k .0)) d x z _ refl refl refl (h .wheels) (l .0) bad (pass _ _ _ _ (l .1) .0)
-    at-good p (ChangeMeter x z b a y) bad ok =
+    at-good p (PointAction.ChangeMeter x z b a y) bad ok =
         let k = pass _ _ _ _ ok in
         let l = pass _ _ _ _ (k .1) in
         let n = neither (notMark z) (notWheels b a) bad in
@@ -218,11 +198,11 @@ module _ (S : Settings) (A : 0 < S .a) (B : 0 < S .b) (u : List Bool) (t : ℕ) 
         reads (is-enrolled p v (k .0)) t x z _ refl refl refl
         (ltb-false 8 b (neither (ltb b 1) (ltb 8 b) (w .0) .1), ltb-false 3 a (neither (ltb a 0) (ltb 3 a) (w .1) .1))
         (l .0) (n .0) (i .0)
-    at-good p OutOfService bad ok =
+    at-good p PointAction.OutOfService bad ok =
         let b = pass _ _ _ _ ok in
         naming t v h (is-enrolled p v (b .0)) _ refl refl refl (record { kind = tt; pending = tt })
-        (not-full (effectOf S t OutOfService (v .fields)) (pass _ _ _ _ (pass _ _ _ _ (b .1) .1) .0))
-    at-good p (Suspend m) bad ok = unchanged t v h _ refl refl refl refl
+        (not-full (effectOf S t PointAction.OutOfService (v .fields)) (pass _ _ _ _ (pass _ _ _ _ (b .1) .1) .0))
+    at-good p (PointAction.Suspend m) bad ok = unchanged t v h _ refl refl refl refl
 
     -- a failure, at any point
     holder-enrolled : (s : ℕ) → 0 < s → v .fields .supply .holder ≡ s → v .fields .enrolled ≡ true
@@ -239,16 +219,16 @@ module _ (S : Settings) (A : 0 < S .a) (B : 0 < S .b) (u : List Bool) (t : ℕ) 
       where
         go : (b : Bool) → eqb (v .fields .supply .holder) s ≡ b
             → ((b || isBy s (v .fields .supply .pending)) && isFull v (cond b
-            (name (withSupply (v .fields) (supply (S .resort) (LastResort (t + S .b)) (dropped s (v .fields .supply .pending)))))
+            (name (withSupply (v .fields) (supply (S .resort) (SupplyKind.LastResort (t + S .b)) (dropped s (v .fields .supply .pending)))))
             (keep (withPending (v .fields) (dropped s (v .fields .supply .pending)))))) ≡ false
             → Good t v (cond b
-            (name (withSupply (v .fields) (supply (S .resort) (LastResort (t + S .b)) (dropped s (v .fields .supply .pending)))))
+            (name (withSupply (v .fields) (supply (S .resort) (SupplyKind.LastResort (t + S .b)) (dropped s (v .fields .supply .pending)))))
             (keep (withPending (v .fields) (dropped s (v .fields .supply .pending))))) [] []
         go true e k =
             naming t v h (holder-enrolled s lo (eqb-true _ _ e))
-            (withSupply (v .fields) (supply (S .resort) (LastResort (t + S .b)) (dropped s (v .fields .supply .pending)))) refl refl refl
+            (withSupply (v .fields) (supply (S .resort) (SupplyKind.LastResort (t + S .b)) (dropped s (v .fields .supply .pending)))) refl refl refl
             (record { kind = omega arith; pending = pending-dropped t s (v .fields .supply .pending) (h .ahead .pending) })
-            (not-full (name (withSupply (v .fields) (supply (S .resort) (LastResort (t + S .b)) (dropped s (v .fields .supply .pending))))) k)
+            (not-full (name (withSupply (v .fields) (supply (S .resort) (SupplyKind.LastResort (t + S .b)) (dropped s (v .fields .supply .pending))))) k)
         go false e k =
             unread t v h (keep (withPending (v .fields) (dropped s (v .fields .supply .pending)))) [] refl refl
             (record { kind = h .ahead .kind; pending = pending-dropped t s (v .fields .supply .pending) (h .ahead .pending) }) refl (refl, refl)
@@ -269,16 +249,16 @@ module _ (S : Settings) (A : 0 < S .a) (B : 0 < S .b) (u : List Bool) (t : ℕ) 
       → isAccepted (firstOf (rows S u t c v) (accepted t c)) ≡ true
       → Good t (v p) (effect S t c p (v p .fields)) (spans t c p (v p .fields)) (cond (enrols c p) (t ∷ []) [])
   unfolding effect spans rows accepted outOfRange enrols
-  call-good v p lo hi h (SignContract s) bad ok = unchanged t (v p) h (v p .fields) refl refl refl refl
-  call-good v p lo hi h (Failure s) bad ok =
+  call-good v p lo hi h (Action.SignContract s) bad ok = unchanged t (v p) h (v p .fields) refl refl refl refl
+  call-good v p lo hi h (Action.Failure s) bad ok =
       failed-good (v p) h s (ltb-false s 1 (neither (ltb s 1) (ltb 99 s) bad .0))
       (any-none 32 1 (λ q. touches s (v q .fields) && isFull (v q) (failed S t s (v q .fields)))
       (pass _ _ _ _ (pass _ _ _ _ (pass _ _ _ _ ok .1) .1) .0) p lo (omega arith))
-  call-good v p lo hi h (At q a) bad ok = go (eqb p q) refl
+  call-good v p lo hi h (Action.At q a) bad ok = go (eqb p q) refl
     where
       go : (b : Bool) → eqb p q ≡ b
           → Good t (v p) (cond b (effectOf S t a (v p .fields)) (keep (v p .fields))) (cond b (spansOf t a (v p .fields)) [])
           (cond (cond b (enrolsAt a) false) (t ∷ []) [])
       go true e = at-good (v p) h q a bad (rw (eqb-true p q e) ok)
       go false e = unchanged t (v p) h (v p .fields) refl refl refl refl
-  call-good v p lo hi h Day bad ok = unchanged t (v p) h (v p .fields) refl refl refl refl
+  call-good v p lo hi h Action.Day bad ok = unchanged t (v p) h (v p .fields) refl refl refl refl

@@ -2,30 +2,20 @@
 use mathlib.Core.Path.{_≡_, refl, sym, _∙_, ap}
 use mathlib.Core.Bool.{Bool, true, false}
 use mathlib.Core.List.{List, [], _∷_}
-use Prim.Native.Nat.{ℕ, suc, _+_, _^_, _≤_, min}
+use Prim.Native.Nat.{ℕ, _+_, _^_, _≤_}
 use native.Mathlib.Omega.{arith}
-use lib.ListN.{length, take}
-use Rattle.rules.specs.declared.Fields.{Fields}
-use Rattle.rules.specs.declared.Meter.{Meter}
-use Rattle.rules.specs.declared.Point.{Point}
-use Rattle.rules.specs.declared.Span.{Span}
+use lib.ListN.{take}
+use Rattle.rules.specs.declared.{Meter.Meter, Point.Point, Span.Span}
 use Rattle.rules.specs.Volumes.{fullTurn, volume}
-use Rattle.rules.specs.Rejections.{due}
 use Rattle.rules.specs.DayBook.{Page}
-use Rattle.rules.specs.Demand3.{DayBookAgrees, Demand3, PointAgrees, startsOf}
-use Rattle.rules.proofs.Tally.{tally-length, oldest}
-use Rattle.rules.proofs.Slots.{listed, length-listed}
-use Rattle.rules.proofs.Theorem.Cover.{starts-read, volumes-read, total-read, first-read, first-read-none, covered-read}
-use Rattle.rules.proofs.Theorem.Good.{Wheels}
-use Rattle.rules.proofs.Tied.{Tied, Since}
-use Rattle.rules.proofs.Step.{Agree}
-use Rattle.rules.proofs.Run.{run-settings, run-agrees, run-answers}
-pub mod Jump
-pub mod Good
-pub mod Kept
-pub mod Answered
-pub mod Days
-pub mod Cover
+use Rattle.rules.specs.Periods.{startsOf}
+use Rattle.agreement.specs.Demand3.{PointAgrees, DayBookAgrees}
+use Rattle.agreement.proofs.Tally.{tally-length, oldest}
+use Rattle.agreement.proofs.Slots.{listed, length-listed}
+use Rattle.agreement.proofs.Cover.{starts-read, volumes-read, total-read, first-read, first-read-none, covered-read}
+use Rattle.agreement.proofs.Good.{Wheels}
+use Rattle.agreement.proofs.Tied.{Tied}
+use Rattle.agreement.proofs.Run.{run-settings, run-agrees, run-answers}
 
 turn-exact : (m : Meter) → Wheels m → fullTurn m ≡ 10 ^ (m .before + m .after)
 unfolding fullTurn

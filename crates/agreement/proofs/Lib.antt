@@ -1,0 +1,12 @@
+pub mod Shares
+pub mod Tally
+pub mod Slots
+pub mod Jump
+pub mod Good
+pub mod Kept
+pub mod Tied
+pub mod Days
+pub mod Step
+pub mod Run
+pub mod Cover
+pub mod Theorem

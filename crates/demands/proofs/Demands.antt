@@ -1,0 +1,36 @@
+-- The end statements, each by its theorem.
+use Rattle.dates.proofs.OneToOne.{one-to-one}
+use Rattle.rules.proofs.Examples.{p-examples}
+use Rattle.rules.proofs.RowExamples.{row-examples}
+use Rattle.agreement.proofs.Theorem.{day-book-agrees}
+use Rattle.questions.proofs.Asking.{asking}
+use Rattle.reading.proofs.OneText.{one-text}
+use Rattle.message.proofs.OneLine.{one-line}
+use Rattle.input.proofs.LineLaws.{lines-are}
+use Rattle.desk.proofs.Tabled.{every-answer-tabled}
+use Rattle.listing.proofs.ByBook.{listing-by-book}
+use Rattle.transcript.proofs.Served.{transcript-served, every-feed-goes-on}
+use Rattle.transcript.proofs.Told.{every-input, every-output, every-desk}
+use Rattle.transcript.proofs.Examples.{transcript-examples}
+use Rattle.demands.specs.Demands.{Demands}
+
+pub demands : Demands
+demands =
+    record {
+      days-and-dates = one-to-one;
+      dated-examples = p-examples;
+      row-examples = row-examples;
+      answers-tabled = every-answer-tabled;
+      one-text = one-text;
+      one-line = one-line;
+      day-book-agrees = day-book-agrees;
+      questions = asking;
+      closing-lines = listing-by-book;
+      lines = lines-are;
+      transcript = transcript-served;
+      every-input = every-input;
+      every-output = every-output;
+      every-desk = every-desk;
+      feeds-go-on = every-feed-goes-on;
+      whole-inputs = transcript-examples;
+    }

@@ -1,0 +1,43 @@
+-- What is proved, on one page: the end statements, each in the words of its own file. `demands` of proofs/ proves
+-- them all. The contracts of the code, one equation for each public function, stand with the code. Definitions only.
+use Prim.Native.Nat.{ℕ}
+use mathlib.Core.List.{List}
+use Rattle.dates.specs.OneToOne.{OneToOne}
+use Rattle.rules.specs.Examples.{PExamples}
+use Rattle.rules.specs.RowExamples.{RowExamples}
+use Rattle.agreement.specs.Demand3.{DayBookAgrees}
+use Rattle.questions.specs.Asking.{Asking}
+use Rattle.reading.specs.OneText.{OneText}
+use Rattle.message.specs.OneLine.{OneLine}
+use Rattle.input.specs.Laws.{LinesAre}
+use Rattle.desk.specs.Table.{EveryAnswerTabled}
+use Rattle.listing.specs.ByBook.{ListingByBook}
+use Rattle.transcript.specs.Transcript.{TranscriptServed, EveryFeedGoesOn, EveryInput, EveryOutput, EveryDesk}
+use Rattle.transcript.specs.Examples.{TranscriptExamples}
+
+pub record Demands : Type 0 where
+  -- The calendar: days and dates, one to one.
+  pub days-and-dates : OneToOne
+  -- The rules beside document 01: its dated examples; for each number a case where it is given and one just beside.
+  pub dated-examples : PExamples
+  pub row-examples : RowExamples
+  -- Demand 1: every answer is accepted or one number of the table, number 8 with its day.
+  pub answers-tabled : EveryAnswerTabled
+  -- Demand 2: numbers and dates have one text each; each call and each opening has exactly one line, which reads as
+  -- it, and every other line is refused.
+  pub one-text : OneText
+  pub one-line : OneLine
+  -- Demand 3: for every list of the calls from a newly opened register the register is what the day book says.
+  pub day-book-agrees : DayBookAgrees
+  -- And so are its questions and its closing lines.
+  pub questions : Asking
+  pub closing-lines : ListingByBook
+  -- The programs: the lines of an input; what is handed on for them however the input is cut, which is the day
+  -- book's; the desk that `ask` asks; and that handing in the rest again and again takes all of it.
+  pub lines : (input : List ℕ) → LinesAre input
+  pub transcript : TranscriptServed
+  pub every-input : EveryInput
+  pub every-output : EveryOutput
+  pub every-desk : EveryDesk
+  pub feeds-go-on : EveryFeedGoesOn
+  pub whole-inputs : TranscriptExamples

@@ -13,5 +13,4 @@ returns c =
     rw (c .row3 .ensures, r20 .row2 .ensures, r22 .row .ensures) (folded _ _ refl refl)
 
 pub first-rows-spec : {M : Type 1} → statement M
-first-rows-spec =
-    tie.close (tie.spec (λ c κs. search needs) (λ c κs. search needs) (λ c κs. search needs) returns)
+first-rows-spec = tie.close (tie.spec (λ c κs. search needs) (λ c κs. search needs) (λ c κs. search needs) returns)

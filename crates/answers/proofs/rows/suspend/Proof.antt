@@ -5,11 +5,7 @@ use Rattle.answers.proofs.Folded.{through, allRefuse, folded}
 use Rattle.answers.proofs.rows.suspend.Statement.{statement}
 use Rattle.answers.proofs.rows.suspend.Tie as tie
 
-returns : tie.Need-returns
-unfolding through allRefuse
-returns c =
-    rw (c .row .ensures, c .before .not-enrolled .ensures) (folded _ _ refl refl)
-
 pub suspend-spec : {M : Type 1} → statement M
 suspend-spec =
-    tie.close (tie.spec (λ c κs. search needs) (λ c κs. search needs) returns)
+    tie.close (tie.spec (λ c κs. search needs) (λ c κs. search needs)
+    (λ c. unfold through allRefuse in rw (c .row .ensures, c .before .not-enrolled .ensures) (folded _ _ refl refl)))

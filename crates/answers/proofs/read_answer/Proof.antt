@@ -1,9 +1,10 @@
 -- A reading: 22, 20 and 21 first, then its rows.
+use mathlib.Core.Path.{_≡_}
 use native.Mathlib.Omega.{arith}
 use lib.Dec.{ltb}
 use borrow.Author.Needs.{needs}
 use borrow.Author.Tests.{ltb-false}
-use Rattle.rules.specs.Rejections.{answerTo, firstOf, outOfRange, outOfRangeAt, offCalendar, offCalendarAt, rows, rowsAt, accepted, acceptedAt}
+use Rattle.rules.specs.Rejections.{answerTo, firstOf, outside, outOfRange, outOfRangeAt, offCalendar, offCalendarAt, rows, rowsAt, accepted, acceptedAt}
 use Rattle.answers.specs.Ruling.{readAnswer}
 use Rattle.answers.proofs.Within.{cleared, barred, on-calendar}
 use Rattle.answers.proofs.read_answer.Statement.{statement}
@@ -30,7 +31,8 @@ returns c =
     let x = s .before .before .before .args in
     let ok = cleared (s .before .outside .result) (s .before .before .or .result) (ltb (x .today) (x .day)) in
     let k = ok _ _ (s .first-rows .ensures) (c .before .before .is-accepted .ensures) (c .before .if1 .taken) in
-    rw (← (s .before .outside .ensures), k .0, ← (s .before .before .or .ensures), k .1, k .2) (c .read .ensures)
+    let mark : s .before .outside .result ≡ outside 0 1 (x .z) = s .before .outside .ensures in
+    rw (← mark, k .0, ← (s .before .before .or .ensures), k .1, k .2) (c .read .ensures)
 
 returns-2 : tie.Need-returns-2
 unfolding readAnswer answerTo outOfRange outOfRangeAt offCalendar offCalendarAt rows accepted

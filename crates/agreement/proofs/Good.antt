@@ -14,7 +14,8 @@ use Rattle.rules.specs.declared.{Pending.Pending, Meter.Meter, Reading.Reading,
 use Rattle.rules.specs.Fields.{supply, fields, withSupply, unsupplied}
 use Rattle.rules.specs.Effects.{Effect, keep, name, fieldsOf, event, pendingEvent, deadlineEvent}
 use Rattle.rules.specs.Volumes.{registered}
-use Rattle.rules.specs.Rejections.{View, due, marksAfter}
+use Rattle.rules.specs.declared.{View.View}
+use Rattle.rules.specs.Rejections.{due, marksAfter}
 use Rattle.agreement.proofs.Shares.{All}
 use Rattle.agreement.proofs.Jump.{Ahead, KindAhead, PendingAhead}
 

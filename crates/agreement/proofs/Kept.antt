@@ -15,8 +15,8 @@ use Rattle.rules.specs.Fields.{supply, meter, reading, fields, withSupply, with
 use Rattle.rules.specs.Effects.{Effect, keep, name, fieldsOf, notice, effectiveDay, effectOf, failed, effect, dropped}
 use Rattle.rules.specs.Volumes.{fullTurn, unitOf, advanceOf, spanTo, registered, spansOf, spans}
 use Rattle.rules.specs.Answers.{isAccepted}
+use Rattle.rules.specs.declared.{View.View}
 use Rattle.rules.specs.Rejections.{
-  View,
   Row,
   firstOf,
   due,

@@ -14,7 +14,8 @@ use Rattle.rules.specs.declared.{Call.Call, Action.Action}
 use Rattle.rules.specs.Effects.{Effect, keep, effectOf, effect}
 use Rattle.rules.specs.Volumes.{spansOf, spans}
 use Rattle.rules.specs.Answers.{isAccepted}
-use Rattle.rules.specs.Rejections.{View, firstOf, rows, accepted, shown, answer}
+use Rattle.rules.specs.declared.{View.View}
+use Rattle.rules.specs.Rejections.{firstOf, rows, accepted, shown, answer}
 use Rattle.rules.specs.Register
 use Rattle.rules.specs.Register.{
   entered,

@@ -1,2 +1,3 @@
-pub mod Within
+pub mod Folded
 pub mod Readings
+pub mod Within

@@ -3,20 +3,16 @@ use mathlib.Core.Path.{_≡_, refl}
 use mathlib.Core.Bool.{Bool, true, false, false≢true}
 use mathlib.Core.List.{List, [], _∷_}
 use Prim.Native.Nat.{ℕ}
-use Rattle.rules.specs.declared.{Fields.Fields, Point.Point, Settings.Settings, PointAction.PointAction}
+use Rattle.rules.specs.declared.{Fields.Fields, View.View, Settings.Settings, PointAction.PointAction}
 use Rattle.rules.specs.declared.{Answer.Answer}
 use Rattle.rules.specs.Answers.{isAccepted}
 use Rattle.rules.specs.Rejections.{Row, _⇒_, firstOf, answerTo, outOfRange, outOfRangeAt, offCalendar, offCalendarAt, rows, rowsAt, accepted, acceptedAt}
-use Rattle.answers.specs.Ruling.{answerAt, rulingAt, readRuling, readAnswer}
+use Rattle.answers.specs.Ruling.{answerAt, readAnswer}
 
-module _ (S : Settings) (u : List Bool) (t p d x z : ℕ) (g : Point) where
-  pub read-ruling : rulingAt S u t p (PointAction.Read d x z) g ≡ readRuling t p d x z (g .fields)
-  unfolding rulingAt rowsAt acceptedAt
-  read-ruling = refl
-
-  pub read-answer : (day : ℕ) → answerAt S day u t p (PointAction.Read d x z) g ≡ readAnswer day t p d x z (g .fields)
-  unfolding readAnswer answerTo outOfRange outOfRangeAt offCalendar offCalendarAt rows rowsAt accepted acceptedAt
-  read-answer day = refl
+pub read-answer : (S : Settings) (day : ℕ) (u : List Bool) (t p d x z : ℕ) (v : View)
+    → answerAt S day u t p (PointAction.Read d x z) v ≡ readAnswer day t p d x z (v .fields)
+unfolding readAnswer answerTo outOfRange outOfRangeAt offCalendar offCalendarAt rows rowsAt accepted acceptedAt
+read-answer S day u t p d x z v = refl
 
 -- accepted, it carries no day
 abbrev Plain : List Row → Type 0

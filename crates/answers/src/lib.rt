@@ -2,21 +2,24 @@
 mod ranges;
 mod rows;
 
+use checks::is_accepted;
 use checks::outside;
 use dates::LAST_DAY;
-use ranges::off_calendar_at;
+use ranges::off_calendar;
+use ranges::or;
 use ranges::out_of_range_at;
-use rows::read_rows;
+use rows::first_rows;
+use rows::read;
 use rows::ruling_at;
 use rules::Answer;
 use rules::Fields;
-use rules::Point;
 use rules::PointAction;
 use rules::Settings;
+use rules::View;
 ghost use mathlib.Core.Path.{_≡_};
 ghost use Rattle.answers.specs.Ruling.{answerAt, readAnswer};
 
-// The answer to a call that names point p, which is g, brought up to today: 22, 20 and 21 first, then the rows.
+// The answer to a call that names point p, of which the checks see v: 22, 20 and 21 first, then the rows of the call.
 pub fn answer_at(
     set: Settings,
     day: u32,
@@ -24,42 +27,26 @@ pub fn answer_at(
     today: u64,
     p: u64,
     a: PointAction,
-    g: Point,
+    v: View,
 ) -> Answer
-    ensures { λ r. ⌜ r ≡ answerAt set day contracts today p a g ⌝ }
+    ensures { λ r. ⌜ r ≡ answerAt set day contracts today p a v ⌝ }
 {
-    if out_of_range_at(a) {
-        return Answer::Refused(22);
+    let off = off_calendar(set, today, a);
+    let first = first_rows(out_of_range_at(a), off, today < day as u64);
+    if is_accepted(first) {
+        return ruling_at(set, contracts, today as u32, p, a, v);
     }
-    if today > LAST_DAY as u64 {
-        return Answer::Refused(20);
-    }
-    let t = today as u32;
-    if off_calendar_at(set, t, a) {
-        return Answer::Refused(20);
-    }
-    if t < day {
-        return Answer::Refused(21);
-    }
-    ruling_at(set, contracts, t, p, a, g)
+    first
 }
 
 // The answer to a reading: it looks at the point's fields alone.
 pub fn read_answer(day: u32, today: u64, p: u64, d: u64, x: u64, z: u64, f: Fields) -> Answer
     ensures { λ r. ⌜ r ≡ readAnswer day today p d x z f ⌝ }
 {
-    if outside(0, 1, z) {
-        return Answer::Refused(22);
+    let off = or(today > LAST_DAY as u64, d > LAST_DAY as u64);
+    let first = first_rows(outside(0, 1, z), off, today < day as u64);
+    if is_accepted(first) {
+        return read(today as u32, p, d, x, z, f);
     }
-    if today > LAST_DAY as u64 {
-        return Answer::Refused(20);
-    }
-    let t = today as u32;
-    if (LAST_DAY as u64) < d {
-        return Answer::Refused(20);
-    }
-    if t < day {
-        return Answer::Refused(21);
-    }
-    read_rows(t, p, d, x, z, f)
+    first
 }

@@ -1,16 +1,20 @@
 // The first rows of the table: ranges, the calendar, contracts and points.
 use checks::outside;
 use dates::LAST_DAY;
+use holidays::working_days;
+use periods::less;
 use rules::Pending;
 use rules::PointAction;
 use rules::Settings;
 ghost use mathlib.Core.Path.{_≡_};
 ghost use mathlib.Core.Bool.{false, not, _||_};
 ghost use Prim.Native.Nat.{_≤_};
+ghost use lib.Dec.{ltb};
 ghost use lib.ListN.{getD};
-ghost use Rattle.rules.specs.Rejections.{notPoint, notWheels, outOfRangeAt, offCalendarAt, isPending};
+ghost use Rattle.dates.specs.Dates.{lastDay};
+ghost use Rattle.rules.specs.Rejections.{notPoint, notWheels, outOfRangeAt, offCalendarAt, isPending, isBy, tooLate};
 
-fn or(a: bool, b: bool) -> bool
+pub(crate) fn or(a: bool, b: bool) -> bool
     ensures { λ r. ⌜ r ≡ (a || b) ⌝ }
 {
     if a {
@@ -64,8 +68,8 @@ pub(crate) fn out_of_range_at(a: PointAction) -> bool
     }
 }
 
-// 20: a day past the calendar's end.
-pub(crate) fn off_calendar_at(set: Settings, t: u32, a: PointAction) -> bool
+// 20, but for today: a day past the calendar's end.
+fn off_calendar_at(set: Settings, t: u32, a: PointAction) -> bool
     requires { ⌜ t ≤ 73048 ⌝ }
     ensures { λ r. ⌜ r ≡ offCalendarAt set t a ⌝ }
 {
@@ -103,6 +107,16 @@ pub(crate) fn off_calendar_at(set: Settings, t: u32, a: PointAction) -> bool
     }
 }
 
+// 20: today or a day that the call gives or sets is past the calendar's end.
+pub(crate) fn off_calendar(set: Settings, today: u64, a: PointAction) -> bool
+    ensures { λ r. ⌜ r ≡ (ltb lastDay today || offCalendarAt set today a) ⌝ }
+{
+    if today > LAST_DAY as u64 {
+        return true;
+    }
+    off_calendar_at(set, today as u32, a)
+}
+
 // 1: s is not under contract.
 pub(crate) fn no_contract(contracts: [bool; 100], s: u64) -> bool
     requires { ⌜ s ≤ 99 ⌝ }
@@ -127,4 +141,25 @@ pub(crate) fn is_pending(q: Pending) -> bool
         Pending::Nothing => false,
         Pending::Request(_, _) => true,
     }
+}
+
+// 25: the pending request is by s.
+pub(crate) fn is_by(s: u64, q: Pending) -> bool
+    ensures { λ r. ⌜ r ≡ isBy s q ⌝ }
+{
+    match q {
+        Pending::Nothing => false,
+        Pending::Request(by, _) => by as u64 == s,
+    }
+}
+
+// 26: fewer than W working days lie after today and before e.
+pub(crate) fn too_late(set: Settings, t: u32, q: Pending) -> bool
+    ensures { λ r. ⌜ r ≡ tooLate set t q ⌝ }
+{
+    let Pending::Request(_, e) = q else {
+        return false;
+    };
+    let last = less(e as u64, 1);
+    working_days(t as u64 + 1, last) < set.w as u32
 }

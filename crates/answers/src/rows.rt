@@ -1,262 +1,211 @@
-// The answers to the calls that name a point: the first row of the table that applies.
+// The answers to the calls that name a point: for each the rows of the table, the first that applies.
+use crate::ranges::is_by;
 use crate::ranges::is_pending;
 use crate::ranges::no_contract;
 use crate::ranges::not_enrolled;
+use crate::ranges::or;
+use crate::ranges::too_late;
 use checks::bad_day;
 use checks::effective_day;
 use checks::full_turn;
 use checks::index_disagrees;
-use checks::is_full_kept;
-use checks::is_full_named;
+use checks::is_accepted;
+use checks::is_full;
 use checks::out_of_time;
 use checks::outside;
-use holidays::working_days;
-use periods::less;
 use rules::Answer;
 use rules::Fields;
 use rules::Meter;
 use rules::Pending;
-use rules::Point;
 use rules::PointAction;
 use rules::Settings;
+use rules::Supply;
 use rules::SupplyKind;
+use rules::View;
 ghost use mathlib.Core.Path.{_≡_};
-ghost use mathlib.Core.Bool.{false};
+ghost use mathlib.Core.Bool.{not, _||_};
 ghost use mathlib.Core.List.{[], _∷_};
 ghost use Prim.Native.Nat.{_+_, _≤_};
-ghost use lib.Dec.{ltb};
-ghost use Rattle.rules.specs.Effects.{effectiveDay};
-ghost use Rattle.rules.specs.Rejections.{firstOf, lastResortNear, kindDue, _⇒_};
-ghost use Rattle.rules.specs.Register.{used};
+ghost use lib.Dec.{eqb, leb, ltb};
+ghost use Rattle.rules.specs.Fields.{supply, meter, withSupply, withPending, unsupplied};
+ghost use Rattle.rules.specs.Effects.{keep, name, effectiveDay};
+ghost use Rattle.rules.specs.Volumes.{fullTurn};
+ghost use Rattle.rules.specs.Rejections.{_⇒_, firstOf, notPoint, noContract, notEnrolled, badDay, lastResortNear};
+ghost use Rattle.rules.specs.Rejections.{isPending, isBy, tooLate, outOfTime, indexDisagrees, isFull};
 ghost use Rattle.answers.specs.Ranges.{InRange};
-ghost use Rattle.answers.specs.Ruling.{rulingAt, readRuling};
+ghost use Rattle.answers.specs.Rows.{after};
+ghost use Rattle.answers.specs.Ruling.{rulingAt};
 
-fn enrol(
-    set: Settings,
-    contracts: [bool; 100],
-    t: u32,
-    p: u64,
-    before: u64,
-    after: u64,
-    index: u64,
-    g: Point,
-) -> Answer
-    requires { ⌜ (before ≤ 8) × (after ≤ 3) ⌝ }
-    ensures { λ r. ⌜ r ≡ rulingAt set contracts t p (PointAction.Enrol before after index) g ⌝ }
+// The answer so far, and one condition more: the first refusal stays.
+fn refuse(first: Answer, test: bool, with: Answer) -> Answer
+    ensures { λ r. ⌜ r ≡ after first (record { applies = test; gives = with }) ⌝ }
 {
-    let f = g.fields;
-    if outside(1, 32, p) {
-        return Answer::Refused(2);
+    if test {
+        if is_accepted(first) {
+            return with;
+        }
+        return first;
     }
-    if f.enrolled {
-        return Answer::Refused(23);
+    first
+}
+
+// A row of the table.
+fn row(first: Answer, test: bool, n: u8) -> Answer
+    ensures { λ r. ⌜ r ≡ after first (test ⇒ n) ⌝ }
+{
+    refuse(first, test, Answer::Refused(n))
+}
+
+// Row 8, whose refusal carries a day.
+fn near_row(first: Answer, t: u32, k: SupplyKind) -> Answer
+    ensures { λ r. ⌜ r ≡ after first (lastResortNear t k) ⌝ }
+{
+    match k {
+        SupplyKind::None => first,
+        SupplyKind::Contract => first,
+        SupplyKind::Default(d) => {
+            let near = d as u64 <= t as u64 + 21;
+            refuse(first, near, Answer::RefusedUntil(d))
+        }
+        SupplyKind::LastResort(_) => first,
     }
-    if full_turn(Meter {
+}
+
+// Row 26: the working days are counted only where no row before applies.
+fn late_row(first: Answer, set: Settings, t: u32, q: Pending) -> Answer
+    ensures { λ r. ⌜ r ≡ after first (tooLate set t q ⇒ 26) ⌝ }
+{
+    if is_accepted(first) {
+        return row(first, too_late(set, t, q), 26);
+    }
+    first
+}
+
+// 22, 20 and 21, which come before all others.
+pub(crate) fn first_rows(range: bool, calendar: bool, early: bool) -> Answer
+    ensures { λ r. ⌜ r ≡ firstOf ((range ⇒ 22) ∷ (calendar ⇒ 20) ∷ (early ⇒ 21) ∷ []) Answer.Accepted ⌝ }
+{
+    let a = row(Answer::Accepted, range, 22);
+    let a = row(a, calendar, 20);
+    row(a, early, 21)
+}
+
+fn enrol(p: u64, before: u64, after: u64, index: u64, v: View) -> Answer
+    requires { ⌜ (before ≤ 8) × (after ≤ 3) ⌝ }
+    ensures { λ r. ⌜ r ≡ firstOf
+        ((notPoint p ⇒ 2) ∷ (v .fields .enrolled ⇒ 23) ∷ (leb (fullTurn (meter before after)) index ⇒ 28) ∷ [])
+        Answer.Accepted ⌝ }
+{
+    let f = v.fields;
+    let m = Meter {
         before: before as u8,
         after: after as u8,
-    })
-        <= index
-    {
-        return Answer::Refused(28);
-    }
-    Answer::Accepted
+    };
+    let a = row(Answer::Accepted, outside(1, 32, p), 2);
+    let a = row(a, f.enrolled, 23);
+    row(a, full_turn(m) <= index, 28)
 }
 
-fn into_service(
-    set: Settings,
-    contracts: [bool; 100],
-    t: u32,
-    p: u64,
-    s: u64,
-    key: u64,
-    g: Point,
-) -> Answer
+fn into_service(contracts: [bool; 100], p: u64, s: u64, v: View) -> Answer
     requires { ⌜ s ≤ 99 ⌝ }
-    ensures { λ r. ⌜ r ≡ rulingAt set contracts t p (PointAction.IntoService s key) g ⌝ }
+    ensures { λ r. ⌜ r ≡ firstOf
+        ((noContract contracts s ⇒ 1) ∷ (notEnrolled p v ⇒ 2) ∷ (ltb 0 (v .fields .supply .holder) ⇒ 24)
+        ∷ (isFull v (name (withSupply (v .fields)
+        (supply s SupplyKind.Contract (v .fields .supply .pending)))) ⇒ 30) ∷ [])
+        Answer.Accepted ⌝ }
 {
-    let f = g.fields;
+    let f = v.fields;
     let now = f.supply;
-    if no_contract(contracts, s) {
-        return Answer::Refused(1);
-    }
-    if not_enrolled(p, f.enrolled) {
-        return Answer::Refused(2);
-    }
-    if 0 < now.holder {
-        return Answer::Refused(24);
-    }
-    let h = g.history;
-    let q = now.pending;
-    if is_full_named(t, h, SupplyKind::Contract, q) {
-        return Answer::Refused(30);
-    }
-    Answer::Accepted
+    let after = Supply {
+        holder: s as u8,
+        kind: SupplyKind::Contract,
+        ..now
+    };
+    let a = row(Answer::Accepted, no_contract(contracts, s), 1);
+    let a = row(a, not_enrolled(p, f.enrolled), 2);
+    let a = row(a, 0 < now.holder, 24);
+    row(a, is_full(v, true, after), 30)
 }
 
-fn default_supply(
-    set: Settings,
-    contracts: [bool; 100],
-    t: u32,
-    p: u64,
-    key: u64,
-    g: Point,
-) -> Answer
+fn default_supply(set: Settings, t: u32, p: u64, v: View) -> Answer
     requires { ⌜ t ≤ 73048 ⌝ }
-    ensures { λ r. ⌜ r ≡ rulingAt set contracts t p (PointAction.DefaultSupply key) g ⌝ }
+    ensures { λ r. ⌜ r ≡ firstOf
+        ((notEnrolled p v ⇒ 2) ∷ (ltb 0 (v .fields .supply .holder) ⇒ 24)
+        ∷ (isFull v (name (withSupply (v .fields)
+        (supply (set .default) (SupplyKind.Default (t + set .a)) (v .fields .supply .pending)))) ⇒ 30) ∷ [])
+        Answer.Accepted ⌝ }
 {
-    let f = g.fields;
+    let f = v.fields;
     let now = f.supply;
-    if not_enrolled(p, f.enrolled) {
-        return Answer::Refused(2);
-    }
-    if 0 < now.holder {
-        return Answer::Refused(24);
-    }
-    let h = g.history;
-    let q = now.pending;
-    if is_full_named(t, h, SupplyKind::Default(t + set.a as u32), q) {
-        return Answer::Refused(30);
-    }
-    Answer::Accepted
+    let after = Supply {
+        holder: set.default,
+        kind: SupplyKind::Default(t + set.a as u32),
+        ..now
+    };
+    let a = row(Answer::Accepted, not_enrolled(p, f.enrolled), 2);
+    let a = row(a, 0 < now.holder, 24);
+    row(a, is_full(v, true, after), 30)
 }
 
-// Row 30 of a request, and its acceptance.
-fn if_room(full: bool, e: u32) -> Answer
-    ensures { λ r. ⌜ r ≡ firstOf ((full ⇒ 30) ∷ []) (Answer.AcceptedOn e) ⌝ }
-{
-    if full {
-        return Answer::Refused(30);
-    }
-    Answer::AcceptedOn(e)
-}
-
-// Rows 8 and 30 of a request, and its acceptance.
-fn last_rows(t: u32, s: u64, day: u64, g: Point) -> Answer
+fn ask_switch(contracts: [bool; 100], t: u32, p: u64, s: u64, key: u64, day: u64, v: View) -> Answer
     requires { ⌜ (t ≤ 73048) × (s ≤ 99) × (day ≤ 73048) ⌝ }
-    ensures { λ r. ⌜ r ≡ firstOf (lastResortNear t (g .fields .supply .kind) ∷ (ltb 24 (used (g .history) + (1 + kindDue (g .fields .supply .kind))) ⇒ 30) ∷ []) (Answer.AcceptedOn (effectiveDay t day)) ⌝ }
+    ensures { λ r. ⌜ r ≡ firstOf
+        ((noContract contracts s ⇒ 1) ∷ (notEnrolled p v ⇒ 2) ∷ (badDay t day ⇒ 3)
+        ∷ (not (eqb key (v .fields .key)) ⇒ 4) ∷ (isPending (v .fields .supply .pending) ⇒ 5)
+        ∷ (eqb (v .fields .supply .holder) 0 ⇒ 6) ∷ (eqb (v .fields .mark) 1 ⇒ 7)
+        ∷ lastResortNear t (v .fields .supply .kind)
+        ∷ (isFull v (keep (withPending (v .fields) (Pending.Request s (effectiveDay t day)))) ⇒ 30) ∷ [])
+        (Answer.AcceptedOn (effectiveDay t day)) ⌝ }
 {
-    let f = g.fields;
-    let h = g.history;
+    let f = v.fields;
     let now = f.supply;
     let k = now.kind;
+    let q = now.pending;
     let e = effective_day(t, day as u32) as u32;
-    let full = is_full_kept(h, k, Pending::Request(s as u8, e));
-    let rest = if_room(full, e);
-    match k {
-        SupplyKind::None => rest,
-        SupplyKind::Contract => rest,
-        SupplyKind::Default(d) => {
-            if d <= t + 21 {
-                Answer::RefusedUntil(d)
-            } else {
-                rest
-            }
-        }
-        SupplyKind::LastResort(_) => rest,
-    }
-}
-
-fn ask_switch(
-    set: Settings,
-    contracts: [bool; 100],
-    t: u32,
-    p: u64,
-    s: u64,
-    key: u64,
-    day: u64,
-    g: Point,
-) -> Answer
-    requires { ⌜ (t ≤ 73048) × (s ≤ 99) × (day ≤ 73048) ⌝ }
-    ensures { λ r. ⌜ r ≡ rulingAt set contracts t p (PointAction.AskSwitch s key day) g ⌝ }
-{
-    let f = g.fields;
-    let now = f.supply;
-    let q = now.pending;
-    if no_contract(contracts, s) {
-        return Answer::Refused(1);
-    }
-    if not_enrolled(p, f.enrolled) {
-        return Answer::Refused(2);
-    }
-    if bad_day(t, day as u32) {
-        return Answer::Refused(3);
-    }
-    if key != f.key as u64 {
-        return Answer::Refused(4);
-    }
-    if is_pending(q) {
-        return Answer::Refused(5);
-    }
-    if now.holder == 0 {
-        return Answer::Refused(6);
-    }
-    if f.mark == 1 {
-        return Answer::Refused(7);
-    }
-    last_rows(t, s, day, g)
-}
-
-fn cancel(set: Settings, contracts: [bool; 100], t: u32, p: u64, s: u64, g: Point) -> Answer
-    ensures { λ r. ⌜ r ≡ rulingAt set contracts t p (PointAction.Cancel s) g ⌝ }
-{
-    let f = g.fields;
-    let now = f.supply;
-    let q = now.pending;
-    if not_enrolled(p, f.enrolled) {
-        return Answer::Refused(2);
-    }
-    let Pending::Request(by, e) = q else {
-        return Answer::Refused(25);
+    let after = Supply {
+        pending: Pending::Request(s as u8, e),
+        ..now
     };
-    if by as u64 != s {
-        return Answer::Refused(25);
-    }
-    let last = less(e as u64, 1);
-    if working_days(t as u64 + 1, last) < set.w as u32 {
-        return Answer::Refused(26);
-    }
-    Answer::Accepted
+    let a = row(Answer::AcceptedOn(e), no_contract(contracts, s), 1);
+    let a = row(a, not_enrolled(p, f.enrolled), 2);
+    let a = row(a, bad_day(t, day as u32), 3);
+    let a = row(a, key != f.key as u64, 4);
+    let a = row(a, is_pending(q), 5);
+    let a = row(a, now.holder == 0, 6);
+    let a = row(a, f.mark == 1, 7);
+    let a = near_row(a, t, k);
+    row(a, is_full(v, false, after), 30)
 }
 
-// The rows of a reading: they look at no period.
-pub(crate) fn read_rows(t: u32, p: u64, d: u64, x: u64, z: u64, f: Fields) -> Answer
+fn cancel(set: Settings, t: u32, p: u64, s: u64, v: View) -> Answer
+    ensures { λ r. ⌜ r ≡ firstOf
+        ((notEnrolled p v ⇒ 2) ∷ (not (isBy s (v .fields .supply .pending)) ⇒ 25)
+        ∷ (tooLate set t (v .fields .supply .pending) ⇒ 26) ∷ [])
+        Answer.Accepted ⌝ }
+{
+    let f = v.fields;
+    let now = f.supply;
+    let q = now.pending;
+    let a = row(Answer::Accepted, not_enrolled(p, f.enrolled), 2);
+    let a = row(a, !is_by(s, q), 25);
+    late_row(a, set, t, q)
+}
+
+// The rows of a reading: they look at the point's fields alone.
+pub(crate) fn read(t: u32, p: u64, d: u64, x: u64, z: u64, f: Fields) -> Answer
     requires { ⌜ d ≤ 73048 ⌝ }
-    ensures { λ r. ⌜ r ≡ readRuling t p d x z f ⌝ }
+    ensures { λ r. ⌜ r ≡ firstOf
+        ((notPoint p || not (f .enrolled) ⇒ 2) ∷ (outOfTime t d f ⇒ 27) ∷ (indexDisagrees f x z ⇒ 28) ∷ [])
+        Answer.Accepted ⌝ }
 {
     let m = f.meter;
     let last = f.reading;
-    if not_enrolled(p, f.enrolled) {
-        return Answer::Refused(2);
-    }
-    if out_of_time(t, d as u32, last.day) {
-        return Answer::Refused(27);
-    }
-    if index_disagrees(full_turn(m), last.index, x, z) {
-        return Answer::Refused(28);
-    }
-    Answer::Accepted
-}
-
-fn read(
-    set: Settings,
-    contracts: [bool; 100],
-    t: u32,
-    p: u64,
-    d: u64,
-    x: u64,
-    z: u64,
-    g: Point,
-) -> Answer
-    requires { ⌜ d ≤ 73048 ⌝ }
-    ensures { λ r. ⌜ r ≡ rulingAt set contracts t p (PointAction.Read d x z) g ⌝ }
-{
-    let f = g.fields;
-    read_rows(t, p, d, x, z, f)
+    let a = row(Answer::Accepted, not_enrolled(p, f.enrolled), 2);
+    let a = row(a, out_of_time(t, d as u32, last.day), 27);
+    row(a, index_disagrees(full_turn(m), last.index, x, z), 28)
 }
 
 fn change_meter(
-    set: Settings,
-    contracts: [bool; 100],
     t: u32,
     p: u64,
     x: u64,
@@ -264,60 +213,50 @@ fn change_meter(
     before: u64,
     after: u64,
     fresh: u64,
-    g: Point,
+    v: View,
 ) -> Answer
     requires { ⌜ (before ≤ 8) × (after ≤ 3) ⌝ }
-    ensures { λ r. ⌜ r ≡ rulingAt set contracts t p (PointAction.ChangeMeter x z before after fresh) g ⌝ }
+    ensures { λ r. ⌜ r ≡ firstOf
+        ((notEnrolled p v ⇒ 2) ∷ (outOfTime t t (v .fields) ⇒ 27)
+        ∷ (indexDisagrees (v .fields) x z || leb (fullTurn (meter before after)) fresh ⇒ 28) ∷ [])
+        Answer.Accepted ⌝ }
 {
-    let f = g.fields;
+    let f = v.fields;
     let m = f.meter;
     let last = f.reading;
-    if not_enrolled(p, f.enrolled) {
-        return Answer::Refused(2);
-    }
-    if out_of_time(t, t, last.day) {
-        return Answer::Refused(27);
-    }
-    if index_disagrees(full_turn(m), last.index, x, z) {
-        return Answer::Refused(28);
-    }
-    if full_turn(Meter {
+    let new = Meter {
         before: before as u8,
         after: after as u8,
-    })
-        <= fresh
-    {
-        return Answer::Refused(28);
-    }
-    Answer::Accepted
+    };
+    let a = row(Answer::Accepted, not_enrolled(p, f.enrolled), 2);
+    let a = row(a, out_of_time(t, t, last.day), 27);
+    let old = index_disagrees(full_turn(m), last.index, x, z);
+    row(a, or(old, full_turn(new) <= fresh), 28)
 }
 
-fn out_of_service(set: Settings, contracts: [bool; 100], t: u32, p: u64, g: Point) -> Answer
-    ensures { λ r. ⌜ r ≡ rulingAt set contracts t p PointAction.OutOfService g ⌝ }
+fn out_of_service(p: u64, v: View) -> Answer
+    ensures { λ r. ⌜ r ≡ firstOf
+        ((notEnrolled p v ⇒ 2) ∷ (eqb (v .fields .supply .holder) 0 ⇒ 6)
+        ∷ (isFull v (name (withSupply (v .fields) unsupplied)) ⇒ 30) ∷ [])
+        Answer.Accepted ⌝ }
 {
-    let f = g.fields;
+    let f = v.fields;
     let now = f.supply;
-    if not_enrolled(p, f.enrolled) {
-        return Answer::Refused(2);
-    }
-    if now.holder == 0 {
-        return Answer::Refused(6);
-    }
-    let h = g.history;
-    if is_full_named(t, h, SupplyKind::None, Pending::Nothing) {
-        return Answer::Refused(30);
-    }
-    Answer::Accepted
+    let after = Supply {
+        holder: 0,
+        kind: SupplyKind::None,
+        pending: Pending::Nothing,
+    };
+    let a = row(Answer::Accepted, not_enrolled(p, f.enrolled), 2);
+    let a = row(a, now.holder == 0, 6);
+    row(a, is_full(v, true, after), 30)
 }
 
-fn suspend(set: Settings, contracts: [bool; 100], t: u32, p: u64, mark: u64, g: Point) -> Answer
-    ensures { λ r. ⌜ r ≡ rulingAt set contracts t p (PointAction.Suspend mark) g ⌝ }
+fn suspend(p: u64, v: View) -> Answer
+    ensures { λ r. ⌜ r ≡ firstOf ((notEnrolled p v ⇒ 2) ∷ []) Answer.Accepted ⌝ }
 {
-    let f = g.fields;
-    if not_enrolled(p, f.enrolled) {
-        return Answer::Refused(2);
-    }
-    Answer::Accepted
+    let f = v.fields;
+    row(Answer::Accepted, not_enrolled(p, f.enrolled), 2)
 }
 
 // The answer once the ranges, the calendar and the register's day are in order.
@@ -327,47 +266,41 @@ pub(crate) fn ruling_at(
     t: u32,
     p: u64,
     a: PointAction,
-    g: Point,
+    v: View,
 ) -> Answer
     requires { ⌜ (t ≤ 73048) × InRange a ⌝ }
-    ensures { λ r. ⌜ r ≡ rulingAt set contracts t p a g ⌝ }
+    ensures { λ r. ⌜ r ≡ rulingAt set contracts t p a v ⌝ }
 {
     match a {
         PointAction::Enrol {
             before,
             after,
             index,
-        } => enrol(set, contracts, t, p, before, after, index, g),
-        PointAction::IntoService { supplier, key } => into_service(
-            set,
-            contracts,
-            t,
-            p,
-            supplier,
-            key,
-            g,
-        ),
-        PointAction::DefaultSupply { key } => default_supply(set, contracts, t, p, key, g),
+        } => enrol(p, before, after, index, v),
+        PointAction::IntoService { supplier, key: _ } => into_service(contracts, p, supplier, v),
+        PointAction::DefaultSupply { key: _ } => default_supply(set, t, p, v),
         PointAction::AskSwitch { supplier, key, day } => ask_switch(
-            set,
             contracts,
             t,
             p,
             supplier,
             key,
             day,
-            g,
+            v,
         ),
-        PointAction::Cancel { supplier } => cancel(set, contracts, t, p, supplier, g),
-        PointAction::Read { day, index, zero } => read(set, contracts, t, p, day, index, zero, g),
+        PointAction::Cancel { supplier } => cancel(set, t, p, supplier, v),
+        PointAction::Read { day, index, zero } => {
+            let f = v.fields;
+            read(t, p, day, index, zero, f)
+        }
         PointAction::ChangeMeter {
             index,
             zero,
             before,
             after,
             fresh,
-        } => { change_meter(set, contracts, t, p, index, zero, before, after, fresh, g) }
-        PointAction::OutOfService => out_of_service(set, contracts, t, p, g),
-        PointAction::Suspend { mark } => suspend(set, contracts, t, p, mark, g),
+        } => change_meter(t, p, index, zero, before, after, fresh, v),
+        PointAction::OutOfService => out_of_service(p, v),
+        PointAction::Suspend { mark: _ } => suspend(p, v),
     }
 }

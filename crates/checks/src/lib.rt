@@ -4,8 +4,8 @@ mod meter;
 
 use dates::LAST_DAY;
 use dates::three_months_after;
-pub use marks::is_full_kept;
-pub use marks::is_full_named;
+pub use marks::is_full;
+pub use marks::view_of;
 pub use meter::full_turn;
 pub use meter::unit_of;
 use rules::Answer;

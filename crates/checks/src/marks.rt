@@ -1,15 +1,17 @@
 // Number 30: a point's marks and those due.
 use periods::marks;
-use periods::starts_on;
-use rules::History;
 use rules::Pending;
+use rules::Point;
+use rules::Supply;
 use rules::SupplyKind;
+use rules::View;
 ghost use mathlib.Core.Path.{_≡_};
 ghost use mathlib.Core.Bool.{cond};
-ghost use Prim.Native.Nat.{_+_, _≤_};
-ghost use lib.Dec.{ltb};
-ghost use Rattle.rules.specs.Rejections.{pendingDue, kindDue};
-ghost use Rattle.rules.specs.Register.{used, startsOn};
+ghost use Prim.Native.Nat.{_≤_};
+ghost use Rattle.rules.specs.Fields.{withSupply};
+ghost use Rattle.rules.specs.Effects.{keep, name};
+ghost use Rattle.rules.specs.Rejections.{pendingDue, kindDue, isFull};
+ghost use Rattle.rules.specs.Register.{view};
 
 // Marks that are due: pending 1, default 2, last resort 1.
 fn kind_due(k: SupplyKind) -> usize
@@ -32,21 +34,41 @@ fn pending_due(q: Pending) -> usize
     }
 }
 
-// 30, where a holder is named today: the marks and those due under a kind and a pending request exceed 24.
-pub fn is_full_named(t: u32, h: History, k: SupplyKind, q: Pending) -> bool
-    ensures { λ r. ⌜ r ≡ ltb 24 (used h + cond (startsOn t h) 0 1 + (pendingDue q + kindDue k)) ⌝ }
+// What the checks see of a point on day t.
+pub fn view_of(t: u64, g: Point) -> View
+    ensures { λ r. ⌜ r ≡ view t g ⌝ }
 {
+    let f = g.fields;
+    let h = g.history;
     let n = marks(h);
-    let due = pending_due(q) + kind_due(k);
-    if starts_on(t, h) {
-        return 24 < n + due;
+    if n == 0 {
+        return View {
+            fields: f,
+            marks: 0,
+            marked: false,
+        };
     }
-    24 < n + 1 + due
+    let q = h.periods[n - 1];
+    View {
+        fields: f,
+        marks: n,
+        marked: q.start as u64 == t,
+    }
 }
 
-// 30, where the holder stays.
-pub fn is_full_kept(h: History, k: SupplyKind, q: Pending) -> bool
-    ensures { λ r. ⌜ r ≡ ltb 24 (used h + (pendingDue q + kindDue k)) ⌝ }
+// 30: the marks, and those due under the supply s after the call, exceed 24. A holder named today marks today's cell.
+pub fn is_full(v: View, names: bool, s: Supply) -> bool
+    ensures { λ r. ⌜ r ≡ isFull v (cond names (name (withSupply (v .fields) s)) (keep (withSupply (v .fields) s))) ⌝ }
 {
-    24 < marks(h) + (pending_due(q) + kind_due(k))
+    let k = s.kind;
+    let q = s.pending;
+    let n = v.marks;
+    let due = pending_due(q) + kind_due(k);
+    if names {
+        if v.marked {
+            return 24 - due < n;
+        }
+        return 23 - due < n;
+    }
+    24 - due < n
 }

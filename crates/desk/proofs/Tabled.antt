@@ -7,10 +7,9 @@ use native.Mathlib.Omega.{arith}
 use borrow.Author.Tests.{leb-true}
 use lib.Dec.{leb}
 use Rattle.rules.specs.declared.{Settings.Settings, SupplyKind.SupplyKind, Opening.Opening, Register.Register}
-use Rattle.rules.specs.declared.{Call.Call, Action.Action, PointAction.PointAction, Answer.Answer}
+use Rattle.rules.specs.declared.{Call.Call, View.View, Action.Action, PointAction.PointAction, Answer.Answer}
 use Rattle.rules.specs.Answers.{number}
 use Rattle.rules.specs.Rejections.{
-  View,
   Row,
   _⇒_,
   firstOf,

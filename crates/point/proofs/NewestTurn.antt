@@ -9,7 +9,7 @@ use Rattle.rules.specs.declared.{Fields.Fields, History.History, Period.Period,
 use Rattle.rules.specs.declared.{Answer.Answer, PointAction.PointAction}
 use Rattle.rules.specs.Answers.{isAccepted}
 use Rattle.rules.specs.Effects.{effectOf}
-use Rattle.rules.specs.Register.{used, newest, history, acted}
+use Rattle.rules.specs.Register.{used, newest, history, view, acted}
 use Rattle.rules.specs.Volumes.{spanTo, spansOf}
 use Rattle.periods.proofs.Newest.{newest-booked}
 use Rattle.answers.specs.Ruling.{noSettings, bare, readAnswer}
@@ -64,4 +64,4 @@ module _ (day t p d x z : ℕ) (f : Fields) (q : Period) (is : readNewest day t 
         }
     unfolding turned acted effectOf spansOf spanTo readNewest
     newest-turn =
-        rw (read-answer S u t p d x z g day, ok, newest-booked (spanTo f d x z) h some lies-in, ← last, le-leb _ _ within)
+        rw (read-answer S day u t p d x z (view t g), ok, newest-booked (spanTo f d x z) h some lies-in, ← last, le-leb _ _ within)

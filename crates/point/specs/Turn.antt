@@ -21,7 +21,7 @@ ruled a after before = record { answer = a; point = cond (isAccepted a) after be
 
 -- The point has been brought up to today.
 unfoldable pub turned : Settings → ℕ → List Bool → ℕ → ℕ → PointAction → Point → Ruling
-turned S day u t p a g = ruled (answerAt S day u t p a g) (acted S t a g) g
+turned S day u t p a g = ruled (answerAt S day u t p a (view t g)) (acted S t a g) g
 
 -- Number 30 of a failure of s, at one point.
 unfoldable pub failureFills : Settings → ℕ → ℕ → Point → Bool

@@ -3,8 +3,8 @@ use crate::events::supplied;
 use crate::meter::span_to;
 use crate::readings::reading_of;
 use checks::effective_day;
-use checks::is_full_kept;
-use checks::is_full_named;
+use checks::is_full;
+use checks::view_of;
 use dates::LAST_DAY;
 use periods::book;
 use periods::named;
@@ -245,16 +245,24 @@ pub fn failure_fills(set: Settings, t: u32, s: u8, g: Point) -> bool
     ensures { λ r. ⌜ r ≡ failureFills set t s g ⌝ }
 {
     let f = g.fields;
-    let h = g.history;
     let now = f.supply;
-    let k = now.kind;
     let q = now.pending;
     let left = dropped(s, q);
+    let v = view_of(t as u64, g);
     if now.holder == s {
-        return is_full_named(t, h, SupplyKind::LastResort(t), left);
+        let after = Supply {
+            holder: set.resort,
+            kind: SupplyKind::LastResort(t),
+            pending: left,
+        };
+        return is_full(v, true, after);
     }
     if is_by(s, q) {
-        return is_full_kept(h, k, left);
+        let after = Supply {
+            pending: left,
+            ..now
+        };
+        return is_full(v, false, after);
     }
     false
 }

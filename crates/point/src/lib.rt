@@ -7,6 +7,7 @@ mod readings;
 
 use answers::answer_at;
 use checks::is_accepted;
+use checks::view_of;
 use effects::acted;
 pub use effects::failed;
 pub use effects::failure_fills;
@@ -47,7 +48,8 @@ pub fn turn(
 ) -> Ruling
     ensures { λ r. ⌜ r ≡ turned set day contracts today p a g ⌝ }
 {
-    let answer = answer_at(set, day, contracts, today, p, a, g);
+    let v = view_of(today, g);
+    let answer = answer_at(set, day, contracts, today, p, a, v);
     if is_accepted(answer) {
         return Ruling {
             answer: answer,

@@ -11,9 +11,9 @@ use lib.ListN.{set}
 use borrow.Author.Tests.{le-leb, lt-ltb, le-ltb}
 use Rattle.dates.specs.Dates.{lastDay}
 use Rattle.rules.specs.declared.{Point.Point, Register.Register, Answer.Answer, Action.Action}
-use Rattle.rules.specs.declared.{PointAction.PointAction}
+use Rattle.rules.specs.declared.{PointAction.PointAction, View.View}
 use Rattle.rules.specs.Answers.{isAccepted}
-use Rattle.rules.specs.Rejections.{View, blankView, notPoint, shown, answerTo, answer}
+use Rattle.rules.specs.Rejections.{blankView, notPoint, shown, answerTo, answer}
 use Rattle.rules.specs.Register.{catchUp, startsOn, view, blankPoint, register, pointAt, advanced, says, acted, done, outcome, applied}
 use Rattle.rules.proofs.Views.{answer-off, answer-at, accepted-point}
 use Rattle.point.specs.declared.{Ruling.Ruling}

@@ -7,10 +7,9 @@ use native.Mathlib.Omega.{arith}
 use lib.Dec.{eqb, ltb}
 use borrow.Author.Tests.{le-leb, le-ltb, ltb-false, eq-eqb, ne-eqb}
 use Rattle.dates.specs.Dates.{lastDay}
-use Rattle.rules.specs.declared.{Register.Register, Settings.Settings, Answer.Answer, Action.Action}
+use Rattle.rules.specs.declared.{Register.Register, View.View, Settings.Settings, Answer.Answer, Action.Action}
 use Rattle.rules.specs.Effects.{failed}
 use Rattle.rules.specs.Rejections.{
-  View,
   _⇒_,
   outside,
   firstOf,

@@ -8,20 +8,8 @@ use borrow.Author.Tests.{ltb-false, le-ltb}
 use Rattle.dates.specs.Dates.{lastDay}
 use Rattle.rules.specs.declared.{Settings.Settings, Call.Call, Action.Action, PointAction.PointAction}
 use Rattle.rules.specs.Answers.{isAccepted}
-use Rattle.rules.specs.Rejections.{
-  View,
-  blankView,
-  firstOf,
-  notPoint,
-  outOfRange,
-  rowsAt,
-  rows,
-  acceptedAt,
-  accepted,
-  answerTo,
-  shown,
-  answer,
-}
+use Rattle.rules.specs.declared.{View.View}
+use Rattle.rules.specs.Rejections.{blankView, firstOf, notPoint, outOfRange, rowsAt, rows, acceptedAt, accepted, answerTo, shown, answer}
 use Rattle.rules.proofs.Accept.{pass, neither}
 
 -- The checks look at points 1 to 32 only.

@@ -18,7 +18,8 @@ use Rattle.rules.specs.Fields.{blank}
 use Rattle.rules.specs.Effects.{Effect, keep, name, event, effect}
 use Rattle.rules.specs.Volumes.{spans}
 use Rattle.rules.specs.Answers.{isAccepted}
-use Rattle.rules.specs.Rejections.{View, answer}
+use Rattle.rules.specs.declared.{View.View}
+use Rattle.rules.specs.Rejections.{answer}
 use Rattle.rules.specs.Opening.{settingsOf, firstContracts}
 
 -- "one cell for each point and gas day: a holder and a start mark"

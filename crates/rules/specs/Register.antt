@@ -23,7 +23,8 @@ use Rattle.rules.specs.Fields.{supply, withSupply, blank}
 use Rattle.rules.specs.Effects.{Effect, keep, name, effectOf, failed}
 use Rattle.rules.specs.Volumes.{upTo, spansOf}
 use Rattle.rules.specs.Answers.{isAccepted}
-use Rattle.rules.specs.Rejections.{View, answer}
+use Rattle.rules.specs.declared.{View.View}
+use Rattle.rules.specs.Rejections.{answer}
 use Rattle.rules.specs.Opening.{settingsOf, firstContracts}
 
 -- "It also keeps up to 24 periods, each a start day, a holder and a booked volume."

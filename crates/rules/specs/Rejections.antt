@@ -18,16 +18,10 @@ use Rattle.holidays.specs.Working.{workingBetween}
 use Rattle.rules.specs.declared.{Fields.Fields, Settings.Settings, Supply.Supply, SupplyKind.SupplyKind}
 use Rattle.rules.specs.declared.{Pending.Pending, Opening.Opening, Call.Call, Action.Action}
 use Rattle.rules.specs.declared.{PointAction.PointAction, Answer.Answer}
+pub use Rattle.rules.specs.declared.View.{View}
 use Rattle.rules.specs.Fields.{meter, blank}
 use Rattle.rules.specs.Effects.{Effect, keep, name, fieldsOf, notice, effectiveDay, effectOf, failed}
 use Rattle.rules.specs.Volumes.{fullTurn}
-
-pub record View : Type 0 where
-  pub fields : Fields
-  -- the number of marked cells, which is that of periods
-  pub marks : ℕ
-  -- today's cell is marked already
-  pub marked : Bool
 
 -- A point that was never enrolled.
 abbrev pub blankView : View

@@ -62,6 +62,15 @@ pub struct Point {
     pub history: History,
 }
 
+// What the checks may look at of a point.
+pub struct View {
+    pub fields: Fields,
+    // the number of marked cells, which is that of periods
+    pub marks: usize,
+    // today's cell is marked already
+    pub marked: bool,
+}
+
 // W working days to cancel, A and B days of default and of last-resort supply, and the two suppliers.
 pub struct Settings {
     pub w: u8,

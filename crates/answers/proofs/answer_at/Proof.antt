@@ -1,66 +1,46 @@
--- A call at a point: 22, 20 and 21 first, then the rows.
+-- 22, 20 and 21 first, then the rows of the call.
 use mathlib.Core.Path.{sym, _∙_}
 use native.Mathlib.Omega.{arith}
-use borrow.Author.Tests.{lt-ltb, le-ltb}
+use lib.Dec.{ltb}
+use borrow.Author.Needs.{needs}
 use Rattle.rules.specs.Rejections.{answerTo, firstOf, outOfRange, offCalendar, rows, accepted}
 use Rattle.answers.specs.Ruling.{rulingAt}
-use Rattle.answers.proofs.Within.{in-range}
-use borrow.Author.Needs.{needs}
+use Rattle.answers.proofs.Within.{cleared, barred, on-calendar, in-range}
 use Rattle.answers.proofs.answer_at.Statement.{statement}
 use Rattle.answers.proofs.answer_at.Tie as tie
 
-returns : tie.Need-returns
-unfolding answerTo outOfRange offCalendar rows accepted firstOf
-returns c = rw (← (c .before .out-of-range-at .ensures), c .if1 .taken)
-
-returns-2 : tie.Need-returns-2
-unfolding answerTo outOfRange offCalendar rows accepted firstOf
-returns-2 c = rw (← (c .before .before .out-of-range-at .ensures), c .before .if1 .left, lt-ltb _ _ (c .if2 .taken))
-
-returns-3 : tie.Need-returns-3
-unfolding answerTo outOfRange offCalendar rows accepted firstOf
-returns-3 c =
-    rw (
-      ← (c .before .before .before .before .out-of-range-at .ensures),
-      c .before .before .before .if1 .left,
-      le-ltb _ _ (c .before .before .if2 .left),
-      ← (c .before .off-calendar-at .ensures),
-      c .if3 .taken,
-    )
-
-returns-4 : tie.Need-returns-4
-unfolding answerTo outOfRange offCalendar rows accepted firstOf
-returns-4 c =
-    rw (
-      ← (c .before .before .before .before .before .out-of-range-at .ensures),
-      c .before .before .before .before .if1 .left,
-      le-ltb _ _ (c .before .before .before .if2 .left),
-      ← (c .before .before .off-calendar-at .ensures),
-      c .before .if3 .left,
-      lt-ltb _ _ (c .if4 .taken),
-    )
+cast-ruling-at : tie.Need-cast-ruling-at
+cast-ruling-at c =
+    let s = c .before .before in
+    let x = s .before .before .before .args in
+    let k = cleared _ _ (ltb (x .today) (x .day)) _ _ (s .first-rows .ensures) (c .before .is-accepted .ensures) (c .if1 .taken) in
+    omega (arith, on-calendar (x .today) _ _ (s .before .before .off-calendar .ensures) (k .1) .0)
 
 ruling-at-requires : tie.Need-ruling-at-requires
-ruling-at-requires c κs = let s = c .before .before .before .before .before .before .args in (
-  omega arith,
-  in-range (s .set) (s .today) (s .a) (sym (c .before .before .before .before .before .out-of-range-at .ensures) ∙
-      c .before .before .before .before .if1 .left) (sym (c .before .before .off-calendar-at .ensures) ∙ c .before .if3 .left),
-)
+ruling-at-requires c κs =
+    let s = c .before .before in
+    let x = s .before .before .before .args in
+    let k = cleared _ _ (ltb (x .today) (x .day)) _ _ (s .first-rows .ensures) (c .before .is-accepted .ensures) (c .if1 .taken) in
+    let l = on-calendar (x .today) _ _ (s .before .before .off-calendar .ensures) (k .1) in
+    (l .0, in-range (x .set) (x .today) (x .a) (sym (s .before .out-of-range-at .ensures) ∙ k .0) (l .1))
 
-returns-5 : tie.Need-returns-5
+returns : tie.Need-returns
 unfolding answerTo outOfRange offCalendar rows accepted firstOf rulingAt
-returns-5 c =
-    rw (
-      ← (c .before .before .before .before .before .before .out-of-range-at .ensures),
-      c .before .before .before .before .before .if1 .left,
-      le-ltb _ _ (c .before .before .before .before .if2 .left),
-      ← (c .before .before .before .off-calendar-at .ensures),
-      c .before .before .if3 .left,
-      le-ltb _ _ (c .before .if4 .left),
-    )
-    (c .ruling-at .ensures)
+returns c =
+    let s = c .before .before .before in
+    let x = s .before .before .before .args in
+    let ok = cleared (s .before .out-of-range-at .result) (s .before .before .off-calendar .result) (ltb (x .today) (x .day)) in
+    let k = ok _ _ (s .first-rows .ensures) (c .before .before .is-accepted .ensures) (c .before .if1 .taken) in
+    rw (← (s .before .out-of-range-at .ensures), k .0, ← (s .before .before .off-calendar .ensures), k .1, k .2) (c .ruling-at .ensures)
+
+returns-2 : tie.Need-returns-2
+unfolding answerTo outOfRange offCalendar rows accepted
+returns-2 c =
+    let s = c .before .before in
+    rw (← (s .before .out-of-range-at .ensures), ← (s .before .before .off-calendar .ensures))
+    (barred _ _ _ _ _ _ _ (s .first-rows .ensures) (c .before .is-accepted .ensures) (c .if1 .left))
 
 pub answer-at-spec : {M : Type 1} → statement M
 answer-at-spec =
-    tie.close (tie.spec (λ c κs. search needs) returns (λ c. search needs) returns-2 (λ c. search needs)
-    (λ c κs. search needs) returns-3 returns-4 ruling-at-requires returns-5)
+    tie.close (tie.spec (λ c κs. search needs) (λ c κs. search needs) (λ c κs. search needs) (λ c κs. search needs) cast-ruling-at
+    ruling-at-requires returns returns-2)

@@ -6,18 +6,18 @@ use Rattle.checks.proofs.index_disagrees.Tie as tie
 
 returns-2 : tie.Need-returns-2
 returns-2 c =
-    rw (lt-leb _ _ (c .before .if1 .left))
-    (at-zero (c .before .before .args .z) (c .before .before .args .x) (c .before .before .args .last) (c .if2 .taken))
+    let s = c .before .before .args in
+    rw (lt-leb _ _ (c .before .if1 .left)) (at-zero (s .z) (s .x) (s .last) (c .if2 .taken))
 
 returns-3 : tie.Need-returns-3
 returns-3 c =
-    rw (lt-leb _ _ (c .before .before .if1 .left)) (at-one (c .before .before .before .args .z) (c .before .before .before .args .x)
-    (c .before .before .before .args .last) (c .if3 .taken))
+    let s = c .before .before .before .args in
+    rw (lt-leb _ _ (c .before .before .if1 .left)) (at-one (s .z) (s .x) (s .last) (c .if3 .taken))
 
 returns-4 : tie.Need-returns-4
 returns-4 c =
-    rw (lt-leb _ _ (c .before .before .if1 .left)) (at-other (c .before .before .before .args .z) (c .before .before .before .args .x)
-    (c .before .before .before .args .last) (c .before .if2 .left) (c .if3 .left))
+    let s = c .before .before .before .args in
+    rw (lt-leb _ _ (c .before .before .if1 .left)) (at-other (s .z) (s .x) (s .last) (c .before .if2 .left) (c .if3 .left))
 
 pub index-disagrees-spec : {M : Type 1} → statement M
 index-disagrees-spec = tie.close (tie.spec (λ c. rw (le-leb _ _ (c .if1 .taken))) returns-2 returns-3 returns-4)

@@ -1,67 +1,29 @@
 -- The rows of a meter change, in order.
-use borrow.Author.Tests.{le-leb, lt-leb}
-use Rattle.rules.specs.Rejections.{firstOf, rowsAt, acceptedAt}
-use Rattle.answers.specs.Ruling.{rulingAt}
+use mathlib.Core.Path.{refl}
 use borrow.Author.Needs.{needs}
+use Rattle.answers.proofs.Folded.{through, allRefuse, folded}
 use Rattle.answers.proofs.rows.change_meter.Statement.{statement}
 use Rattle.answers.proofs.rows.change_meter.Tie as tie
 
-returns-2 : tie.Need-returns-2
-unfolding rulingAt rowsAt acceptedAt firstOf
-returns-2 c =
+returns : tie.Need-returns
+unfolding through allRefuse
+returns c =
+    let r27 = c .before .before .before .before .before in
+    let r2 = r27 .before .before in
     rw (
-      ← (c .before .before .before .not-enrolled .ensures),
-      c .before .before .if1 .left,
-      ← (c .before .out-of-time .ensures),
-      c .if2 .taken,
-    )
-
-returns-3 : tie.Need-returns-3
-unfolding rulingAt rowsAt acceptedAt firstOf
-returns-3 c =
-    rw (
-      ← (c .before .before .before .before .before .before .not-enrolled .ensures),
-      c .before .before .before .before .before .if1 .left,
-      ← (c .before .before .before .before .out-of-time .ensures),
-      c .before .before .before .if2 .left,
-      ← (c .before .before .full-turn .ensures),
-      ← (c .before .index-disagrees .ensures),
-      c .if3 .taken,
-    )
-
-returns-4 : tie.Need-returns-4
-unfolding rulingAt rowsAt acceptedAt firstOf
-returns-4 c =
-    rw (
-      ← (c .before .before .before .before .before .before .before .before .not-enrolled .ensures),
-      c .before .before .before .before .before .before .before .if1 .left,
-      ← (c .before .before .before .before .before .before .out-of-time .ensures),
-      c .before .before .before .before .before .if2 .left,
-      ← (c .before .before .before .before .full-turn .ensures),
-      ← (c .before .before .before .index-disagrees .ensures),
-      c .before .before .if3 .left,
-      ← (c .before .full-turn2 .ensures),
-      le-leb _ _ (c .if4 .taken),
-    )
-
-returns-5 : tie.Need-returns-5
-unfolding rulingAt rowsAt acceptedAt firstOf
-returns-5 c =
-    rw (
-      ← (c .before .before .before .before .before .before .before .before .not-enrolled .ensures),
-      c .before .before .before .before .before .before .before .if1 .left,
-      ← (c .before .before .before .before .before .before .out-of-time .ensures),
-      c .before .before .before .before .before .if2 .left,
-      ← (c .before .before .before .before .full-turn .ensures),
-      ← (c .before .before .before .index-disagrees .ensures),
-      c .before .before .if3 .left,
-      ← (c .before .full-turn2 .ensures),
-      lt-leb _ _ (c .if4 .left),
-    )
+      c .row3 .ensures,
+      c .before .or .ensures,
+      c .before .before .full-turn2 .ensures,
+      c .before .before .before .index-disagrees .ensures,
+      c .before .before .before .before .full-turn .ensures,
+      r27 .row2 .ensures,
+      r27 .before .out-of-time .ensures,
+      r2 .row .ensures,
+      r2 .before .not-enrolled .ensures,
+    ) (folded _ _ refl refl)
 
 pub change-meter-spec : {M : Type 1} → statement M
 change-meter-spec =
-    tie.close (tie.spec (λ c κs. search needs)
-    (λ c. unfold rulingAt rowsAt acceptedAt firstOf in rw (← (c .before .not-enrolled .ensures), c .if1 .taken))
-    (λ c κs. search needs) returns-2 (λ c κs. search needs) (λ c κs. search needs) returns-3 (λ c. search needs)
-    (λ c. search needs) (λ c κs. search needs) returns-4 returns-5)
+    tie.close (tie.spec (λ c. search needs) (λ c. search needs) (λ c κs. search needs) (λ c κs. search needs) (λ c κs. search needs)
+    (λ c κs. search needs) (λ c κs. search needs) (λ c κs. search needs) (λ c κs. search needs) (λ c κs. search needs)
+    (λ c κs. search needs) returns)

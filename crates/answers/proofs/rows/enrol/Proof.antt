@@ -1,39 +1,24 @@
 -- The rows of an enrolment, in order.
-use borrow.Author.Tests.{le-leb, lt-leb}
-use Rattle.rules.specs.Rejections.{firstOf, rowsAt, acceptedAt}
-use Rattle.answers.specs.Ruling.{rulingAt}
+use mathlib.Core.Path.{refl}
 use borrow.Author.Needs.{needs}
+use Rattle.answers.proofs.Folded.{through, allRefuse, folded}
 use Rattle.answers.proofs.rows.enrol.Statement.{statement}
 use Rattle.answers.proofs.rows.enrol.Tie as tie
 
-returns-2 : tie.Need-returns-2
-unfolding rulingAt rowsAt acceptedAt firstOf
-returns-2 c = rw (← (c .before .before .outside .ensures), c .before .if1 .left, c .if2 .taken)
-
-returns-3 : tie.Need-returns-3
-unfolding rulingAt rowsAt acceptedAt firstOf
-returns-3 c =
+returns : tie.Need-returns
+unfolding through allRefuse
+returns c =
+    let r23 = c .before .before in
+    let r2 = r23 .before in
     rw (
-      ← (c .before .before .before .before .outside .ensures),
-      c .before .before .before .if1 .left,
-      c .before .before .if2 .left,
-      ← (c .before .full-turn .ensures),
-      le-leb _ _ (c .if3 .taken),
-    )
-
-returns-4 : tie.Need-returns-4
-unfolding rulingAt rowsAt acceptedAt firstOf
-returns-4 c =
-    rw (
-      ← (c .before .before .before .before .outside .ensures),
-      c .before .before .before .if1 .left,
-      c .before .before .if2 .left,
-      ← (c .before .full-turn .ensures),
-      lt-leb _ _ (c .if3 .left),
-    )
+      c .row3 .ensures,
+      c .before .full-turn .ensures,
+      r23 .row2 .ensures,
+      r2 .row .ensures,
+      r2 .before .outside .ensures,
+    ) (folded _ _ refl refl)
 
 pub enrol-spec : {M : Type 1} → statement M
 enrol-spec =
-    tie.close (tie.spec (λ c κs. search needs)
-    (λ c. unfold rulingAt rowsAt acceptedAt firstOf in rw (← (c .before .outside .ensures), c .if1 .taken)) returns-2
-    (λ c. search needs) (λ c. search needs) (λ c κs. search needs) returns-3 returns-4)
+    tie.close (tie.spec (λ c. search needs) (λ c. search needs) (λ c κs. search needs) (λ c κs. search needs) (λ c κs. search needs)
+    (λ c κs. search needs) (λ c κs. search needs) returns)

@@ -9,40 +9,38 @@ use Rattle.point.proofs.Booked.{reading-fair, reading-acts, no-reading}
 
 read-requires : tie.Need-read-requires
 read-requires c κs =
-    reading-fair ((c .before .before .before .before) .args .t) ((c .before .before .before .before) .args .a)
-    ((c .before .before .before .before) .args .g .fields) ((c .before .before .reading-of) .result) ((c .before .before .before .before) .pre .0)
-    ((c .before .before .before .before) .pre .1) ((c .before .before .before .before) .pre .2) ((c .before .before .reading-of) .ensures)
-    ((c .before .if1) .taken)
+    let given = c .before .before .reading-of in
+    let start = c .before .before .before .before in
+    let s = start .args in
+    reading-fair (s .t) (s .a) (s .g .fields) (given .result) (start .pre .0) (start .pre .1) (start .pre .2) (given .ensures) (c .before .if1 .taken)
 
 returns : tie.Need-returns
 returns c =
-    (c .read) .ensures ∙ reading-acts ((c .before .before .before .before .before) .args .set) ((c .before .before .before .before .before) .args .t)
-    ((c .before .before .before .before .before) .args .a) ((c .before .before .before .before .before) .args .g)
-    ((c .before .before .before .reading-of) .result) ((c .before .before .before .reading-of) .ensures) ((c .before .before .if1) .taken)
+    let given = c .before .before .before .reading-of in
+    let s = c .before .before .before .before .before .args in
+    c .read .ensures ∙ reading-acts (s .set) (s .t) (s .a) (s .g) (given .result) (given .ensures) (c .before .before .if1 .taken)
 
 default-supply-requires : tie.Need-default-supply-requires
-default-supply-requires c κs = (
-  (c .before .before .before .before .before .before) .pre .0,
-  rw ((c .before .a3) .given .1) at
-      ((c .before .before .before .before .before .before) .pre .1),
-)
+default-supply-requires c κs =
+    let start = c .before .before .before .before .before .before in (start .pre .0, rw (c .before .a3 .given .1) at (start .pre .1))
 
 ask-requires : tie.Need-ask-requires
 ask-requires c κs =
-    let k = rw ((c .before .a4) .given .1) at ((c .before .before .before .before .before .before) .pre .1) in
-    ((c .before .before .before .before .before .before) .pre .0, k .0, k .2)
+    let start = c .before .before .before .before .before .before in
+    let k = rw (c .before .a4 .given .1) at (start .pre .1) in
+    (start .pre .0, k .0, k .2)
 
 returns-9 : tie.Need-returns-9
 returns-9 c =
-    no-reading ((c .before .before .before .before .before) .args .t) ((c .before .before .before .before .before) .args .a)
-    ((c .before .before .before .before .before) .args .g .fields) ((c .before .before .before .reading-of) .result)
-    ((c .before .before .before .reading-of) .ensures) ((c .before .before .if1) .left) (rw ((c .enum-told3) .given .1))
+    let given = c .before .before .before .reading-of in
+    let s = c .before .before .before .before .before .args in
+    no-reading (s .t) (s .a) (s .g .fields) (given .result) (given .ensures) (c .before .before .if1 .left) (rw (c .enum-told3 .given .1))
 
 returns-10 : tie.Need-returns-10
 returns-10 c =
-    no-reading ((c .before .before .before .before .before) .args .t) ((c .before .before .before .before .before) .args .a)
-    ((c .before .before .before .before .before) .args .g .fields) ((c .before .before .before .reading-of) .result)
-    ((c .before .before .before .reading-of) .ensures) ((c .before .before .if1) .left) (rw ((c .enum-told4) .given .1))
+    let given = c .before .before .before .reading-of in
+    let s = c .before .before .before .before .before .args in
+    no-reading (s .t) (s .a) (s .g .fields) (given .result) (given .ensures) (c .before .before .if1 .left) (rw (c .enum-told4 .given .1))
 
 pub acted-spec : {M : Type 1} → statement M
 acted-spec =

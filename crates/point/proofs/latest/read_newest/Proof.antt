@@ -16,66 +16,66 @@ use Rattle.point.proofs.latest.read_newest.Tie as tie
 returns : tie.Need-returns
 unfolding readNewest
 returns c =
-    rw (← ((c .before .before .read-answer) .ensures), ← ((c .before .is-accepted) .ensures), not-true ((c .before .is-accepted) .result) ((c .if1) .taken))
+    let is = c .before .is-accepted in
+    rw (← (c .before .before .read-answer .ensures), ← (is .ensures), not-true (is .result) (c .if1 .taken))
 
 returns-2 : tie.Need-returns-2
 unfolding readNewest
 returns-2 c =
-    let s = (c .before .before .before .before .before .before .before) .args in
+    let left = c .before .before .before in
+    let is = left .before .is-accepted in
+    let s = left .before .before .before .before .args in
     let before : s .f .reading .day < s .q .start = omega (arith, c .if2 .taken) in
-    rw (
-      ← ((c .before .before .before .before .before .read-answer) .ensures),
-      ← ((c .before .before .before .before .is-accepted) .ensures),
-      not-false ((c .before .before .before .before .is-accepted) .result) ((c .before .before .before .if1) .left),
-      lt-leb _ _ before,
-    )
+    rw (← (left .before .before .read-answer .ensures), ← (is .ensures), not-false (is .result) (left .if1 .left), lt-leb _ _ before)
 
 cast-span-to : tie.Need-cast-span-to
 cast-span-to c =
-    let s = (c .before .before .before .before .before .before .before .before) .args in
-    let k = read-passed (s .day) (s .today) (s .p) (s .d) (s .x) (s .z) (s .f) _ ((c .before .before .before .before .before .before .read-answer) .ensures) _
-    ((c .before .before .before .before .before .is-accepted) .ensures) (not-false _ ((c .before .before .before .before .if1) .left)) in
+    let left = c .before .before .before .before in
+    let said = left .before .before in
+    let s = said .before .before .args in
+    let ok = not-false _ (left .if1 .left) in
+    let k =
+    read-passed (s .day) (s .today) (s .p) (s .d) (s .x) (s .z) (s .f) _ (said .read-answer .ensures) _ (left .before .is-accepted .ensures) ok in
     omega (arith, k .0)
 
 span-to-requires : tie.Need-span-to-requires
 span-to-requires c κs =
-    let s = (c .before .before .before .before .before .before .before .before) .args in
-    let k = read-passed (s .day) (s .today) (s .p) (s .d) (s .x) (s .z) (s .f) _ ((c .before .before .before .before .before .before .read-answer) .ensures) _
-    ((c .before .before .before .before .before .is-accepted) .ensures) (not-false _ ((c .before .before .before .before .if1) .left)) in
+    let left = c .before .before .before .before in
+    let said = left .before .before in
+    let s = said .before .before .args in
+    let ok = not-false _ (left .if1 .left) in
+    let k =
+    read-passed (s .day) (s .today) (s .p) (s .d) (s .x) (s .z) (s .f) _ (said .read-answer .ensures) _ (left .before .is-accepted .ensures) ok in
     (k .3, k .1)
 
 cast-t15 : tie.Need-cast-t15
 cast-t15 c =
-    let s = (c .before .before .before .before .before .before .before .before .before) .args in
-    let k = read-passed (s .day) (s .today) (s .p) (s .d) (s .x) (s .z) (s .f) _
-    ((c .before .before .before .before .before .before .before .read-answer) .ensures) _
-    ((c .before .before .before .before .before .before .is-accepted) .ensures) (not-false _ ((c .before .before .before .before .before .if1) .left)) in
+    let left = c .before .before .before .before .before in
+    let said = left .before .before in
+    let s = said .before .before .args in
+    let ok = not-false _ (left .if1 .left) in
+    let k =
+    read-passed (s .day) (s .today) (s .p) (s .d) (s .x) (s .z) (s .f) _ (said .read-answer .ensures) _ (left .before .is-accepted .ensures) ok in
     omega (arith, k .0)
 
 returns-3 : tie.Need-returns-3
 unfolding readNewest spanTo
 returns-3 c =
-    let s = (c .before .before .before .before .before .before .before .before .before .before .before .before) .args in
-    let k = read-passed (s .day) (s .today) (s .p) (s .d) (s .x) (s .z) (s .f) _
-    ((c .before .before .before .before .before .before .before .before .before .before .read-answer) .ensures) _
-    ((c .before .before .before .before .before .before .before .before .before .is-accepted) .ensures)
-    (not-false _ ((c .before .before .before .before .before .before .before .before .if1) .left)) in
-    let made = (c .before .before .before .span-to) in
+    let made = c .before .before .before .span-to in
+    let after = c .before .before .before .before .before in
+    let left = after .before .before .before in
+    let is = left .before .is-accepted in
+    let said = left .before .before in
+    let s = said .before .before .args in
+    let ok = not-false (is .result) (left .if1 .left) in
+    let k = read-passed (s .day) (s .today) (s .p) (s .d) (s .x) (s .z) (s .f) _ (said .read-answer .ensures) _ (is .ensures) ok in
     let e = made .ensures .0 in
     let n = made .result in
     let forward : n .from < n .to = rw e (k .2) in
     let within : n .to ≤ lastDay = rw e (k .0) in
-    let books : (c .book-newest) .result ≡ bookedPeriod n (n .to) (s .q) =
-    (c .book-newest) .ensures ∙ fair-newest n forward within (made .ensures .1) (made .ensures .2) (s .q) in
-    rw (
-      ← ((c .before .before .before .before .before .before .before .before .before .before .read-answer) .ensures),
-      ← ((c .before .before .before .before .before .before .before .before .before .is-accepted) .ensures),
-      not-false ((c .before .before .before .before .before .before .before .before .before .is-accepted) .result)
-          ((c .before .before .before .before .before .before .before .before .if1) .left),
-      le-leb _ _ ((c .before .before .before .before .before .if2) .left),
-      books,
-      e,
-    )
+    let books : c .book-newest .result ≡ bookedPeriod n (n .to) (s .q) =
+    c .book-newest .ensures ∙ fair-newest n forward within (made .ensures .1) (made .ensures .2) (s .q) in
+    rw (← (said .read-answer .ensures), ← (is .ensures), ok, le-leb _ _ (after .if2 .left), books, e)
 
 pub read-newest-spec : {M : Type 1} → statement M
 read-newest-spec =

@@ -145,7 +145,8 @@ loop-again c =
       daily-turn piece
           ((c .before .before .before .before .before .before .before .before .before .before .before .before .before .before .before .before .before .before .before .before .before .before .before .before .before .before .before .before .before .before .before .before .before .before .before .before) .args .out .now) _ _ (l .out) (l .part) (l .ready) (l .set) (l .day) (l .contracts) (l .fields) (l .counts) (l .slots) (l .quiet) (l .at) (l .written) (l .inv .0) (l .inv .2) (line .result .end) (read .end) ((c .before .before .before .before .before .before .before .before .before .before .before .before .before .before .before .before .before .before .before .if1) .left) (m .result) (m .ensures (line-read piece (l .at) (line .result .end) (line .result .message) (read .end) (read .message))) (sym ((c .before .before .before .before .before .before .before .before .before .before .before .before .before .before .before .is-quick) .ensures) ∙ (c .before .before .before .before .before .before .before .before .before .before .before .before .before .before .if2) .taken) ((c .before .before .before .before .before .before .before .before .before .before .before .before .before .place-of) .result) ((c .before .before .before .before .before .before .before .before .before .before .before .before .newest-place) .result) ((c .before .before .before .before .before .before .before .before .before .before .before .before .before .place-of) .ensures) ((c .before .before .before .before .before .before .before .before .before .before .before .before .newest-place) .ensures) _ ((c .before .before .before .before .before .before .before .before .before .daily-of) .result) ((c .before .before .before .before .before .before .before .before .before .daily-of) .ensures) ((c .before .before .before .before .before .before .before .before .if3) .taken) ((c .before .before .before .before .before .day-after) .result) ((c .before .before .before .before .before .day-after) .ensures) ((c .before .before .put-answer) .last .0) ((c .before .before .put-answer) .result) (rw (← ((c .before .before .before .kind-of) .ensures)) ((c .before .before .put-answer) .ensures)),
       read .known,
-      tables-set-kept (l .fields) (l .counts) (l .slots) ((c .before .before .before .before .before .before .before .before .before .before .before .before .before .place-of) .result) _ _ (l .inv .2),
+      tables-set-kept (l .fields) (l .counts) (l .slots)
+          ((c .before .before .before .before .before .before .before .before .before .before .before .before .before .place-of) .result) _ _ (l .inv .2),
     )
 
 mul-ps : tie.Need-mul-ps Inv-loop μ-loop
@@ -259,7 +260,8 @@ loop-again-2 c =
       point-turn piece
           ((c .before .before .before .before .before .before .before .before .before .before .before .before .before .before .before .before .before .before .before .before .before .before .before .before .before .before .before .before .before .before .before .before .before .before .before .before .before .before .before .before .before .before .before .before) .args .out .now) _ _ (l .out) (l .part) (l .ready) (l .set) (l .day) (l .contracts) (l .fields) (l .counts) (l .slots) (l .quiet) (l .at) (l .written) (l .inv .0) (l .inv .2) (line .result .end) (read .end) ((c .before .before .before .before .before .before .before .before .before .before .before .before .before .before .before .before .before .before .before .before .before .before .before .before .before .before .before .if1) .left) (m .result) (m .ensures (line-read piece (l .at) (line .result .end) (line .result .message) (read .end) (read .message))) (sym ((c .before .before .before .before .before .before .before .before .before .before .before .before .before .before .before .before .before .before .before .before .before .before .before .is-quick) .ensures) ∙ (c .before .before .before .before .before .before .before .before .before .before .before .before .before .before .before .before .before .before .before .before .before .before .if2) .taken) ((c .before .before .before .before .before .before .before .before .before .before .before .before .before .before .before .before .before .before .before .before .before .place-of) .result) ((c .before .before .before .before .before .before .before .before .before .before .before .before .before .before .before .supplier-of) .result) ((c .before .before .before .before .before .before .before .before .before .before .before .before .before .before .before .before .before .before .before .before .before .place-of) .ensures) ((c .before .before .before .before .before .before .before .before .before .before .before .before .before .before .before .supplier-of) .ensures) _ ((c .before .before .before .before .before .before .before .before .before .before .before .before .before .joined) .result) ((c .before .before .before .before .before .before .before .before .before .before .before .before .before .joined) .ensures) ((c .before .before .before .before .before .before .before .before .before .before .before .before .turn-of) .result) ((c .before .before .before .before .before .before .before .before .before .before .before .before .turn-of) .ensures) ((c .before .before .before .before .before .before .day-after2) .result) ((c .before .before .before .before .before .before .day-after2) .ensures) ((c .before .before .before .before .before .signed-after) .result) ((c .before .before .before .before .before .signed-after) .ensures) ((c .before .before .before .before .before .before .before .quiet-with) .result) ((c .before .before .before .before .before .before .before .quiet-with) .ensures) ((c .before .before .put-answer2) .last .0) ((c .before .before .put-answer2) .result) (rw (← ((c .before .before .before .kind-of2) .ensures)) ((c .before .before .put-answer2) .ensures)),
       read .known,
-      tables-set (l .fields) (l .counts) (l .slots) ((c .before .before .before .before .before .before .before .before .before .before .before .before .before .before .before .before .before .before .before .before .before .place-of) .result) _ _ _ (l .inv .2),
+      tables-set (l .fields) (l .counts) (l .slots)
+          ((c .before .before .before .before .before .before .before .before .before .before .before .before .before .before .before .before .before .before .before .before .before .place-of) .result) _ _ _ (l .inv .2),
     )
 
 loop-less-3 : tie.Need-loop-less-3 Inv-loop μ-loop

@@ -6,7 +6,6 @@ use checks::is_accepted;
 use checks::outside;
 use dates::LAST_DAY;
 use ranges::off_calendar;
-use ranges::or;
 use ranges::out_of_range_at;
 use rows::first_rows;
 use rows::read;
@@ -43,10 +42,18 @@ pub fn answer_at(
 pub fn read_answer(day: u32, today: u64, p: u64, d: u64, x: u64, z: u64, f: Fields) -> Answer
     ensures { λ r. ⌜ r ≡ readAnswer day today p d x z f ⌝ }
 {
-    let off = or(today > LAST_DAY as u64, d > LAST_DAY as u64);
-    let first = first_rows(outside(0, 1, z), off, today < day as u64);
-    if is_accepted(first) {
-        return read(today as u32, p, d, x, z, f);
+    if outside(0, 1, z) {
+        return Answer::Refused(22);
     }
-    first
+    if today > LAST_DAY as u64 {
+        return Answer::Refused(20);
+    }
+    let t = today as u32;
+    if (LAST_DAY as u64) < d {
+        return Answer::Refused(20);
+    }
+    if t < day {
+        return Answer::Refused(21);
+    }
+    read(t, p, d, x, z, f)
 }

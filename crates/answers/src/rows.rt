@@ -192,6 +192,7 @@ fn cancel(set: Settings, t: u32, p: u64, s: u64, v: View) -> Answer
 }
 
 // The rows of a reading: they look at the point's fields alone.
+// Most lines are readings, so these are plain tests, which cost less.
 pub(crate) fn read(t: u32, p: u64, d: u64, x: u64, z: u64, f: Fields) -> Answer
     requires { ⌜ d ≤ 73048 ⌝ }
     ensures { λ r. ⌜ r ≡ firstOf
@@ -200,9 +201,16 @@ pub(crate) fn read(t: u32, p: u64, d: u64, x: u64, z: u64, f: Fields) -> Answer
 {
     let m = f.meter;
     let last = f.reading;
-    let a = row(Answer::Accepted, not_enrolled(p, f.enrolled), 2);
-    let a = row(a, out_of_time(t, d as u32, last.day), 27);
-    row(a, index_disagrees(full_turn(m), last.index, x, z), 28)
+    if not_enrolled(p, f.enrolled) {
+        return Answer::Refused(2);
+    }
+    if out_of_time(t, d as u32, last.day) {
+        return Answer::Refused(27);
+    }
+    if index_disagrees(full_turn(m), last.index, x, z) {
+        return Answer::Refused(28);
+    }
+    Answer::Accepted
 }
 
 fn change_meter(

@@ -41,15 +41,15 @@ pub fn read_newest(
     }
     let m = f.meter;
     let s = span_to(m, last, d as u32, x, z);
+    let now = Reading {
+        day: d as u32,
+        index: x,
+    };
+    let mut read = f;
+    read.reading = now;
     Newest {
         is: true,
-        fields: Fields {
-            reading: Reading {
-                day: d as u32,
-                index: x,
-            },
-            ..f
-        },
+        fields: read,
         period: book_newest(s, q),
     }
 }

@@ -1,47 +1,60 @@
 -- A reading: 22, 20 and 21 first, then its rows.
-use mathlib.Core.Path.{_≡_}
-use native.Mathlib.Omega.{arith}
-use lib.Dec.{ltb}
-use borrow.Author.Needs.{needs}
-use borrow.Author.Tests.{ltb-false}
+use mathlib.Core.Path.{_≡_, sym, _∙_}
+use mathlib.Core.Bool.{true}
+use Prim.Native.Nat.{_<_}
+use borrow.Author.Tests.{lt-ltb, le-ltb}
 use Rattle.rules.specs.Rejections.{answerTo, firstOf, outside, outOfRange, outOfRangeAt, offCalendar, offCalendarAt, rows, rowsAt, accepted, acceptedAt}
 use Rattle.answers.specs.Ruling.{readAnswer}
-use Rattle.answers.proofs.Within.{cleared, barred, on-calendar}
+use borrow.Author.Needs.{needs}
 use Rattle.answers.proofs.read_answer.Statement.{statement}
 use Rattle.answers.proofs.read_answer.Tie as tie
 
-cast-read : tie.Need-cast-read
-cast-read c =
-    let s = c .before .before in
-    let x = s .before .before .before .args in
-    let k = cleared _ _ (ltb (x .today) (x .day)) _ _ (s .first-rows .ensures) (c .before .is-accepted .ensures) (c .if1 .taken) in
-    omega (arith, on-calendar (x .today) _ _ (s .before .before .or .ensures) (k .1) .0)
-
-read-requires : tie.Need-read-requires
-read-requires c κs =
-    let s = c .before .before in
-    let x = s .before .before .before .args in
-    let k = cleared _ _ (ltb (x .today) (x .day)) _ _ (s .first-rows .ensures) (c .before .is-accepted .ensures) (c .if1 .taken) in
-    ltb-false _ _ (on-calendar (x .today) _ _ (s .before .before .or .ensures) (k .1) .1)
-
 returns : tie.Need-returns
-unfolding readAnswer answerTo outOfRange outOfRangeAt offCalendar offCalendarAt rows rowsAt accepted acceptedAt firstOf
+unfolding readAnswer answerTo outOfRange outOfRangeAt offCalendar offCalendarAt rows accepted firstOf
 returns c =
-    let s = c .before .before .before in
-    let x = s .before .before .before .args in
-    let ok = cleared (s .before .outside .result) (s .before .before .or .result) (ltb (x .today) (x .day)) in
-    let k = ok _ _ (s .first-rows .ensures) (c .before .before .is-accepted .ensures) (c .before .if1 .taken) in
-    let mark : s .before .outside .result ≡ outside 0 1 (x .z) = s .before .outside .ensures in
-    rw (← mark, k .0, ← (s .before .before .or .ensures), k .1, k .2) (c .read .ensures)
+    let marked : outside 0 1 (c .before .before .args .z) ≡ true = sym (c .before .outside .ensures) ∙ c .if1 .taken in
+    rw marked
 
 returns-2 : tie.Need-returns-2
-unfolding readAnswer answerTo outOfRange outOfRangeAt offCalendar offCalendarAt rows accepted
+unfolding readAnswer answerTo outOfRange outOfRangeAt offCalendar offCalendarAt rows accepted firstOf
 returns-2 c =
-    let s = c .before .before in
-    rw (← (s .before .outside .ensures), ← (s .before .before .or .ensures))
-    (barred _ _ _ _ _ _ _ (s .first-rows .ensures) (c .before .is-accepted .ensures) (c .if1 .left))
+    let z = c .before in
+    rw (← (z .before .outside .ensures), z .if1 .left, lt-ltb _ _ (c .if2 .taken))
+
+returns-3 : tie.Need-returns-3
+unfolding readAnswer answerTo outOfRange outOfRangeAt offCalendar offCalendarAt rows accepted firstOf
+returns-3 c =
+    let z = c .before .before in
+    let past : 73048 < z .before .before .args .d = c .if3 .taken in
+    rw (← (z .before .outside .ensures), z .if1 .left, le-ltb _ _ (c .before .if2 .left), lt-ltb _ _ past)
+
+returns-4 : tie.Need-returns-4
+unfolding readAnswer answerTo outOfRange outOfRangeAt offCalendar offCalendarAt rows accepted firstOf
+returns-4 c =
+    let day = c .before in
+    let z = day .before .before in
+    rw (
+      ← (z .before .outside .ensures),
+      z .if1 .left,
+      le-ltb _ _ (day .before .if2 .left),
+      le-ltb _ _ (day .if3 .left),
+      lt-ltb _ _ (c .if4 .taken),
+    )
+
+returns-5 : tie.Need-returns-5
+unfolding readAnswer answerTo outOfRange outOfRangeAt offCalendar offCalendarAt rows rowsAt accepted acceptedAt firstOf
+returns-5 c =
+    let day = c .before .before in
+    let z = day .before .before in
+    rw (
+      ← (z .before .outside .ensures),
+      z .if1 .left,
+      le-ltb _ _ (day .before .if2 .left),
+      le-ltb _ _ (day .if3 .left),
+      le-ltb _ _ (c .before .if4 .left),
+    ) (c .read .ensures)
 
 pub read-answer-spec : {M : Type 1} → statement M
 read-answer-spec =
-    tie.close (tie.spec (λ c. search needs) (λ c. search needs) (λ c κs. search needs) (λ c κs. search needs) (λ c κs. search needs)
-    (λ c κs. search needs) cast-read read-requires returns returns-2)
+    tie.close (tie.spec (λ c κs. search needs) returns (λ c. search needs) returns-2 (λ c. search needs)
+    (λ c. search needs) returns-3 returns-4 (λ c κs. search needs) returns-5)

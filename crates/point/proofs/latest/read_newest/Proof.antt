@@ -48,8 +48,8 @@ span-to-requires c κs =
     read-passed (s .day) (s .today) (s .p) (s .d) (s .x) (s .z) (s .f) _ (said .read-answer .ensures) _ (left .before .is-accepted .ensures) ok in
     (k .3, k .1)
 
-cast-t15 : tie.Need-cast-t15
-cast-t15 c =
+cast-t17 : tie.Need-cast-t17
+cast-t17 c =
     let left = c .before .before .before .before .before in
     let said = left .before .before in
     let s = said .before .before .args in
@@ -61,8 +61,8 @@ cast-t15 c =
 returns-3 : tie.Need-returns-3
 unfolding readNewest spanTo
 returns-3 c =
-    let made = c .before .before .before .span-to in
-    let after = c .before .before .before .before .before in
+    let made = c .before .span-to in
+    let after = c .before .before .before in
     let left = after .before .before .before in
     let is = left .before .is-accepted in
     let said = left .before .before in
@@ -80,4 +80,4 @@ returns-3 c =
 pub read-newest-spec : {M : Type 1} → statement M
 read-newest-spec =
     tie.close (tie.spec (λ c κs. search needs) (λ c κs. search needs) returns returns-2 cast-span-to span-to-requires
-    cast-t15 (λ c κs. search needs) returns-3)
+    cast-t17 (λ c κs. search needs) returns-3)

@@ -4,6 +4,9 @@ use borrow.Author.Needs.{needs}
 use Rattle.checks.proofs.bad_day.Statement.{statement}
 use Rattle.checks.proofs.bad_day.Tie as tie
 
+returns : tie.Need-returns
+returns c = rw (lt-ltb _ _ (c .if1 .taken))
+
 returns-2 : tie.Need-returns-2
 returns-2 c =
     rw (
@@ -23,5 +26,5 @@ returns-3 c =
 
 pub bad-day-spec : {M : Type 1} → statement M
 bad-day-spec =
-    tie.close (tie.spec (λ c. rw (lt-ltb _ _ (c .if1 .taken))) (λ c κs. search needs) returns-2 (λ c. search needs)
+    tie.close (tie.spec returns (λ c κs. search needs) returns-2 (λ c. search needs)
     (λ c κs. search needs) returns-3)

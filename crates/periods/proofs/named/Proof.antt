@@ -6,6 +6,9 @@ use borrow.Author.Needs.{needs}
 use Rattle.periods.proofs.named.Statement.{statement}
 use Rattle.periods.proofs.named.Tie as tie
 
+replaced-requires : tie.Need-replaced-requires
+replaced-requires c κs = starts-some _ _ (sym (c .before .starts-on .ensures) ∙ c .if1 .taken)
+
 returns : tie.Need-returns
 unfolding named
 returns c = rw (← (c .before .before .starts-on .ensures), c .before .if1 .taken) (c .replaced .ensures)
@@ -13,5 +16,5 @@ returns c = rw (← (c .before .before .starts-on .ensures), c .before .if1 .tak
 pub named-spec : {M : Type 1} → statement M
 named-spec =
     tie.close (tie.spec (λ c κs. search needs)
-    (λ c κs. starts-some _ _ (sym (c .before .starts-on .ensures) ∙ c .if1 .taken)) returns (λ c κs. search needs)
+    replaced-requires returns (λ c κs. search needs)
     (λ c. unfold named in rw (← (c .before .before .starts-on .ensures), c .before .if1 .left) (c .appended .ensures)))

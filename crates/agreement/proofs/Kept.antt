@@ -178,18 +178,18 @@ module _ (S : Settings) (A : 0 < S .a) (B : 0 < S .b) (u : List Bool) (t : ℕ) 
         let b = pass _ _ _ _ ok in
         naming t v h (is-enrolled p v (b .0)) _ refl refl refl (record { kind = omega arith; pending = h .ahead .pending })
         (not-full (effectOf S t (PointAction.DefaultSupply k) (v .fields)) (pass _ _ _ _ (pass _ _ _ _ (b .1) .1) .0))
-    at-good p (PointAction.AskSwitch s k r) bad ok =
+    at-good p (PointAction.Request s k r) bad ok =
         let b = pass _ _ _ _ (pass _ _ _ _ ok .1) in
         let f = pass _ _ _ _ (pass _ _ _ _ (pass _ _ _ _ (pass _ _ _ _ (pass _ _ _ _ (b .1) .1) .1) .1) .1) in
         asks (is-enrolled p v (b .0)) (Pending.Request s (max r (t + notice))) (omega arith)
-        (not-full (effectOf S t (PointAction.AskSwitch s k r) (v .fields)) (pass _ _ _ _ (pass-near t (v .fields .supply .kind) _ _ (f .1)) .0))
+        (not-full (effectOf S t (PointAction.Request s k r) (v .fields)) (pass _ _ _ _ (pass-near t (v .fields .supply .kind) _ _ (f .1)) .0))
     at-good p (PointAction.Cancel s) bad ok =
         asks (is-enrolled p v (pass _ _ _ _ ok .0)) Pending.Nothing tt (omega (arith, h .fit))
-    at-good p (PointAction.Read d x z) bad ok =
+    at-good p (PointAction.Reading d x z) bad ok =
         let k = pass _ _ _ _ ok in
         let l = pass _ _ _ _ (k .1) in
         reads (is-enrolled p v (k .0)) d x z _ refl refl refl (h .wheels) (l .0) bad (pass _ _ _ _ (l .1) .0)
-    at-good p (PointAction.ChangeMeter x z b a y) bad ok =
+    at-good p (PointAction.MeterChange x z b a y) bad ok =
         let k = pass _ _ _ _ ok in
         let l = pass _ _ _ _ (k .1) in
         let n = neither (notMark z) (notWheels b a) bad in
@@ -249,7 +249,7 @@ module _ (S : Settings) (A : 0 < S .a) (B : 0 < S .b) (u : List Bool) (t : ℕ) 
       → isAccepted (firstOf (rows S u t c v) (accepted t c)) ≡ true
       → Good t (v p) (effect S t c p (v p .fields)) (spans t c p (v p .fields)) (cond (enrols c p) (t ∷ []) [])
   unfolding effect spans rows accepted outOfRange enrols
-  call-good v p lo hi h (Action.SignContract s) bad ok = unchanged t (v p) h (v p .fields) refl refl refl refl
+  call-good v p lo hi h (Action.Contract s) bad ok = unchanged t (v p) h (v p .fields) refl refl refl refl
   call-good v p lo hi h (Action.Failure s) bad ok =
       failed-good (v p) h s (ltb-false s 1 (neither (ltb s 1) (ltb 99 s) bad .0))
       (any-none 32 1 (λ q. touches s (v q .fields) && isFull (v q) (failed S t s (v q .fields)))

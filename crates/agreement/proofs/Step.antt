@@ -65,7 +65,7 @@ does S t c p g = entered t (effect S t c p (g .fields)) (bookedAll (spans t c p 
 module _ (r : Register) (count : length (r .points) ≡ 32) (t : ℕ) (u : List Bool) (v : ℕ → View) where
   done-count : (c : Action) → length (done t c r .points) ≡ 32
   unfolding done
-  done-count (Action.SignContract s) = count
+  done-count (Action.Contract s) = count
   done-count (Action.Failure s) = length-map (r .points) (failedPoint (r .settings) t s) ∙ count
   done-count (Action.At q a) = length-set (r .points) (q - 1) _ ∙ count
   done-count Action.Day = count
@@ -73,7 +73,7 @@ module _ (r : Register) (count : length (r .points) ≡ 32) (t : ℕ) (u : List 
   done-points : (c : Action) → isAccepted (firstOf (rows (r .settings) u t c v) (accepted t c)) ≡ true → (p : ℕ) → 1 ≤ p → p ≤ 32
       → pointAt p (done t c r .points) ≡ does (r .settings) t c p (pointAt p (r .points))
   unfolding done effect spans failedPoint acted rows accepted
-  done-points (Action.SignContract s) ok p lo hi = refl
+  done-points (Action.Contract s) ok p lo hi = refl
   done-points (Action.Failure s) ok p lo hi = point-map (failedPoint (r .settings) t s) (r .points) p lo (omega arith)
   done-points (Action.At q a) ok p lo hi = go (eqb p q) refl
     where
@@ -99,7 +99,7 @@ module _ (r : Register) (count : length (r .points) ≡ 32) (t : ℕ) (u : List 
 
   done-rest : (c : Action) → (done t c r .settings ≡ r .settings) × (done t c r .day ≡ r .day) × (done t c r .contracts ≡ signed c (r .contracts))
   unfolding done
-  done-rest (Action.SignContract s) = (refl, refl, refl)
+  done-rest (Action.Contract s) = (refl, refl, refl)
   done-rest (Action.Failure s) = (refl, refl, refl)
   done-rest (Action.At q a) = (refl, refl, refl)
   done-rest Action.Day = (refl, refl, refl)

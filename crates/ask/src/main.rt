@@ -1,19 +1,19 @@
 // Reads the lines of standard input as `registre` does, and then answers the question that its words ask.
 // Other words get the usage line on standard error before anything is read. A read that fails, and an input that is not
 // taken to its end, end the run with a word on standard error and without an answer.
-use all_questions::put_every;
-use desk::Desk;
+use ask_every::put_every;
+use ask_lines::put_reply;
+use ask_words::Asked;
+use ask_words::Question;
+use ask_words::asked_by;
+use ask_words::put_unopened;
+use ask_words::put_usage;
+use input_desk::Desk;
+use input_pieces::Session;
 use libc::STDERR_FILENO;
 use libc::STDIN_FILENO;
 use libc::STDOUT_FILENO;
-use question_lines::put_reply;
-use question_words::Asked;
-use question_words::Question;
-use question_words::asked_by;
-use question_words::put_unopened;
-use question_words::put_usage;
 use rules::Register;
-use session::Session;
 ghost use mathlib.Core.Path.{_≡_};
 ghost use lib.ListN.{length};
 
@@ -64,7 +64,7 @@ fn not_taken(s: Session) -> Came {
 // The session behind the last line, if it lacks its line feed.
 fn finished(s: Session) -> Came {
     let mut out = io::buffer();
-    let f = transcript::finish(s, &mut out);
+    let f = input_whole::finish(s, &mut out);
     let last = f.session;
     let part = last.part;
     if part.len > 0 {
@@ -80,7 +80,7 @@ fn finished(s: Session) -> Came {
 fn read_all() -> Came {
     let mut input = io::buffer();
     let mut out = answer_buffer();
-    let mut s = transcript::start();
+    let mut s = input_whole::start();
     // What is read and not yet taken stands from `from` to `end`.
     let mut from: usize = 0;
     let mut end: usize = 0;
@@ -104,7 +104,7 @@ fn read_all() -> Came {
             end = io::count(got, &input);
             continue;
         }
-        let f = session::feed(s, &input[from..end], &mut out);
+        let f = input_pieces::feed(s, &input[from..end], &mut out);
         let taken = f.taken;
         if taken == 0 {
             break;
@@ -123,7 +123,7 @@ fn answer_one(r: Register, q: Question) {
 
 fn answer_all(r: Register) {
     let mut out = io::large_buffer();
-    let mut from = all_questions::start();
+    let mut from = ask_every::start();
     let mut turns = u64::MAX;
     while turns > 0 {
         turns -= 1;

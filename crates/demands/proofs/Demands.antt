@@ -4,14 +4,14 @@ use Rattle.rules.proofs.Examples.{p-examples}
 use Rattle.rules.proofs.RowExamples.{row-examples}
 use Rattle.agreement.proofs.Theorem.{day-book-agrees}
 use Rattle.questions.proofs.Asking.{asking}
-use Rattle.reading.proofs.OneText.{one-text}
-use Rattle.message.proofs.OneLine.{one-line}
-use Rattle.input.proofs.LineLaws.{lines-are}
-use Rattle.desk.proofs.Tabled.{every-answer-tabled}
-use Rattle.listing.proofs.ByBook.{listing-by-book}
-use Rattle.transcript.proofs.Served.{transcript-served, every-feed-goes-on}
-use Rattle.transcript.proofs.Told.{every-input, every-output, every-desk}
-use Rattle.transcript.proofs.Examples.{transcript-examples}
+use Rattle.line_values.proofs.OneText.{one-text}
+use Rattle.line_messages.proofs.OneLine.{one-line}
+use Rattle.input_lines.proofs.LineLaws.{lines-are}
+use Rattle.input_desk.proofs.Tabled.{every-answer-tabled}
+use Rattle.line_listing.proofs.ByBook.{listing-by-book}
+use Rattle.input_whole.proofs.Served.{transcript-served, every-feed-goes-on}
+use Rattle.input_whole.proofs.Told.{every-input, every-output, every-desk}
+use Rattle.input_whole.proofs.Examples.{transcript-examples}
 use Rattle.demands.specs.Demands.{Demands}
 
 pub demands : Demands

@@ -7,13 +7,13 @@ use Rattle.rules.specs.Examples.{PExamples}
 use Rattle.rules.specs.RowExamples.{RowExamples}
 use Rattle.agreement.specs.Demand3.{DayBookAgrees}
 use Rattle.questions.specs.Asking.{Asking}
-use Rattle.reading.specs.OneText.{OneText}
-use Rattle.message.specs.OneLine.{OneLine}
-use Rattle.input.specs.Laws.{LinesAre}
-use Rattle.desk.specs.Table.{EveryAnswerTabled}
-use Rattle.listing.specs.ByBook.{ListingByBook}
-use Rattle.transcript.specs.Transcript.{TranscriptServed, EveryFeedGoesOn, EveryInput, EveryOutput, EveryDesk}
-use Rattle.transcript.specs.Examples.{TranscriptExamples}
+use Rattle.line_values.specs.OneText.{OneText}
+use Rattle.line_messages.specs.OneLine.{OneLine}
+use Rattle.input_lines.specs.Laws.{LinesAre}
+use Rattle.input_desk.specs.Table.{EveryAnswerTabled}
+use Rattle.line_listing.specs.ByBook.{ListingByBook}
+use Rattle.input_whole.specs.Transcript.{TranscriptServed, EveryFeedGoesOn, EveryInput, EveryOutput, EveryDesk}
+use Rattle.input_whole.specs.Examples.{TranscriptExamples}
 
 pub record Demands : Type 0 where
   -- The calendar: days and dates, one to one.

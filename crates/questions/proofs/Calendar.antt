@@ -15,7 +15,7 @@ use Rattle.rules.proofs.Views.{passed}
 
 done-day : (t : ℕ) (a : Action) (r : Register) → done t a r .day ≡ r .day
 unfolding done
-done-day t (Action.SignContract s) r = refl
+done-day t (Action.Contract s) r = refl
 done-day t (Action.Failure s) r = refl
 done-day t (Action.At p a) r = refl
 done-day t Action.Day r = refl

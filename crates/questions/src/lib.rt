@@ -1,6 +1,6 @@
 // The questions: they change nothing, and no pending request is seen through them.
-use checks::outside;
-use periods::marks;
+use point_checks::outside;
+use point_periods::marks;
 use rules::AdvanceAnswer;
 use rules::History;
 use rules::HolderAnswer;

@@ -9,7 +9,7 @@ use borrow.Author.Tests.{le-leb, lt-leb, eq-eqb, ne-eqb}
 use Rattle.dates.specs.Dates.{lastDay}
 use Rattle.rules.specs.declared.{Point.Point, Register.Register, Settings.Settings}
 use Rattle.rules.specs.Register.{catchUp, nextEvent, dueBy, expiryBy, happened, register, pointAt, noPoint, advanced}
-use Rattle.point.specs.Turn.{caughtUp}
+use Rattle.point_effects.specs.Turn.{caughtUp}
 use Rattle.register.specs.Calls.{advancedTo}
 
 -- On the calendar catching up is the definition's.

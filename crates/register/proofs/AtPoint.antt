@@ -16,8 +16,8 @@ use Rattle.rules.specs.Answers.{isAccepted}
 use Rattle.rules.specs.Rejections.{blankView, notPoint, shown, answerTo, answer}
 use Rattle.rules.specs.Register.{catchUp, startsOn, view, blankPoint, register, pointAt, advanced, says, acted, done, outcome, applied}
 use Rattle.rules.proofs.Views.{answer-off, answer-at, accepted-point}
-use Rattle.point.specs.declared.{Ruling.Ruling}
-use Rattle.point.specs.Turn.{turned}
+use Rattle.point_effects.specs.declared.{Ruling.Ruling}
+use Rattle.point_effects.specs.Turn.{turned}
 use Rattle.register.specs.Calls.{callAt, advancedTo, pointOn}
 
 pub advanced-on : (t : ℕ) (r : Register) → t ≤ lastDay → advancedTo t r ≡ advanced t r

@@ -27,7 +27,7 @@ use Rattle.rules.specs.Rejections.{
 use Rattle.rules.specs.Register.{view, pointAt, advanced, says, failedPoint}
 use Rattle.rules.proofs.Accept.{neither}
 use Rattle.rules.proofs.Views.{shown-in}
-use Rattle.point.specs.Turn.{failureFills, failedBy}
+use Rattle.point_effects.specs.Turn.{failureFills, failedBy}
 use Rattle.register.specs.Calls.{call}
 use Rattle.register.specs.Failure.{FailureOn}
 

@@ -7,7 +7,7 @@ use Rattle.rules.specs.declared.{Opening.Opening}
 use Rattle.rules.specs.Answers.{isAccepted}
 use Rattle.rules.specs.Rejections.{openingAnswer}
 use Rattle.rules.proofs.Accept.{pass}
-use Rattle.answers.proofs.Within.{at-most}
+use Rattle.point_answers.proofs.Within.{at-most}
 use Rattle.register.specs.Opens.{InRange}
 
 pub opening-in-range : (o : Opening) → isAccepted (openingAnswer o) ≡ true → InRange o

@@ -2,12 +2,12 @@
 mod opening;
 mod points;
 
-use checks::is_accepted;
-use checks::outside;
 use dates::LAST_DAY;
 pub use opening::no_register;
 pub use opening::open;
-use point::turn;
+use point_checks::is_accepted;
+use point_checks::outside;
+use point_effects::turn;
 use points::advance;
 use points::all_failed;
 use points::any_filled;
@@ -42,7 +42,7 @@ fn accepted(r: Register) -> Outcome
 }
 
 fn sign_contract(r: Register, today: u64, s: u64) -> Outcome
-    ensures { λ x. ⌜ x ≡ applied r (call today (Action.SignContract s)) ⌝ }
+    ensures { λ x. ⌜ x ≡ applied r (call today (Action.Contract s)) ⌝ }
 {
     if outside(1, 99, s) {
         return refused(22, r);
@@ -149,7 +149,7 @@ pub fn apply(r: Register, c: Call) -> Outcome
     let today = c.today;
     let a = c.action;
     match a {
-        Action::SignContract { supplier } => sign_contract(r, today, supplier),
+        Action::Contract { supplier } => sign_contract(r, today, supplier),
         Action::Failure { supplier } => fail(r, today, supplier),
         Action::At { point, act } => at(r, today, point, act),
         Action::Day => new_day(r, today),

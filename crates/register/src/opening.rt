@@ -1,8 +1,8 @@
 // Opening a register.
 use crate::points::blank_point;
-use checks::is_accepted;
-use checks::outside;
 use dates::LAST_DAY;
+use point_checks::is_accepted;
+use point_checks::outside;
 use rules::Answer;
 use rules::Opening;
 use rules::Outcome;

@@ -1,8 +1,8 @@
 // All points of the register at once: brought up to a day, and a supplier's failure.
 use dates::LAST_DAY;
-use point::catch_up;
-use point::failed;
-use point::failure_fills;
+use point_effects::catch_up;
+use point_effects::failed;
+use point_effects::failure_fills;
 use rules::Fields;
 use rules::History;
 use rules::Meter;
@@ -18,7 +18,7 @@ ghost use mathlib.Core.Path.{_≡_};
 ghost use mathlib.Core.List.{map};
 ghost use Rattle.rules.specs.Rejections.{anyPoint};
 ghost use Rattle.rules.specs.Register.{blankPoint, pointAt};
-ghost use Rattle.point.specs.Turn.{caughtUp, failureFills, failedBy};
+ghost use Rattle.point_effects.specs.Turn.{caughtUp, failureFills, failedBy};
 ghost use Rattle.register.specs.Calls.{advancedTo, pointOn};
 
 // A point that was never enrolled.

@@ -1,10 +1,10 @@
 // Reads standard input, hands the bytes on, writes what comes back. A word on the command line gets the usage line.
 // A read or a write that fails, and an input that is not taken to its end, end the run with a word on standard error
 // and without closing lines: they stand for a whole input.
+use input_pieces::Session;
 use libc::STDERR_FILENO;
 use libc::STDIN_FILENO;
 use libc::STDOUT_FILENO;
-use session::Session;
 ghost use mathlib.Core.Path.{_≡_};
 ghost use lib.ListN.{length};
 
@@ -35,7 +35,7 @@ fn write_closing(s: Session) {
     let mut out = io::large_buffer();
     let mut from: usize = 0;
     while from < 32 {
-        let listed = transcript::close(s, from, &mut out);
+        let listed = input_whole::close(s, from, &mut out);
         let n = listed.written;
         if !write_out(&out[..n]) {
             return;
@@ -55,7 +55,7 @@ fn write_closing(s: Session) {
 // The last line, if it lacks its line feed, and the closing lines.
 fn write_end(s: Session) {
     let mut out = io::buffer();
-    let f = transcript::finish(s, &mut out);
+    let f = input_whole::finish(s, &mut out);
     let n = f.written;
     if !write_out(&out[..n]) {
         return;
@@ -79,7 +79,7 @@ fn main() {
     }
     let mut input = io::large_buffer();
     let mut out = answer_buffer();
-    let mut s = transcript::start();
+    let mut s = input_whole::start();
     // What is read and not yet taken stands from `from` to `end`.
     let mut from: usize = 0;
     let mut end: usize = 0;
@@ -102,7 +102,7 @@ fn main() {
             end = io::count(got, &input);
             continue;
         }
-        let f = session::feed(s, &input[from..end], &mut out);
+        let f = input_pieces::feed(s, &input[from..end], &mut out);
         let taken = f.taken;
         if taken == 0 {
             break;

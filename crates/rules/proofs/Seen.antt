@@ -50,7 +50,7 @@ stored-unseen : (p : ℕ) (q : Pending) (ps : List Point)
     ≡ map notAsked ps
 stored-unseen p q ps = map-set-same notAsked ps (p - 1) _ noPoint refl
 
-request-done : (r : Register) (t p s k d : ℕ) → withoutPending (done t (Action.At p (PointAction.AskSwitch s k d)) r) ≡ withoutPending r
+request-done : (r : Register) (t p s k d : ℕ) → withoutPending (done t (Action.At p (PointAction.Request s k d)) r) ≡ withoutPending r
 unfolding withoutPending done acted effectOf spansOf
 request-done r t p s k d = rw (stored-unseen p (Pending.Request s (effectiveDay t d)) (r .points))
 
@@ -81,6 +81,6 @@ pub request-unseen : RequestUnseen
 request-unseen =
     record {
       request = λ r t p s k d. pending-unseen _ _
-          (applied-unseen r t (Action.At p (PointAction.AskSwitch s k d)) (request-done (advanced t r) t p s k d));
+          (applied-unseen r t (Action.At p (PointAction.Request s k d)) (request-done (advanced t r) t p s k d));
       cancel = λ r t p s. pending-unseen _ _ (applied-unseen r t (Action.At p (PointAction.Cancel s)) (cancel-done (advanced t r) t p s));
     }

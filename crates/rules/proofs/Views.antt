@@ -76,10 +76,10 @@ unfolding rowsAt
 names-point S u t p (PointAction.Enrol b a x) v ok = pass _ _ _ _ ok .0
 names-point S u t p (PointAction.IntoService s k) v ok = neither (notPoint p) _ (pass _ _ _ _ (pass _ _ _ _ ok .1) .0) .0
 names-point S u t p (PointAction.DefaultSupply k) v ok = neither (notPoint p) _ (pass _ _ _ _ ok .0) .0
-names-point S u t p (PointAction.AskSwitch s k r) v ok = neither (notPoint p) _ (pass _ _ _ _ (pass _ _ _ _ ok .1) .0) .0
+names-point S u t p (PointAction.Request s k r) v ok = neither (notPoint p) _ (pass _ _ _ _ (pass _ _ _ _ ok .1) .0) .0
 names-point S u t p (PointAction.Cancel s) v ok = neither (notPoint p) _ (pass _ _ _ _ ok .0) .0
-names-point S u t p (PointAction.Read d x z) v ok = neither (notPoint p) _ (pass _ _ _ _ ok .0) .0
-names-point S u t p (PointAction.ChangeMeter x z b a y) v ok = neither (notPoint p) _ (pass _ _ _ _ ok .0) .0
+names-point S u t p (PointAction.Reading d x z) v ok = neither (notPoint p) _ (pass _ _ _ _ ok .0) .0
+names-point S u t p (PointAction.MeterChange x z b a y) v ok = neither (notPoint p) _ (pass _ _ _ _ ok .0) .0
 names-point S u t p PointAction.OutOfService v ok = neither (notPoint p) _ (pass _ _ _ _ ok .0) .0
 names-point S u t p (PointAction.Suspend m) v ok = neither (notPoint p) _ (pass _ _ _ _ ok .0) .0
 

@@ -84,7 +84,7 @@ says b c = answer (b .settings) (b .day) (b .contracts) c (λ p. look (upToDay (
 
 -- 1: "s is under contract"; 2: "s loses its contract"
 abbrev pub signed : Action → List Bool → List Bool
-signed (Action.SignContract s) u = set u s true
+signed (Action.Contract s) u = set u s true
 signed (Action.Failure s) u = set u s false
 signed (Action.At p a) u = u
 signed Action.Day u = u
@@ -133,15 +133,15 @@ unfoldable pub enrolsAt : PointAction → Bool
 enrolsAt (PointAction.Enrol b a x) = true
 enrolsAt (PointAction.IntoService s k) = false
 enrolsAt (PointAction.DefaultSupply k) = false
-enrolsAt (PointAction.AskSwitch s k r) = false
+enrolsAt (PointAction.Request s k r) = false
 enrolsAt (PointAction.Cancel s) = false
-enrolsAt (PointAction.Read d x z) = false
-enrolsAt (PointAction.ChangeMeter x z b a y) = false
+enrolsAt (PointAction.Reading d x z) = false
+enrolsAt (PointAction.MeterChange x z b a y) = false
 enrolsAt PointAction.OutOfService = false
 enrolsAt (PointAction.Suspend m) = false
 
 unfoldable pub enrols : Action → ℕ → Bool
-enrols (Action.SignContract s) p = false
+enrols (Action.Contract s) p = false
 enrols (Action.Failure s) p = false
 enrols (Action.At q a) p = cond (eqb p q) (enrolsAt a) false
 enrols Action.Day p = false

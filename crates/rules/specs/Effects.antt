@@ -69,10 +69,10 @@ effectOf S t (PointAction.IntoService s k) f =
     name (withKey (withSupply f (supply s SupplyKind.Contract (f .supply .pending))) k)
 effectOf S t (PointAction.DefaultSupply k) f =
     name (withKey (withSupply f (supply (S .default) (SupplyKind.Default (t + S .a)) (f .supply .pending))) k)
-effectOf S t (PointAction.AskSwitch s k r) f = keep (withPending f (Pending.Request s (effectiveDay t r)))
+effectOf S t (PointAction.Request s k r) f = keep (withPending f (Pending.Request s (effectiveDay t r)))
 effectOf S t (PointAction.Cancel s) f = keep (withPending f Pending.Nothing)
-effectOf S t (PointAction.Read d x z) f = keep (withReading f (f .meter) (reading d x))
-effectOf S t (PointAction.ChangeMeter x z b a y) f = keep (withReading f (meter b a) (reading t y))
+effectOf S t (PointAction.Reading d x z) f = keep (withReading f (f .meter) (reading d x))
+effectOf S t (PointAction.MeterChange x z b a y) f = keep (withReading f (meter b a) (reading t y))
 effectOf S t PointAction.OutOfService f = name (withSupply f unsupplied)
 effectOf S t (PointAction.Suspend m) f = keep (withMark f m)
 
@@ -91,7 +91,7 @@ failed S t s f =
 
 -- 1 and 12 touch no point.
 unfoldable pub effect : Settings → ℕ → Action → ℕ → Fields → Effect
-effect S t (Action.SignContract s) p f = keep f
+effect S t (Action.Contract s) p f = keep f
 effect S t (Action.Failure s) p f = failed S t s f
 effect S t (Action.At q a) p f = cond (eqb p q) (effectOf S t a f) (keep f)
 effect S t Action.Day p f = keep f

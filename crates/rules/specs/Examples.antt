@@ -29,17 +29,17 @@ opens d = opening d 2 30 40 1 2
 -- Point 1, enrolled and taken into service with supplier 5 on day d.
 abbrev served : ℕ → List Line
 served d =
-    on d (Action.SignContract 5) gives Answer.Accepted ∷ on d (Action.SignContract 6) gives Answer.Accepted ∷
+    on d (Action.Contract 5) gives Answer.Accepted ∷ on d (Action.Contract 6) gives Answer.Accepted ∷
     on d (Action.At 1 (PointAction.Enrol 3 0 990)) gives Answer.Accepted ∷
     on d (Action.At 1 (PointAction.IntoService 5 77)) gives Answer.Accepted ∷ []
 
 -- A request of supplier 6 there on 1 June 2021 (7,822), which asks for day r.
 abbrev requestFor : ℕ → Answer → List Line
-requestFor r a = served 7820 ++ (on 7822 (Action.At 1 (PointAction.AskSwitch 6 77 r)) gives a ∷ [])
+requestFor r a = served 7820 ++ (on 7822 (Action.At 1 (PointAction.Request 6 77 r)) gives a ∷ [])
 
 -- A request of supplier 6 on 3 May 2021 for 25 May.
 abbrev pub asked : List Line
-asked = served 7792 ++ (on 7793 (Action.At 1 (PointAction.AskSwitch 6 77 7815)) gives Answer.AcceptedOn 7815 ∷ [])
+asked = served 7792 ++ (on 7793 (Action.At 1 (PointAction.Request 6 77 7815)) gives Answer.AcceptedOn 7815 ∷ [])
 
 abbrev pub cancelledOn : ℕ → Answer → List Line
 cancelledOn t a = asked ++ (on t (Action.At 1 (PointAction.Cancel 6)) gives a ∷ [])
@@ -47,7 +47,7 @@ cancelledOn t a = asked ++ (on t (Action.At 1 (PointAction.Cancel 6)) gives a �
 -- Point 1, enrolled and taken over by the default supplier on day 8,000.
 abbrev defaulted : List Line
 defaulted =
-    on 8000 (Action.SignContract 5) gives Answer.Accepted ∷
+    on 8000 (Action.Contract 5) gives Answer.Accepted ∷
     on 8000 (Action.At 1 (PointAction.Enrol 3 0 990)) gives Answer.Accepted ∷
     on 8000 (Action.At 1 (PointAction.DefaultSupply 77)) gives Answer.Accepted ∷ []
 
@@ -56,15 +56,15 @@ abbrev thenDay : ℕ → List Line
 thenDay t = defaulted ++ (on t action.Day gives Answer.Accepted ∷ [])
 
 abbrev thenRequest : ℕ → Answer → List Line
-thenRequest t a = defaulted ++ (on t (Action.At 1 (PointAction.AskSwitch 5 77 t)) gives a ∷ [])
+thenRequest t a = defaulted ++ (on t (Action.At 1 (PointAction.Request 5 77 t)) gives a ∷ [])
 
 -- A meter with three wheels after the comma, so that U = 1; 7 units in 10 days, and a new holder on the day k = 3.
 abbrev sevenInTen : List Line
 sevenInTen =
-    on 8000 (Action.SignContract 5) gives Answer.Accepted ∷
+    on 8000 (Action.Contract 5) gives Answer.Accepted ∷
     on 8000 (Action.At 1 (PointAction.Enrol 4 3 100)) gives Answer.Accepted ∷
     on 8003 (Action.At 1 (PointAction.IntoService 5 77)) gives Answer.Accepted ∷
-    on 8010 (Action.At 1 (PointAction.Read 8010 107 0)) gives Answer.Accepted ∷ []
+    on 8010 (Action.At 1 (PointAction.Reading 8010 107 0)) gives Answer.Accepted ∷ []
 
 abbrev sevenSpan : Span
 sevenSpan = record { from = 8000; to = 8010; advance = 7; unit = 1 }
@@ -72,11 +72,11 @@ sevenSpan = record { from = 8000; to = 8010; advance = 7; unit = 1 }
 -- The sample input, from its second line on.
 abbrev sample : List Line
 sample =
-    on 7671 (Action.SignContract 5) gives Answer.Accepted ∷
+    on 7671 (Action.Contract 5) gives Answer.Accepted ∷
     on 7671 (Action.At 1 (PointAction.Enrol 3 0 990)) gives Answer.Accepted ∷
     on 7674 (Action.At 1 (PointAction.IntoService 5 77)) gives Answer.Accepted ∷
     on 7674 (Action.At 1 (PointAction.DefaultSupply 77)) gives Answer.Refused 24 ∷
-    on 7684 (Action.At 1 (PointAction.Read 7684 10 1)) gives Answer.Accepted ∷ []
+    on 7684 (Action.At 1 (PointAction.Reading 7684 10 1)) gives Answer.Accepted ∷ []
 
 pub record PExamples : Type 0 where
   -- "29 February 2020 is 7,364; there is no 29 February 2100."

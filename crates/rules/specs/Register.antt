@@ -156,7 +156,7 @@ failedPoint S t s g = entered t (failed S t s (g .fields)) (g .history)
 
 -- An accepted call on a register that has been brought up to today.
 unfoldable pub done : ℕ → Action → Register → Register
-done t (Action.SignContract s) r = register (r .settings) (r .day) (set (r .contracts) s true) (r .points)
+done t (Action.Contract s) r = register (r .settings) (r .day) (set (r .contracts) s true) (r .points)
 done t (Action.Failure s) r =
     register (r .settings) (r .day) (set (r .contracts) s false) (map (failedPoint (r .settings) t s) (r .points))
 done t (Action.At p a) r =

@@ -66,15 +66,15 @@ unfoldable pub outOfRangeAt : PointAction → Bool
 outOfRangeAt (PointAction.Enrol b a x) = notWheels b a
 outOfRangeAt (PointAction.IntoService s k) = notSupplier s || notKey k
 outOfRangeAt (PointAction.DefaultSupply k) = notKey k
-outOfRangeAt (PointAction.AskSwitch s k r) = notSupplier s || notKey k
+outOfRangeAt (PointAction.Request s k r) = notSupplier s || notKey k
 outOfRangeAt (PointAction.Cancel s) = notSupplier s
-outOfRangeAt (PointAction.Read d x z) = notMark z
-outOfRangeAt (PointAction.ChangeMeter x z b a y) = notMark z || notWheels b a
+outOfRangeAt (PointAction.Reading d x z) = notMark z
+outOfRangeAt (PointAction.MeterChange x z b a y) = notMark z || notWheels b a
 outOfRangeAt PointAction.OutOfService = false
 outOfRangeAt (PointAction.Suspend m) = notMark m
 
 unfoldable pub outOfRange : Action → Bool
-outOfRange (Action.SignContract s) = notSupplier s
+outOfRange (Action.Contract s) = notSupplier s
 outOfRange (Action.Failure s) = notSupplier s
 outOfRange (Action.At p a) = outOfRangeAt a
 outOfRange Action.Day = false
@@ -85,15 +85,15 @@ unfoldable pub offCalendarAt : Settings → ℕ → PointAction → Bool
 offCalendarAt S t (PointAction.Enrol b a x) = false
 offCalendarAt S t (PointAction.IntoService s k) = false
 offCalendarAt S t (PointAction.DefaultSupply k) = ltb lastDay (t + S .a + S .b)
-offCalendarAt S t (PointAction.AskSwitch s k r) = ltb lastDay r
+offCalendarAt S t (PointAction.Request s k r) = ltb lastDay r
 offCalendarAt S t (PointAction.Cancel s) = false
-offCalendarAt S t (PointAction.Read d x z) = ltb lastDay d
-offCalendarAt S t (PointAction.ChangeMeter x z b a y) = false
+offCalendarAt S t (PointAction.Reading d x z) = ltb lastDay d
+offCalendarAt S t (PointAction.MeterChange x z b a y) = false
 offCalendarAt S t PointAction.OutOfService = false
 offCalendarAt S t (PointAction.Suspend m) = false
 
 unfoldable pub offCalendar : Settings → ℕ → Action → Bool
-offCalendar S t (Action.SignContract s) = false
+offCalendar S t (Action.Contract s) = false
 offCalendar S t (Action.Failure s) = ltb lastDay (t + S .b)
 offCalendar S t (Action.At p a) = offCalendarAt S t a
 offCalendar S t Action.Day = false
@@ -183,17 +183,17 @@ rowsAt S u t p (PointAction.IntoService s k) v =
 rowsAt S u t p (PointAction.DefaultSupply k) v =
     (notEnrolled p v ⇒ 2) ∷ (ltb 0 (v .fields .supply .holder) ⇒ 24)
     ∷ (isFull v (effectOf S t (PointAction.DefaultSupply k) (v .fields)) ⇒ 30) ∷ []
-rowsAt S u t p (PointAction.AskSwitch s k r) v =
+rowsAt S u t p (PointAction.Request s k r) v =
     (noContract u s ⇒ 1) ∷ (notEnrolled p v ⇒ 2) ∷ (badDay t r ⇒ 3) ∷ (not (eqb k (v .fields .key)) ⇒ 4)
     ∷ (isPending (v .fields .supply .pending) ⇒ 5) ∷ (eqb (v .fields .supply .holder) 0 ⇒ 6)
     ∷ (eqb (v .fields .mark) 1 ⇒ 7) ∷ lastResortNear t (v .fields .supply .kind)
-    ∷ (isFull v (effectOf S t (PointAction.AskSwitch s k r) (v .fields)) ⇒ 30) ∷ []
+    ∷ (isFull v (effectOf S t (PointAction.Request s k r) (v .fields)) ⇒ 30) ∷ []
 rowsAt S u t p (PointAction.Cancel s) v =
     (notEnrolled p v ⇒ 2) ∷ (not (isBy s (v .fields .supply .pending)) ⇒ 25)
     ∷ (tooLate S t (v .fields .supply .pending) ⇒ 26) ∷ []
-rowsAt S u t p (PointAction.Read d x z) v =
+rowsAt S u t p (PointAction.Reading d x z) v =
     (notEnrolled p v ⇒ 2) ∷ (outOfTime t d (v .fields) ⇒ 27) ∷ (indexDisagrees (v .fields) x z ⇒ 28) ∷ []
-rowsAt S u t p (PointAction.ChangeMeter x z b a y) v =
+rowsAt S u t p (PointAction.MeterChange x z b a y) v =
     (notEnrolled p v ⇒ 2) ∷ (outOfTime t t (v .fields) ⇒ 27)
     ∷ (indexDisagrees (v .fields) x z || leb (fullTurn (meter b a)) y ⇒ 28) ∷ []
 rowsAt S u t p PointAction.OutOfService v =
@@ -203,7 +203,7 @@ rowsAt S u t p (PointAction.Suspend m) v = (notEnrolled p v ⇒ 2) ∷ []
 
 -- 29: "failure of the default or last-resort supplier"
 unfoldable pub rows : Settings → List Bool → ℕ → Action → (ℕ → View) → List Row
-rows S u t (Action.SignContract s) v = []
+rows S u t (Action.Contract s) v = []
 rows S u t (Action.Failure s) v =
     (noContract u s ⇒ 1) ∷ (eqb s (S .default) || eqb s (S .resort) ⇒ 29)
     ∷ (anyPoint 1 32 (λ p. touches s (v p .fields) && isFull (v p) (failed S t s (v p .fields))) ⇒ 30) ∷ []
@@ -215,15 +215,15 @@ unfoldable pub acceptedAt : ℕ → PointAction → Answer
 acceptedAt t (PointAction.Enrol b a x) = Answer.Accepted
 acceptedAt t (PointAction.IntoService s k) = Answer.Accepted
 acceptedAt t (PointAction.DefaultSupply k) = Answer.Accepted
-acceptedAt t (PointAction.AskSwitch s k r) = Answer.AcceptedOn (effectiveDay t r)
+acceptedAt t (PointAction.Request s k r) = Answer.AcceptedOn (effectiveDay t r)
 acceptedAt t (PointAction.Cancel s) = Answer.Accepted
-acceptedAt t (PointAction.Read d x z) = Answer.Accepted
-acceptedAt t (PointAction.ChangeMeter x z b a y) = Answer.Accepted
+acceptedAt t (PointAction.Reading d x z) = Answer.Accepted
+acceptedAt t (PointAction.MeterChange x z b a y) = Answer.Accepted
 acceptedAt t PointAction.OutOfService = Answer.Accepted
 acceptedAt t (PointAction.Suspend m) = Answer.Accepted
 
 unfoldable pub accepted : ℕ → Action → Answer
-accepted t (Action.SignContract s) = Answer.Accepted
+accepted t (Action.Contract s) = Answer.Accepted
 accepted t (Action.Failure s) = Answer.Accepted
 accepted t (Action.At p a) = acceptedAt t a
 accepted t Action.Day = Answer.Accepted

@@ -37,8 +37,8 @@ onlyDay r t a = cond (isAccepted (applied r (on t a) .answer)) (applied r (on t 
 -- So a request, on whatever day, changes no answer that the day itself does not change; nor does its cancel.
 pub record RequestUnseen : Type 0 where
   pub request : (r : Register) (t p s k d : ℕ)
-      → SameAnswers (applied r (on t (Action.At p (PointAction.AskSwitch s k d))) .register)
-      (onlyDay r t (Action.At p (PointAction.AskSwitch s k d)))
+      → SameAnswers (applied r (on t (Action.At p (PointAction.Request s k d))) .register)
+      (onlyDay r t (Action.At p (PointAction.Request s k d)))
   pub cancel : (r : Register) (t p s : ℕ) → SameAnswers
       (applied r (on t (Action.At p (PointAction.Cancel s))) .register)
       (onlyDay r t (Action.At p (PointAction.Cancel s)))

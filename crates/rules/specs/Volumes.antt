@@ -59,16 +59,16 @@ unfoldable pub spansOf : ℕ → PointAction → Fields → List Span
 spansOf t (PointAction.Enrol b a x) f = []
 spansOf t (PointAction.IntoService s k) f = []
 spansOf t (PointAction.DefaultSupply k) f = []
-spansOf t (PointAction.AskSwitch s k r) f = []
+spansOf t (PointAction.Request s k r) f = []
 spansOf t (PointAction.Cancel s) f = []
-spansOf t (PointAction.Read d x z) f = spanTo f d x z ∷ []
-spansOf t (PointAction.ChangeMeter x z b a y) f = spanTo f t x z ∷ []
+spansOf t (PointAction.Reading d x z) f = spanTo f d x z ∷ []
+spansOf t (PointAction.MeterChange x z b a y) f = spanTo f t x z ∷ []
 spansOf t PointAction.OutOfService f = []
 spansOf t (PointAction.Suspend m) f = []
 
 -- The same at point p.
 unfoldable pub spans : ℕ → Action → ℕ → Fields → List Span
-spans t (Action.SignContract s) p f = []
+spans t (Action.Contract s) p f = []
 spans t (Action.Failure s) p f = []
 spans t (Action.At q a) p f = cond (eqb p q) (spansOf t a f) []
 spans t Action.Day p f = []

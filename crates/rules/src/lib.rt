@@ -105,7 +105,7 @@ pub struct Call {
 }
 
 pub enum Action {
-    SignContract { supplier: u64 },
+    Contract { supplier: u64 },
     Failure { supplier: u64 },
     At { point: u64, act: PointAction },
     Day,
@@ -124,7 +124,7 @@ pub enum PointAction {
     DefaultSupply {
         key: u64,
     },
-    AskSwitch {
+    Request {
         supplier: u64,
         key: u64,
         day: u64,
@@ -132,12 +132,12 @@ pub enum PointAction {
     Cancel {
         supplier: u64,
     },
-    Read {
+    Reading {
         day: u64,
         index: u64,
         zero: u64,
     },
-    ChangeMeter {
+    MeterChange {
         index: u64,
         zero: u64,
         before: u64,

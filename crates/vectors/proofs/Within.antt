@@ -7,12 +7,12 @@ use native.Mathlib.Omega.{arith}
 use borrow.Author.Tests.{leb-true, leb-false}
 use lib.Dec.{leb}
 use lib.ListN.{length, take, drop, length-take, length-drop}
-use Rattle.text.specs.Appending.{Appended}
-use Rattle.text.proofs.Appends.{room-put, no-room, appended-length}
-use Rattle.input.specs.Lines.{untilFeed}
-use Rattle.input.proofs.Feeds.{until-le, fitting-le}
-use Rattle.session.specs.declared.{Session.Session, Fed.Fed}
-use Rattle.session.specs.Session.{FedBy, fedAs, takenOf}
+use Rattle.line_text.specs.Appending.{Appended}
+use Rattle.line_text.proofs.Appends.{room-put, no-room, appended-length}
+use Rattle.input_lines.specs.Lines.{untilFeed}
+use Rattle.input_lines.proofs.Feeds.{until-le, fitting-le}
+use Rattle.input_pieces.specs.declared.{Session.Session, Fed.Fed}
+use Rattle.input_pieces.specs.Session.{FedBy, fedAs, takenOf}
 
 -- a writer that begins within its buffer ends within it
 pub appended-within : (at : ℕ) (t o o′ : List ℕ) (r : ℕ) → Appended at t o o′ r → at ≤ length o → r ≤ length o′

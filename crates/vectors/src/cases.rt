@@ -3,7 +3,7 @@ use crate::files;
 use crate::tally;
 use crate::tally::Tally;
 use crate::ways;
-use input::line_end;
+use input_lines::line_end;
 
 // All cases that list.txt names, one to a line.
 pub(crate) fn all() -> Tally {

@@ -1,5 +1,5 @@
 // Stored files.
-use text::write::put_word;
+use line_text::write::put_word;
 ghost use Rattle.io.specs.Counts.{Counts};
 
 // What a buffer holds of a file: its first len bytes, and whether that is the whole file.

@@ -1,7 +1,7 @@
 // An input through `start`, `feed`, `finish` and `close`, cut in four ways.
 use crate::agreed;
 use crate::agreed::Agreed;
-use session::Session;
+use input_pieces::Session;
 ghost use mathlib.Core.Path.{_≡_};
 ghost use Prim.Native.Nat.{_≤_};
 ghost use lib.ListN.{length};
@@ -57,12 +57,12 @@ fn room_for_one_point() -> [u8; 918]
 
 // The answers to all lines. A piece of which nothing is taken is a difference: the input would never end.
 fn answered(input: &[u8], piece: usize, expected: &[u8], out: &mut [u8]) -> Run {
-    let mut s = transcript::start();
+    let mut s = input_whole::start();
     let mut a = agreed::nothing_yet();
     let mut at: usize = 0;
     while at < input.len() {
         let end = piece_end(at, piece, input.len());
-        let f = session::feed(s, &input[at..end], out);
+        let f = input_pieces::feed(s, &input[at..end], out);
         s = f.session;
         let w = f.written;
         a = agreed::then(a, &out[..w], expected);
@@ -92,7 +92,7 @@ fn piece_end(at: usize, piece: usize, len: usize) -> usize
 
 // The answer to a last line without its line feed.
 fn last_line(s: Session, a: Agreed, expected: &[u8], out: &mut [u8]) -> Run {
-    let f = transcript::finish(s, out);
+    let f = input_whole::finish(s, out);
     let w = f.written;
     let after = f.session;
     Run {
@@ -107,7 +107,7 @@ fn closed(r: Run, expected: &[u8], out: &mut [u8]) -> Agreed {
     let mut a = r.agreed;
     let mut from: usize = 0;
     while from < 32 {
-        let listed = transcript::close(s, from, out);
+        let listed = input_whole::close(s, from, out);
         let w = listed.written;
         a = agreed::then(a, &out[..w], expected);
         if listed.next <= from {

@@ -2,8 +2,8 @@
 use mathlib.Core.Path.{sym}
 use lib.Seq.{length-take-le}
 use native.Mathlib.Omega.{arith}
-use Rattle.question_words.specs.Asked.{unopened}
-use Rattle.question_lines.proofs.Writing.{appended-within}
+use Rattle.ask_words.specs.Asked.{unopened}
+use Rattle.ask_lines.proofs.Writing.{appended-within}
 use borrow.Author.Needs.{needs}
 use Rattle.ask.proofs.answer.Statement.{statement}
 use Rattle.ask.proofs.answer.Tie as tie

@@ -2,7 +2,7 @@
 use mathlib.Core.Path.{_≡_, sym}
 use lib.ListN.{length}
 use lib.Seq.{length-take-le}
-use Rattle.all_questions.proofs.Handing.{handed-within}
+use Rattle.ask_every.proofs.Handing.{handed-within}
 use borrow.Author.Needs.{needs}
 use Rattle.ask.proofs.answer_all.Statement.{statement}
 use Rattle.ask.proofs.answer_all.Tie as tie

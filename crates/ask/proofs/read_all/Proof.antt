@@ -3,7 +3,7 @@ use Prim.Native.Nat.{_≤_}
 use mathlib.Core.Path.{_≡_}
 use lib.ListN.{length}
 use native.Mathlib.Omega.{arith}
-use Rattle.transcript.proofs.Taken.{part-taken}
+use Rattle.input_whole.proofs.Taken.{part-taken}
 use borrow.Author.Needs.{needs}
 use Rattle.ask.proofs.read_all.Statement.{statement}
 use Rattle.ask.proofs.read_all.Tie as tie

@@ -4,7 +4,7 @@ use native.Mathlib.Omega.{arith}
 use borrow.Author.Tests.{lt-ltb, le-ltb}
 use Rattle.rules.specs.Rejections.{answer, answerTo, firstOf, outOfRange, offCalendar, rows, accepted}
 use Rattle.rules.specs.Register.{says, done, applied}
-use Rattle.answers.proofs.Within.{at-most}
+use Rattle.point_answers.proofs.Within.{at-most}
 use Rattle.register.proofs.AtPoint.{advanced-on}
 use borrow.Author.Needs.{needs}
 use Rattle.register.proofs.sign_contract.Statement.{statement}

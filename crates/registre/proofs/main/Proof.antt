@@ -4,8 +4,8 @@ use mathlib.Core.Path.{_≡_, sym}
 use lib.ListN.{length}
 use lib.Seq.{length-take-le}
 use native.Mathlib.Omega.{arith}
-use Rattle.session.proofs.Within.{fed-within}
-use Rattle.transcript.proofs.Taken.{part-taken}
+use Rattle.input_pieces.proofs.Within.{fed-within}
+use Rattle.input_whole.proofs.Taken.{part-taken}
 use borrow.Author.Needs.{needs}
 use Rattle.registre.proofs.main.Statement.{statement}
 use Rattle.registre.proofs.main.Tie as tie

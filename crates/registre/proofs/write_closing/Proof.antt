@@ -3,7 +3,7 @@ use Prim.Native.Nat.{_-_}
 use mathlib.Core.Path.{_≡_, sym}
 use lib.ListN.{length}
 use lib.Seq.{length-take-le}
-use Rattle.transcript.proofs.Ends.{closed-within}
+use Rattle.input_whole.proofs.Ends.{closed-within}
 use borrow.Author.Needs.{needs}
 use Rattle.registre.proofs.write_closing.Statement.{statement}
 use Rattle.registre.proofs.write_closing.Tie as tie

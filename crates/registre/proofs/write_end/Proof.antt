@@ -1,7 +1,7 @@
 -- The last line's answer stands within the buffer.
 use mathlib.Core.Path.{sym}
 use lib.Seq.{length-take-le}
-use Rattle.session.proofs.Within.{fed-within}
+use Rattle.input_pieces.proofs.Within.{fed-within}
 use borrow.Author.Needs.{needs}
 use Rattle.registre.proofs.write_end.Statement.{statement}
 use Rattle.registre.proofs.write_end.Tie as tie

@@ -12,21 +12,21 @@ pub record ContractExamples : Type 0 where
   pub not-under-contract : Then
       (on 11 (Action.Failure 7) gives Answer.Refused 1 ∷ on 11 (Action.At 2 (PointAction.IntoService 7 77)) gives
       Answer.Refused 1 ∷
-      on 11 (Action.At 1 (PointAction.AskSwitch 7 77 31)) gives Answer.Refused 1 ∷
-      on 11 (Action.SignContract 7) gives Answer.Accepted ∷
-      on 11 (Action.SignContract 7) gives Answer.Accepted ∷
+      on 11 (Action.At 1 (PointAction.Request 7 77 31)) gives Answer.Refused 1 ∷
+      on 11 (Action.Contract 7) gives Answer.Accepted ∷
+      on 11 (Action.Contract 7) gives Answer.Accepted ∷
       on 11 (Action.At 2 (PointAction.IntoService 7 77)) gives Answer.Accepted ∷
-      on 11 (Action.At 1 (PointAction.AskSwitch 7 77 31)) gives Answer.AcceptedOn 32 ∷
+      on 11 (Action.At 1 (PointAction.Request 7 77 31)) gives Answer.AcceptedOn 32 ∷
       on 11 (Action.Failure 7) gives Answer.Accepted ∷ on 11 (Action.Failure 7) gives Answer.Refused 1 ∷ [])
   -- "s loses its contract, its pending requests are dropped"
   pub failed-loses-contract : Then
       (on 11 (Action.Failure 6) gives Answer.Accepted ∷ on 11 (Action.At 4 (PointAction.Cancel 6)) gives
       Answer.Refused 25 ∷
       on 11 (Action.At 2 (PointAction.IntoService 6 77)) gives Answer.Refused 1 ∷
-      on 11 (Action.At 1 (PointAction.AskSwitch 6 77 31)) gives Answer.Refused 1 ∷
-      on 11 (Action.SignContract 6) gives Answer.Accepted ∷
+      on 11 (Action.At 1 (PointAction.Request 6 77 31)) gives Answer.Refused 1 ∷
+      on 11 (Action.Contract 6) gives Answer.Accepted ∷
       on 11 (Action.At 4 (PointAction.Cancel 6)) gives Answer.Refused 25 ∷
-      on 11 (Action.At 1 (PointAction.AskSwitch 6 77 31)) gives Answer.AcceptedOn 32 ∷ [])
+      on 11 (Action.At 1 (PointAction.Request 6 77 31)) gives Answer.AcceptedOn 32 ∷ [])
   -- 29: "failure of the default or last-resort supplier"
   pub protected-suppliers : Then
       (on 11 (Action.Failure 1) gives Answer.Refused 29 ∷ on 11 (Action.Failure 2) gives Answer.Refused 29 ∷
@@ -51,7 +51,7 @@ pub record ContractExamples : Type 0 where
       (period 10 5 0 ∷ period 11 2 0 ∷ period 51 0 0 ∷ []) 0
   -- the failed supplier's own request at a point that it holds goes too
   pub own-request-at-own-point : ThenKeeps
-      (on 11 (Action.At 1 (PointAction.AskSwitch 5 77 40)) gives Answer.AcceptedOn 40 ∷
+      (on 11 (Action.At 1 (PointAction.Request 5 77 40)) gives Answer.AcceptedOn 40 ∷
       on 12 (Action.Failure 5) gives Answer.Accepted ∷ []) 1
       (kept (supply 2 (SupplyKind.LastResort 52) Pending.Nothing))
   -- on the day on which its request takes effect the failure finds it as holder; the day keeps one period, the

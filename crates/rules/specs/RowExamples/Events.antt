@@ -11,12 +11,12 @@ use Rattle.rules.specs.RowExamples.Scene.{Then, ThenKeeps, ThenShows, ke
 
 -- Point 3 is in default supply to day 40; supplier 6 asks for it from day r on.
 abbrev askedFor : ℕ → List Line
-askedFor r = on 18 (Action.At 3 (PointAction.AskSwitch 6 77 r)) gives Answer.AcceptedOn r ∷ []
+askedFor r = on 18 (Action.At 3 (PointAction.Request 6 77 r)) gives Answer.AcceptedOn r ∷ []
 
 -- Supplier 5 fails on day 11, so that point 1 is under last resort to day 51; supplier 6 asks for it from day r on.
 abbrev askedUnderLastResort : ℕ → List Line
 askedUnderLastResort r =
-    on 11 (Action.Failure 5) gives Answer.Accepted ∷ on 12 (Action.At 1 (PointAction.AskSwitch 6 77 r)) gives
+    on 11 (Action.Failure 5) gives Answer.Accepted ∷ on 12 (Action.At 1 (PointAction.Request 6 77 r)) gives
     Answer.AcceptedOn r ∷ []
 
 pub record EventExamples : Type 0 where
@@ -64,7 +64,7 @@ pub record EventExamples : Type 0 where
   -- "Wherever an event or an accepted call names a holder, even the present one, that day's cell is overwritten with it
   -- and marked."
   pub present-holder-named : ThenShows
-      (on 11 (Action.At 1 (PointAction.AskSwitch 5 77 11)) gives Answer.AcceptedOn 32 ∷
+      (on 11 (Action.At 1 (PointAction.Request 5 77 11)) gives Answer.AcceptedOn 32 ∷
       on 40 Action.Day gives Answer.Accepted ∷ []) 1
       (period 10 5 0 ∷ period 32 5 0 ∷ []) 0
   pub call-replaces-event : ThenShows

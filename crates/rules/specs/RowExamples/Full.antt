@@ -10,7 +10,7 @@ use Rattle.rules.specs.RowExamples.Scene.{opens, turns}
 -- day 31; 21 on day 30.
 abbrev enrolled : ℕ → ℕ → List Line
 enrolled s p =
-    on 10 (Action.SignContract 5) gives Answer.Accepted ∷ on 10 (Action.SignContract 6) gives Answer.Accepted ∷
+    on 10 (Action.Contract 5) gives Answer.Accepted ∷ on 10 (Action.Contract 6) gives Answer.Accepted ∷
     on 10 (Action.At p (PointAction.Enrol 3 0 990)) gives Answer.Accepted ∷
     on 10 (Action.At p (PointAction.IntoService s 77)) gives Answer.Accepted ∷ []
 
@@ -23,7 +23,7 @@ marks21 = enrolled 5 1 ++ turns 5 1 10 11
 -- The first service is a day after enrolment, so that the marks are even.
 abbrev enrolledBefore : List Line
 enrolledBefore =
-    on 10 (Action.SignContract 5) gives Answer.Accepted ∷ on 10 (Action.SignContract 6) gives Answer.Accepted ∷
+    on 10 (Action.Contract 5) gives Answer.Accepted ∷ on 10 (Action.Contract 6) gives Answer.Accepted ∷
     on 10 (Action.At 1 (PointAction.Enrol 3 0 990)) gives Answer.Accepted ∷
     on 11 (Action.At 1 (PointAction.IntoService 5 77)) gives Answer.Accepted ∷ []
 
@@ -55,23 +55,23 @@ pub record FullExamples : Type 0 where
       on 31 (Action.At 1 (PointAction.DefaultSupply 77)) gives Answer.Accepted ∷ []))
   -- a request counts 1: under contract with 23 marks it fits, with 24 it does not
   pub request-on-23-marks : Plays opens (marks23 5 1 ++
-      (on 33 (Action.At 1 (PointAction.AskSwitch 6 77 33)) gives Answer.AcceptedOn 54 ∷ []))
+      (on 33 (Action.At 1 (PointAction.Request 6 77 33)) gives Answer.AcceptedOn 54 ∷ []))
   pub request-on-24-marks : Plays opens
       (marks22 ++
       (on 32 (Action.At 1 PointAction.OutOfService) gives Answer.Accepted ∷
       on 33 (Action.At 1 (PointAction.IntoService 5 77)) gives Answer.Accepted ∷
-      on 33 (Action.At 1 (PointAction.AskSwitch 6 77 33)) gives Answer.Refused 30 ∷ []))
+      on 33 (Action.At 1 (PointAction.Request 6 77 33)) gives Answer.Refused 30 ∷ []))
   -- under default it counts beside the 2, whatever would really happen: 21 marks fit, 22 do not
   pub request-under-default-21-marks : Plays opens
       (marks20 ++
       (on 30 (Action.At 1 PointAction.OutOfService) gives Answer.Accepted ∷
       on 30 (Action.At 1 (PointAction.DefaultSupply 77)) gives Answer.Accepted ∷
-      on 30 (Action.At 1 (PointAction.AskSwitch 6 77 30)) gives Answer.AcceptedOn 51 ∷ []))
+      on 30 (Action.At 1 (PointAction.Request 6 77 30)) gives Answer.AcceptedOn 51 ∷ []))
   pub request-under-default-22-marks : Plays opens
       (marks20 ++
       (on 30 (Action.At 1 PointAction.OutOfService) gives Answer.Accepted ∷
       on 31 (Action.At 1 (PointAction.DefaultSupply 77)) gives Answer.Accepted ∷
-      on 31 (Action.At 1 (PointAction.AskSwitch 6 77 31)) gives Answer.Refused 30 ∷ []))
+      on 31 (Action.At 1 (PointAction.Request 6 77 31)) gives Answer.Refused 30 ∷ []))
   -- a failure counts its own mark and the end of last resort: 22 marks fit, 23 do not, unless today's is replaced
   pub failure-on-22-marks : Plays opens (marks22 ++ (on 32 (Action.Failure 5) gives Answer.Accepted ∷ []))
   pub failure-on-23-marks : Plays
@@ -80,27 +80,27 @@ pub record FullExamples : Type 0 where
   -- a request under last resort: 22 marks fit, 23 do not
   pub request-under-last-resort-22-marks : Plays opens
       (marks21 ++ (on 31 (Action.Failure 5) gives Answer.Accepted ∷
-      on 31 (Action.At 1 (PointAction.AskSwitch 6 77 31)) gives Answer.AcceptedOn 52 ∷ []))
+      on 31 (Action.At 1 (PointAction.Request 6 77 31)) gives Answer.AcceptedOn 52 ∷ []))
   pub request-under-last-resort-23-marks : Plays opens
       (marks22 ++ (on 32 (Action.Failure 5) gives Answer.Accepted ∷
-      on 32 (Action.At 1 (PointAction.AskSwitch 6 77 32)) gives Answer.Refused 30 ∷ []))
+      on 32 (Action.At 1 (PointAction.Request 6 77 32)) gives Answer.Refused 30 ∷ []))
   -- "any point it touches": the last point too; another supplier's full point is not touched
   pub failure-at-point-32 : Plays opens
       (marks23 5 32 ++ (on 33 (Action.Failure 6) gives Answer.Accepted ∷
       on 34 (Action.Failure 5) gives Answer.Refused 30 ∷ []))
   -- the requests of the failed supplier are dropped and count no more, another's count
   pub failure-with-own-request : Plays opens
-      (marks22 ++ (on 32 (Action.At 1 (PointAction.AskSwitch 5 77 32)) gives Answer.AcceptedOn 53 ∷
+      (marks22 ++ (on 32 (Action.At 1 (PointAction.Request 5 77 32)) gives Answer.AcceptedOn 53 ∷
       on 33 (Action.Failure 5) gives Answer.Accepted ∷ []))
   pub failure-with-other-request : Plays opens
       (marks22 ++
-      (on 32 (Action.At 1 (PointAction.AskSwitch 6 77 32)) gives Answer.AcceptedOn 53 ∷
+      (on 32 (Action.At 1 (PointAction.Request 6 77 32)) gives Answer.AcceptedOn 53 ∷
       on 33 (Action.Failure 5) gives Answer.Refused 30 ∷
       on 33 (Action.Failure 6) gives Answer.Accepted ∷
       on 33 (Action.Failure 5) gives Answer.Accepted ∷ []))
   -- out of service drops the request, so that its mark takes the request's place
   pub out-of-service-with-request : Plays opens
-      (marks23 5 1 ++ (on 33 (Action.At 1 (PointAction.AskSwitch 6 77 33)) gives Answer.AcceptedOn 54 ∷
+      (marks23 5 1 ++ (on 33 (Action.At 1 (PointAction.Request 6 77 33)) gives Answer.AcceptedOn 54 ∷
       on 34 (Action.At 1 PointAction.OutOfService) gives Answer.Accepted ∷ []))
   -- what has come due is a mark: 22 marks and default to its end make 24, and supplier 5 replaces nothing
   pub events-are-marks : Plays opens
@@ -114,14 +114,14 @@ pub record FullExamples : Type 0 where
       (marks22 ++
       (on 32 (Action.At 1 PointAction.OutOfService) gives Answer.Accepted ∷
       on 33 (Action.At 1 (PointAction.IntoService 5 77)) gives Answer.Accepted ∷
-      on 34 (Action.SignContract 7) gives Answer.Accepted ∷
+      on 34 (Action.Contract 7) gives Answer.Accepted ∷
       on 34 (Action.At 2 (PointAction.Enrol 3 0 0)) gives Answer.Accepted ∷
-      on 34 (Action.At 1 (PointAction.Read 34 995 0)) gives Answer.Accepted ∷
-      on 35 (Action.At 1 (PointAction.ChangeMeter 995 0 3 0 0)) gives Answer.Accepted ∷
+      on 34 (Action.At 1 (PointAction.Reading 34 995 0)) gives Answer.Accepted ∷
+      on 35 (Action.At 1 (PointAction.MeterChange 995 0 3 0 0)) gives Answer.Accepted ∷
       on 35 (Action.At 1 (PointAction.Suspend 1)) gives Answer.Accepted ∷
       on 36 Action.Day gives Answer.Accepted ∷ []))
   pub cancel-when-full : Plays opens
-      (marks23 5 1 ++ (on 33 (Action.At 1 (PointAction.AskSwitch 6 77 33)) gives Answer.AcceptedOn 54 ∷
+      (marks23 5 1 ++ (on 33 (Action.At 1 (PointAction.Request 6 77 33)) gives Answer.AcceptedOn 54 ∷
       on 34 (Action.At 1 (PointAction.Cancel 6)) gives Answer.Accepted ∷ []))
   -- lower numbers first, here with 24 marks: 24, and on account 0: 1, 6
   pub lower-numbers-first : Plays opens
@@ -133,17 +133,17 @@ pub record FullExamples : Type 0 where
       on 33 (Action.At 1 PointAction.OutOfService) gives Answer.Accepted ∷
       on 34 (Action.At 1 (PointAction.IntoService 7 77)) gives Answer.Refused 1 ∷
       on 34 (Action.At 1 PointAction.OutOfService) gives Answer.Refused 6 ∷
-      on 34 (Action.At 1 (PointAction.AskSwitch 6 77 34)) gives Answer.Refused 6 ∷ []))
+      on 34 (Action.At 1 (PointAction.Request 6 77 34)) gives Answer.Refused 6 ∷ []))
   -- 5 before 30, and 8 before 30: 22 marks in default, whose deadline is 61
   pub five-before-thirty : Plays opens
       (marks23 5 1 ++
-      (on 33 (Action.At 1 (PointAction.AskSwitch 6 77 33)) gives Answer.AcceptedOn 54 ∷
-      on 34 (Action.At 1 (PointAction.AskSwitch 6 77 34)) gives Answer.Refused 5 ∷ []))
+      (on 33 (Action.At 1 (PointAction.Request 6 77 33)) gives Answer.AcceptedOn 54 ∷
+      on 34 (Action.At 1 (PointAction.Request 6 77 34)) gives Answer.Refused 5 ∷ []))
   pub eight-before-thirty : Plays opens
       (marks20 ++
       (on 30 (Action.At 1 PointAction.OutOfService) gives Answer.Accepted ∷
       on 31 (Action.At 1 (PointAction.DefaultSupply 77)) gives Answer.Accepted ∷
-      on 39 (Action.At 1 (PointAction.AskSwitch 6 77 39)) gives Answer.Refused 30 ∷
-      on 40 (Action.At 1 (PointAction.AskSwitch 6 77 40)) gives Answer.RefusedUntil 61 ∷ []))
+      on 39 (Action.At 1 (PointAction.Request 6 77 39)) gives Answer.Refused 30 ∷
+      on 40 (Action.At 1 (PointAction.Request 6 77 40)) gives Answer.RefusedUntil 61 ∷ []))
   -- 29 before 30: the default supplier holds a point with 23 marks by contract
   pub protected-before-thirty : Plays opens (marks23 1 1 ++ (on 33 (Action.Failure 1) gives Answer.Refused 29 ∷ []))

@@ -14,7 +14,7 @@ served d =
 
 -- A request of supplier 2 on day t for day r, the point being served from day t on.
 abbrev requestOn : ℕ → ℕ → Answer → List Line
-requestOn t r a = served t ++ (on t (Action.At 1 (PointAction.AskSwitch 2 77 r)) gives a ∷ [])
+requestOn t r a = served t ++ (on t (Action.At 1 (PointAction.Request 2 77 r)) gives a ∷ [])
 
 abbrev opens : ℕ → Opening
 opens d = opening d 2 30 40 1 2

@@ -19,7 +19,7 @@ r =
     (ready ++
     (on 12 (Action.At 32 (PointAction.Enrol 3 0 100)) gives Answer.Accepted ∷
     on 15 (Action.At 32 (PointAction.IntoService 5 77)) gives Answer.Accepted ∷
-    on 22 (Action.At 32 (PointAction.Read 22 110 0)) gives Answer.Accepted ∷ on 25 Action.Day gives Answer.Accepted ∷
+    on 22 (Action.At 32 (PointAction.Reading 22 110 0)) gives Answer.Accepted ∷ on 25 Action.Day gives Answer.Accepted ∷
     [])))
 
 pub record QuestionExamples : Type 0 where

@@ -15,7 +15,7 @@ opens = opening 10 2 30 40 1 2
 -- default supply to day 40. Point 4 is served by 5, and 6 has asked for it from day 31 on. No other point is enrolled.
 abbrev pub ready : List Line
 ready =
-    on 10 (Action.SignContract 5) gives Answer.Accepted ∷ on 10 (Action.SignContract 6) gives Answer.Accepted ∷
+    on 10 (Action.Contract 5) gives Answer.Accepted ∷ on 10 (Action.Contract 6) gives Answer.Accepted ∷
     on 10 (Action.At 1 (PointAction.Enrol 3 0 990)) gives Answer.Accepted ∷
     on 10 (Action.At 1 (PointAction.IntoService 5 77)) gives Answer.Accepted ∷
     on 10 (Action.At 2 (PointAction.Enrol 3 0 990)) gives Answer.Accepted ∷
@@ -23,7 +23,7 @@ ready =
     on 10 (Action.At 3 (PointAction.DefaultSupply 77)) gives Answer.Accepted ∷
     on 10 (Action.At 4 (PointAction.Enrol 3 0 990)) gives Answer.Accepted ∷
     on 10 (Action.At 4 (PointAction.IntoService 5 77)) gives Answer.Accepted ∷
-    on 10 (Action.At 4 (PointAction.AskSwitch 6 77 10)) gives Answer.AcceptedOn 31 ∷ []
+    on 10 (Action.At 4 (PointAction.Request 6 77 10)) gives Answer.AcceptedOn 31 ∷ []
 
 -- The fields of points 1 and 4 there, with another supply.
 abbrev pub kept : Supply → Fields

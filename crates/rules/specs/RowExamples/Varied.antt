@@ -18,9 +18,9 @@ opens d = opening d 3 25 60 9 4
 -- point 4 was never served.
 abbrev ready : ℕ → List Line
 ready d =
-    on d (Action.SignContract 5) gives Answer.Accepted ∷ on d (Action.SignContract 6) gives Answer.Accepted ∷
-    on d (Action.SignContract 7) gives Answer.Accepted ∷
-    on d (Action.SignContract 99) gives Answer.Accepted ∷
+    on d (Action.Contract 5) gives Answer.Accepted ∷ on d (Action.Contract 6) gives Answer.Accepted ∷
+    on d (Action.Contract 7) gives Answer.Accepted ∷
+    on d (Action.Contract 99) gives Answer.Accepted ∷
     on d (Action.At 1 (PointAction.Enrol 3 0 990)) gives Answer.Accepted ∷
     on d (Action.At 1 (PointAction.IntoService 5 77)) gives Answer.Accepted ∷
     on d (Action.At 2 (PointAction.Enrol 3 0 990)) gives Answer.Accepted ∷
@@ -66,11 +66,11 @@ pub record VariedExamples : Type 0 where
   -- 8: "today + 21 at or past the deadline"
   pub request-near-37 : Then
       (inDefault ++
-      (on 16 (Action.At 4 (PointAction.AskSwitch 5 77 16)) gives Answer.RefusedUntil 37 ∷
-      on 15 (Action.At 4 (PointAction.AskSwitch 5 77 15)) gives Answer.AcceptedOn 36 ∷ []))
+      (on 16 (Action.At 4 (PointAction.Request 5 77 16)) gives Answer.RefusedUntil 37 ∷
+      on 15 (Action.At 4 (PointAction.Request 5 77 15)) gives Answer.AcceptedOn 36 ∷ []))
   -- 26: with W = 3; e is day 32, a Wednesday, and after day 26, a Thursday, there are 27, 30 and 31
   pub cancel-with-three-days : Then
-      (on 11 (Action.At 1 (PointAction.AskSwitch 6 77 11)) gives Answer.AcceptedOn 32 ∷
+      (on 11 (Action.At 1 (PointAction.Request 6 77 11)) gives Answer.AcceptedOn 32 ∷
       on 27 (Action.At 1 (PointAction.Cancel 6)) gives Answer.Refused 26 ∷
       on 26 (Action.At 1 (PointAction.Cancel 6)) gives Answer.Accepted ∷ [])
   -- 2: "each point it holds gets the last-resort supplier, kind last resort, deadline today + B"
@@ -83,8 +83,8 @@ pub record VariedExamples : Type 0 where
   pub protected-9-and-4 : Then
       (on 11 (Action.Failure 9) gives Answer.Refused 29 ∷ on 11 (Action.Failure 4) gives Answer.Refused 29 ∷
       on 11 (Action.Failure 1) gives Answer.Refused 1 ∷
-      on 11 (Action.Failure 2) gives Answer.Refused 1 ∷ on 11 (Action.SignContract 1) gives Answer.Accepted ∷
-      on 11 (Action.SignContract 2) gives Answer.Accepted ∷
+      on 11 (Action.Failure 2) gives Answer.Refused 1 ∷ on 11 (Action.Contract 1) gives Answer.Accepted ∷
+      on 11 (Action.Contract 2) gives Answer.Accepted ∷
       on 11 (Action.Failure 1) gives Answer.Accepted ∷ on 11 (Action.Failure 2) gives Answer.Accepted ∷ [])
   -- 20: "default: today + A + B is; failure: today + B is": 72,963 + 85 and 72,988 + 60 are the last day
   pub sums-off-the-calendar : Plays (opens 72960)
@@ -98,22 +98,22 @@ pub record VariedExamples : Type 0 where
   pub holder-7-beside-6 : ThenKeeps (on 11 (Action.Failure 6) gives Answer.Accepted ∷ []) 3
       (kept (supply 7 SupplyKind.Contract Pending.Nothing))
   pub request-of-5-beside-6 : ThenKeeps
-      (on 11 (Action.At 3 (PointAction.AskSwitch 5 77 11)) gives Answer.AcceptedOn 32 ∷
+      (on 11 (Action.At 3 (PointAction.Request 5 77 11)) gives Answer.AcceptedOn 32 ∷
       on 12 (Action.Failure 6) gives Answer.Accepted ∷ []) 3
       (kept (supply 7 SupplyKind.Contract (Pending.Request 5 32)))
   pub request-of-7-beside-6 : ThenKeeps
-      (on 11 (Action.At 1 (PointAction.AskSwitch 7 77 11)) gives Answer.AcceptedOn 32 ∷
+      (on 11 (Action.At 1 (PointAction.Request 7 77 11)) gives Answer.AcceptedOn 32 ∷
       on 12 (Action.Failure 6) gives Answer.Accepted ∷ []) 1
       (kept (supply 5 SupplyKind.Contract (Pending.Request 7 32)))
   -- 25: "cancel: none by s", whichever of the two has the higher number
   pub cancel-beside-6 : Then
-      (on 11 (Action.At 1 (PointAction.AskSwitch 6 77 11)) gives Answer.AcceptedOn 32 ∷
+      (on 11 (Action.At 1 (PointAction.Request 6 77 11)) gives Answer.AcceptedOn 32 ∷
       on 11 (Action.At 1 (PointAction.Cancel 5)) gives Answer.Refused 25 ∷
       on 11 (Action.At 1 (PointAction.Cancel 7)) gives Answer.Refused 25 ∷
       on 11 (Action.At 1 (PointAction.Cancel 6)) gives Answer.Accepted ∷ [])
   -- "Suppliers are 1 to 99": 99 may ask, cancel, hold and fail
   pub supplier-99 : Then
-      (on 11 (Action.At 1 (PointAction.AskSwitch 99 77 11)) gives Answer.AcceptedOn 32 ∷
+      (on 11 (Action.At 1 (PointAction.Request 99 77 11)) gives Answer.AcceptedOn 32 ∷
       on 11 (Action.At 1 (PointAction.Cancel 99)) gives Answer.Accepted ∷
       on 11 (Action.At 4 (PointAction.IntoService 99 77)) gives Answer.Accepted ∷
       on 11 (Action.Failure 99) gives Answer.Accepted ∷ [])
@@ -123,31 +123,31 @@ pub record VariedExamples : Type 0 where
       on 11 (Action.At 6 (PointAction.Enrol 3 1 9999)) gives Answer.Accepted ∷ [])
   pub read-below-10000 : Then
       (oneBehind ++
-      (on 12 (Action.At 5 (PointAction.Read 12 10000 0)) gives Answer.Refused 28 ∷
-      on 12 (Action.At 5 (PointAction.Read 12 9999 0)) gives Answer.Accepted ∷
-      on 13 (Action.At 5 (PointAction.Read 13 9999 1)) gives Answer.Refused 28 ∷
-      on 13 (Action.At 5 (PointAction.Read 13 9998 1)) gives Answer.Accepted ∷ []))
+      (on 12 (Action.At 5 (PointAction.Reading 12 10000 0)) gives Answer.Refused 28 ∷
+      on 12 (Action.At 5 (PointAction.Reading 12 9999 0)) gives Answer.Accepted ∷
+      on 13 (Action.At 5 (PointAction.Reading 13 9999 1)) gives Answer.Refused 28 ∷
+      on 13 (Action.At 5 (PointAction.Reading 13 9998 1)) gives Answer.Accepted ∷ []))
   -- "V = x2 − x1 + z × 10^w": 9,999 and then 1 past zero, at U = 100
   pub past-zero-with-one-behind : ThenShows
-      (oneBehind ++ (on 12 (Action.At 5 (PointAction.Read 12 9999 0)) gives Answer.Accepted ∷
-      on 14 (Action.At 5 (PointAction.Read 14 1 1)) gives Answer.Accepted ∷ [])) 5
+      (oneBehind ++ (on 12 (Action.At 5 (PointAction.Reading 12 9999 0)) gives Answer.Accepted ∷
+      on 14 (Action.At 5 (PointAction.Reading 14 1 1)) gives Answer.Accepted ∷ [])) 5
       (period 10 0 300 ∷ []) 300
   -- the same for the index of a new meter with two wheels on each side, and for its next reading, at U = 10
   pub fresh-below-10000 : Then
-      (on 12 (Action.At 1 (PointAction.ChangeMeter 991 0 2 2 10000)) gives Answer.Refused 28 ∷
-      on 12 (Action.At 1 (PointAction.ChangeMeter 991 0 2 2 9999)) gives Answer.Accepted ∷
-      on 13 (Action.At 1 (PointAction.Read 13 10000 0)) gives Answer.Refused 28 ∷
-      on 13 (Action.At 1 (PointAction.Read 13 9999 0)) gives Answer.Accepted ∷ [])
+      (on 12 (Action.At 1 (PointAction.MeterChange 991 0 2 2 10000)) gives Answer.Refused 28 ∷
+      on 12 (Action.At 1 (PointAction.MeterChange 991 0 2 2 9999)) gives Answer.Accepted ∷
+      on 13 (Action.At 1 (PointAction.Reading 13 10000 0)) gives Answer.Refused 28 ∷
+      on 13 (Action.At 1 (PointAction.Reading 13 9999 0)) gives Answer.Accepted ∷ [])
   pub past-zero-of-the-new-meter : ThenShows
-      (on 12 (Action.At 1 (PointAction.ChangeMeter 991 0 2 2 9999)) gives Answer.Accepted ∷
-      on 14 (Action.At 1 (PointAction.Read 14 1 1)) gives Answer.Accepted ∷ []) 1
+      (on 12 (Action.At 1 (PointAction.MeterChange 991 0 2 2 9999)) gives Answer.Accepted ∷
+      on 14 (Action.At 1 (PointAction.Reading 14 1 1)) gives Answer.Accepted ∷ []) 1
       (period 10 5 1020 ∷ []) 1020
   -- and for the old meter's last reading at a change: 2 past zero at U = 100
-  pub changed-past-zero : ThenShows (oneBehind ++ (on 12 (Action.At 5 (PointAction.ChangeMeter 0 1 2 2 0)) gives
+  pub changed-past-zero : ThenShows (oneBehind ++ (on 12 (Action.At 5 (PointAction.MeterChange 0 1 2 2 0)) gives
       Answer.Accepted ∷ [])) 5
       (period 10 0 200 ∷ []) 200
   -- another point's reading books nothing here, whichever of the two has the higher number
-  pub other-reading-not-booked : ThenShows (on 20 (Action.At 2 (PointAction.Read 20 10 1)) gives Answer.Accepted ∷ [])
+  pub other-reading-not-booked : ThenShows (on 20 (Action.At 2 (PointAction.Reading 20 10 1)) gives Answer.Accepted ∷ [])
       1 (period 10 5 0 ∷ []) 0
-  pub other-reading-not-booked-either : ThenShows (on 20 (Action.At 2 (PointAction.Read 20 10 1)) gives
+  pub other-reading-not-booked-either : ThenShows (on 20 (Action.At 2 (PointAction.Reading 20 10 1)) gives
       Answer.Accepted ∷ []) 3 (period 10 7 0 ∷ []) 0

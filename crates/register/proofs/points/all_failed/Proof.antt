@@ -1,7 +1,7 @@
 -- The failure goes over every point in turn.
 use mathlib.Core.Path.{_≡_, refl, _∙_}
 use Prim.Native.Nat.{_≤_, _-_}
-use Rattle.point.specs.Turn.{failedBy}
+use Rattle.point_effects.specs.Turn.{failedBy}
 use Rattle.register.proofs.Sweep.{swept, swept-more, swept-all}
 use borrow.Author.Needs.{needs}
 use Rattle.register.proofs.points.all_failed.Statement.{statement}

@@ -6,7 +6,7 @@ use Prim.Native.Nat.{ℕ, _≤_, _-_, _+_}
 use native.Mathlib.Omega.{arith}
 use Rattle.rules.specs.Rejections.{anyPoint}
 use Rattle.rules.specs.Register.{pointAt}
-use Rattle.point.specs.Turn.{failureFills}
+use Rattle.point_effects.specs.Turn.{failureFills}
 use Rattle.register.proofs.Search.{any-found, any-passed, any-none}
 use borrow.Author.Needs.{needs}
 use Rattle.register.proofs.points.any_filled.Statement.{statement}

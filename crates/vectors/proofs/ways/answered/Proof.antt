@@ -6,7 +6,7 @@ use native.Mathlib.Omega.{arith}
 use borrow.Author.Needs.{needs}
 use lib.ListN.{length}
 use lib.Seq.{length-take-le}
-use Rattle.session.proofs.Within.{fed-within}
+use Rattle.input_pieces.proofs.Within.{fed-within}
 use Rattle.vectors.proofs.Within.{next-within}
 use Rattle.vectors.proofs.ways.answered.Statement.{statement}
 use Rattle.vectors.proofs.ways.answered.Tie as tie

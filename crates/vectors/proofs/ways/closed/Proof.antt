@@ -5,7 +5,7 @@ use mathlib.Core.Path.{_≡_, sym}
 use borrow.Author.Needs.{needs}
 use lib.ListN.{length}
 use lib.Seq.{length-take-le}
-use Rattle.transcript.proofs.Ends.{closed-within}
+use Rattle.input_whole.proofs.Ends.{closed-within}
 use Rattle.vectors.proofs.ways.closed.Statement.{statement}
 use Rattle.vectors.proofs.ways.closed.Tie as tie
 

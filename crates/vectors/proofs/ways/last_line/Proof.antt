@@ -2,7 +2,7 @@
 use mathlib.Core.Path.{sym}
 use borrow.Author.Needs.{needs}
 use lib.Seq.{length-take-le}
-use Rattle.session.proofs.Within.{fed-within}
+use Rattle.input_pieces.proofs.Within.{fed-within}
 use Rattle.vectors.proofs.ways.last_line.Statement.{statement}
 use Rattle.vectors.proofs.ways.last_line.Tie as tie
 

@@ -1,7 +1,0 @@
--- `answer_lines::shown_kind` meets its contract: only 31 hides the kind.
-use borrow.Author.Tests.{eq-eqb, ne-eqb}
-use Rattle.answer_lines.proofs.shown_kind.Statement.{statement}
-use Rattle.answer_lines.proofs.shown_kind.Tie as tie
-
-pub shown-kind-spec : {M : Type 1} → statement M
-shown-kind-spec = tie.close (tie.spec (λ c. rw (eq-eqb _ _ (c .if1 .taken))) (λ c. rw (ne-eqb _ _ (c .if1 .left))))

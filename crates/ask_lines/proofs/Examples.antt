@@ -1,0 +1,23 @@
+-- The examples, each by computing.
+use mathlib.Core.Path.{refl}
+use Rattle.dates.specs.Dates.{leapRow, monthLength, next, dateOf}
+use Rattle.dates.specs.Numbers.{dateAnswer}
+use Rattle.line_text.specs.Decimal.{spell, fixed}
+use Rattle.ask_lines.specs.Lines.{holderReply, periodReply, advanceReply, head}
+use Rattle.ask_lines.specs.Examples.{LinesExamples}
+
+pub lines-examples : LinesExamples
+unfolding leapRow monthLength next dateOf dateAnswer spell fixed holderReply periodReply advanceReply head
+lines-examples =
+    record {
+      holder-5 = refl;
+      holder-refused = refl;
+      period-of-16000 = refl;
+      period-off-the-calendar = refl;
+      period-refused = refl;
+      advance-20000 = refl;
+      advance-refused = refl;
+      holder-head = refl;
+      period-head = refl;
+      advance-head = refl;
+    }

@@ -1,0 +1,28 @@
+-- Answers as lines. Definitions only: `lines-examples` of proofs/ proves them.
+use Prim.Native.Nat.{ℕ}
+use mathlib.Core.Path.{_≡_}
+use mathlib.Core.List.{List, [], _∷_, _++_}
+use Rattle.rules.specs.declared.HolderAnswer.the-variants as holder
+use Rattle.rules.specs.declared.PeriodAnswer.the-variants as period
+use Rattle.rules.specs.declared.AdvanceAnswer.the-variants as advance
+use Rattle.line_text.specs.Ascii.{ascii}
+use Rattle.ask_words.specs.declared.{Question.Question}
+use Rattle.ask_lines.specs.Lines.{holderReply, periodReply, advanceReply, head}
+
+abbrev pub ended : List ℕ → List ℕ
+ended l = l ++ (10 ∷ [])
+
+pub record LinesExamples : Type 0 where
+  pub holder-5 : holderReply (holder.Holder 5) ≡ ended (ascii "ok;5")
+  pub holder-refused : holderReply holder.OffRange ≡ ended (ascii "refused;22")
+  pub period-of-16000 : periodReply (period.Of (record { start = 7674; holder = 5; volume = 16000 })) ≡
+      ended (ascii "ok;20210104;5;16000")
+  -- a day off the calendar, on which no period that calls make starts
+  pub period-off-the-calendar : periodReply (period.Of (record { start = 73049; holder = 0; volume = 0 })) ≡
+      ended (ascii "ok;00000000;0;0")
+  pub period-refused : periodReply period.OffRange ≡ ended (ascii "refused;22")
+  pub advance-20000 : advanceReply (advance.Volume 20000) ≡ ended (ascii "ok;20000")
+  pub advance-refused : advanceReply advance.OffRange ≡ ended (ascii "refused;22")
+  pub holder-head : head (Question.Holder 1 7674) ≡ ascii "holder;1;7674;"
+  pub period-head : head (Question.Period 33 0) ≡ ascii "period;33;0;"
+  pub advance-head : head (Question.Advance 0) ≡ ascii "advance;0;"

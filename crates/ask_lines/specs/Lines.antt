@@ -1,0 +1,79 @@
+-- The lines that answer questions, each with its line feed: `ok;` and the values, or `refused;` and the number; alone,
+-- or behind the question. Definitions only.
+use Prim.Native.Nat.{ℕ, _+_}
+use mathlib.Core.List.{List, [], _∷_, _++_}
+use lib.ListN.{length}
+use Rattle.rules.specs.declared.{Register.Register, HolderAnswer.HolderAnswer, PeriodAnswer.PeriodAnswer}
+use Rattle.rules.specs.declared.{AdvanceAnswer.AdvanceAnswer}
+use Rattle.rules.specs.declared.HolderAnswer.the-variants as holder
+use Rattle.rules.specs.declared.PeriodAnswer.the-variants as period
+use Rattle.rules.specs.declared.AdvanceAnswer.the-variants as advance
+use Rattle.rules.specs.Questions.{holderAnswer, periodAnswer, advanceAnswer}
+use Rattle.rules.specs.Answers.{holderNumber, periodNumber, advanceNumber}
+use Rattle.line_text.specs.Ascii.{ascii}
+use Rattle.line_text.specs.Decimal.{decimal}
+use Rattle.line_text.specs.Days.{dayText}
+use Rattle.line_listing.specs.Listing.{AppendedWithin}
+use Rattle.ask_words.specs.declared.{Question.Question}
+
+-- A number and the byte behind it; 59 is `;`, 10 a line feed.
+abbrev pub field : ℕ → ℕ → List ℕ
+field v end = decimal v (end ∷ [])
+
+-- 01: "dates aaaammjj". A day's date and the byte behind it; 00000000 for a day off the calendar, as in the closing
+-- lines.
+abbrev pub dateField : ℕ → ℕ → List ℕ
+dateField d end = dayText d (end ∷ [])
+
+abbrev pub one : List ℕ → ℕ → ℕ → List ℕ
+one w v end = w ++ field v end
+
+abbrev pub two : List ℕ → ℕ → ℕ → List ℕ
+two w a b = w ++ (field a 59 ++ field b 59)
+
+-- `ok;` and the value.
+abbrev pub okOne : ℕ → List ℕ
+okOne v = one (ascii "ok;") v 10
+
+-- 01: "period n of p (start, holder, volume; n from 1 to their count)".
+abbrev pub okPeriod : ℕ → ℕ → ℕ → List ℕ
+okPeriod start holder volume = ascii "ok;" ++ (dateField start 59 ++ (field holder 59 ++ field volume 10))
+
+-- `refused;` and the number.
+abbrev pub refusal : ℕ → List ℕ
+refusal n = one (ascii "refused;") n 10
+
+-- 01: "A question off its range, or on a point not enrolled, gives 22." The number is that of the answer.
+unfoldable pub holderReply : HolderAnswer → List ℕ
+holderReply (holder.Holder s) = okOne s
+holderReply holder.OffRange = refusal (holderNumber holder.OffRange)
+
+unfoldable pub periodReply : PeriodAnswer → List ℕ
+periodReply (period.Of q) = okPeriod (q .start) (q .holder) (q .volume)
+periodReply period.OffRange = refusal (periodNumber period.OffRange)
+
+unfoldable pub advanceReply : AdvanceAnswer → List ℕ
+advanceReply (advance.Volume v) = okOne v
+advanceReply advance.OffRange = refusal (advanceNumber advance.OffRange)
+
+-- The line that answers a question.
+unfoldable pub reply : Register → Question → List ℕ
+reply r (Question.Holder p d) = holderReply (holderAnswer r p d)
+reply r (Question.Period p n) = periodReply (periodAnswer r p n)
+reply r (Question.Advance p) = advanceReply (advanceAnswer r p)
+
+-- The question in front of its answer: `holder;P;DAY;`, `period;P;N;`, `advance;P;`, the day by its number.
+unfoldable pub head : Question → List ℕ
+head (Question.Holder p d) = two (ascii "holder;") p d
+head (Question.Period p n) = two (ascii "period;") p n
+head (Question.Advance p) = one (ascii "advance;") p 59
+
+unfoldable pub line : Register → Question → List ℕ
+line r q = head q ++ reply r q
+
+-- A number has at most 20 digits.
+abbrev pub OnePut : ℕ → List ℕ → ℕ → ℕ → List ℕ → List ℕ → ℕ → Type 0
+OnePut at w v end before after next = AppendedWithin (length w + 21) at (one w v end) before after next
+
+abbrev pub TwoPut : ℕ → List ℕ → ℕ → ℕ → List ℕ → List ℕ → ℕ → Type 0
+TwoPut at w a b before after next = AppendedWithin (length w + 42) at (two w a b) before after next

@@ -1,0 +1,32 @@
+-- The examples, each by computing.
+use mathlib.Core.Path.{refl}
+use Rattle.dates.specs.Dates.{leapRow, monthLength}
+use Rattle.dates.specs.Numbers.{monthStart, yearStart, dayNumber, isReal, dayAnswer}
+use Rattle.line_values.specs.Words.{isSame}
+use Rattle.line_values.specs.Numbers.{numberOf, moreOf, fixedOf}
+use Rattle.line_values.specs.Days.{dayIn}
+use Rattle.ask_words.specs.Asked.{numberValue, dateValue, byOne, byTwo, byThree, askedBy, usage}
+use Rattle.ask_words.specs.Examples.{WordsExamples}
+
+pub words-examples : WordsExamples
+unfolding leapRow monthLength monthStart yearStart dayNumber isReal dayAnswer isSame numberOf moreOf fixedOf
+    dayIn numberValue dateValue byOne byTwo byThree askedBy usage
+words-examples =
+    record {
+      holder-on-4-january = refl;
+      holder-on-29-february = refl;
+      holder-without-a-date = refl;
+      period-2 = refl;
+      period-with-a-leading-zero = refl;
+      period-with-more-behind-it = refl;
+      advance-of-0 = refl;
+      twelve-digits = refl;
+      thirteen-digits = refl;
+      advance-of-nothing = refl;
+      all-questions = refl;
+      all-and-more = refl;
+      a-prefix = refl;
+      no-word = refl;
+      four-words = refl;
+      usage-line = refl;
+    }

@@ -1,0 +1,129 @@
+-- Every answer is one of document 01's table.
+use mathlib.Core.Path.{_≡_, refl}
+use mathlib.Core.Bool.{Bool, true, false, cond, _&&_, _||_, false≢true}
+use mathlib.Core.List.{List, [], _∷_}
+use Prim.Native.Nat.{ℕ, _<_}
+use native.Mathlib.Omega.{arith}
+use borrow.Author.Tests.{leb-true}
+use lib.Dec.{leb}
+use Rattle.rules.specs.declared.{Settings.Settings, SupplyKind.SupplyKind, Opening.Opening, Register.Register}
+use Rattle.rules.specs.declared.{Call.Call, View.View, Action.Action, PointAction.PointAction, Answer.Answer}
+use Rattle.rules.specs.Answers.{number}
+use Rattle.rules.specs.Rejections.{
+  Row,
+  _⇒_,
+  firstOf,
+  lastResortNear,
+  rowsAt,
+  rows,
+  acceptedAt,
+  accepted,
+  answerTo,
+  answer,
+  openingAnswer,
+}
+use Rattle.rules.specs.Register.{says, applied}
+use Rattle.line_messages.specs.declared.{Message.Message}
+use Rattle.input_desk.specs.Desk.{unreadable, answerOf}
+use Rattle.input_desk.specs.Table.{isNumber, isTabled, EveryAnswerTabled}
+
+-- a row more
+row : (b : Bool) (n : ℕ) (rs : List Row) (a : Answer) → isTabled (Answer.Refused n) ≡ true → isTabled (firstOf rs a) ≡ true →
+    isTabled (firstOf ((b ⇒ n) ∷ rs) a) ≡ true
+unfolding firstOf
+row true n rs a h k = h
+row false n rs a h k = k
+
+-- the row of number 8 carries its day where it applies
+row-8 : (t : ℕ) (kind : SupplyKind) (rs : List Row) (a : Answer) → isTabled (firstOf rs a) ≡ true →
+    isTabled (firstOf (lastResortNear t kind ∷ rs) a) ≡ true
+unfolding firstOf
+row-8 t SupplyKind.None rs a k = k
+row-8 t SupplyKind.Contract rs a k = k
+row-8 t (SupplyKind.LastResort d) rs a k = k
+row-8 t (SupplyKind.Default d) rs a k = go (lastResortNear t (SupplyKind.Default d) .applies)
+  where
+    go : (b : Bool) → isTabled (cond b (Answer.RefusedUntil d) (firstOf rs a)) ≡ true
+    go true = refl
+    go false = k
+
+last : (a : Answer) → isTabled a ≡ true → isTabled (firstOf [] a) ≡ true
+unfolding firstOf
+last a h = h
+
+module _ (S : Settings) (u : List Bool) (t : ℕ) where
+  rows-at : (p : ℕ) (a : PointAction) (v : View) → isTabled (firstOf (rowsAt S u t p a v) (acceptedAt t a)) ≡ true
+  unfolding rowsAt acceptedAt
+  rows-at p (PointAction.Enrol b a x) v = row _ 2 _ _ refl (row _ 23 _ _ refl (row _ 28 _ _ refl (last _ refl)))
+  rows-at p (PointAction.IntoService s k) v = row _ 1 _ _ refl (row _ 2 _ _ refl (row _ 24 _ _ refl (row _ 30 _ _ refl (last _ refl))))
+  rows-at p (PointAction.DefaultSupply k) v = row _ 2 _ _ refl (row _ 24 _ _ refl (row _ 30 _ _ refl (last _ refl)))
+  rows-at p (PointAction.Request s k r) v =
+      row _ 1 _ _ refl
+      (row _ 2 _ _ refl
+      (row _ 3 _ _ refl
+      (row _ 4 _ _ refl
+      (row _ 5 _ _ refl
+      (row _ 6 _ _ refl
+      (row _ 7 _ _ refl (row-8 t (v .fields .supply .kind) _ _ (row _ 30 _ _ refl (last _ refl)))))))))
+  rows-at p (PointAction.Cancel s) v = row _ 2 _ _ refl (row _ 25 _ _ refl (row _ 26 _ _ refl (last _ refl)))
+  rows-at p (PointAction.Reading d x z) v = row _ 2 _ _ refl (row _ 27 _ _ refl (row _ 28 _ _ refl (last _ refl)))
+  rows-at p (PointAction.MeterChange x z b a y) v = row _ 2 _ _ refl (row _ 27 _ _ refl (row _ 28 _ _ refl (last _ refl)))
+  rows-at p PointAction.OutOfService v = row _ 2 _ _ refl (row _ 6 _ _ refl (row _ 30 _ _ refl (last _ refl)))
+  rows-at p (PointAction.Suspend m) v = row _ 2 _ _ refl (last _ refl)
+
+  rows-of : (a : Action) (v : ℕ → View) → isTabled (firstOf (rows S u t a v) (accepted t a)) ≡ true
+  unfolding rows accepted
+  rows-of (Action.Contract s) v = last _ refl
+  rows-of (Action.Failure s) v = row _ 1 _ _ refl (row _ 29 _ _ refl (row _ 30 _ _ refl (last _ refl)))
+  rows-of (Action.At p a) v = rows-at p a (v p)
+  rows-of Action.Day v = last _ refl
+
+call-tabled : (r : Register) (c : Call) → isTabled (says r c) ≡ true
+unfolding says answer answerTo
+call-tabled r c =
+    row _ 22 _ _ refl
+    (row _ 20 _ _ refl (row _ 21 _ _ refl (rows-of (r .settings) (r .contracts) (c .today) (c .action) _)))
+
+opening-tabled : (o : Opening) → isTabled (openingAnswer o) ≡ true
+unfolding openingAnswer
+opening-tabled o =
+    row _ 22 _ _ refl
+    (row _ 22 _ _ refl
+    (row _ 22 _ _ refl
+    (row _ 22 _ _ refl (row _ 22 _ _ refl (row _ 22 _ _ refl (row _ 20 _ _ refl (last _ refl)))))))
+
+pub every-answer-tabled : EveryAnswerTabled
+unfolding answerOf applied
+every-answer-tabled d (Message.Open o) = go (d .ready)
+  where
+    go : (b : Bool) → isTabled (cond b unreadable (openingAnswer o)) ≡ true
+    go true = refl
+    go false = opening-tabled o
+every-answer-tabled d (Message.Ask c) = go (d .ready)
+  where
+    go : (b : Bool) → isTabled (cond b (says (d .register) c) unreadable) ≡ true
+    go true = call-tabled (d .register) c
+    go false = refl
+every-answer-tabled d Message.Unreadable = refl
+
+-- so its number has two digits at the most
+and-left : (x y : Bool) → (x && y) ≡ true → x ≡ true
+and-left true y e = refl
+and-left false y e = absurd (false≢true e)
+
+and-right : (x y : Bool) → (x && y) ≡ true → y ≡ true
+and-right true y e = e
+and-right false y e = absurd (false≢true e)
+
+number-small : (n : ℕ) → isNumber n ≡ true → n < 100
+number-small n h = go (leb 1 n && leb n 8) refl h
+  where
+    go : (b : Bool) → (leb 1 n && leb n 8) ≡ b → (b || (leb 20 n && leb n 31)) ≡ true → n < 100
+    go true e k = omega (arith, leb-true n 8 (and-right (leb 1 n) (leb n 8) e))
+    go false e k = omega (arith, leb-true n 31 (and-right (leb 20 n) (leb n 31) k))
+
+pub tabled-small : (a : Answer) → isTabled a ≡ true → number a < 100
+tabled-small Answer.Accepted h = omega arith
+tabled-small (Answer.AcceptedOn e) h = omega arith
+tabled-small (Answer.RefusedUntil d) h = omega arith
+tabled-small (Answer.Refused n) h = number-small n (and-left (isNumber n) _ h)

@@ -1,0 +1,47 @@
+use borrow.Author.Needs.{needs}
+use Rattle.input_lines.proofs.line_end.Statement.{statement}
+use Rattle.input_lines.proofs.line_end.Tie as tie
+use Prim.Native.Nat.{_+_, _-_}
+use mathlib.Core.Path.{_≡_, refl}
+use lib.ListN.{length, drop, length-drop}
+use native.Mathlib.Omega.{arith}
+use native.Mathlib.Numerals.{add-one}
+use Rattle.input_lines.specs.Lines.{untilFeed}
+use Rattle.input_lines.proofs.Feeds.{until-here, until-later, until-le}
+
+abbrev Inv-loop : tie.InvT-loop
+Inv-loop piece at i₀ i = i + untilFeed (drop i piece) ≡ at + untilFeed (drop at piece)
+
+abbrev μ-loop : tie.MeasureT-loop
+μ-loop piece at i₀ i = length piece - i
+
+returns : tie.Need-returns Inv-loop μ-loop
+returns c =
+    omega (
+      arith,
+      (c .before .before .before .loop) .inv,
+      until-here ((c .before .before .before .before) .args .piece .now)
+          ((c .before .before .before .loop) .i) (omega arith) ((c .if1) .taken),
+    )
+
+loop-again : tie.Need-loop-again Inv-loop μ-loop
+loop-again c =
+    rw (add-one ((c .before .before .before .loop) .i)) (omega (
+      arith,
+      (c .before .before .before .loop) .inv,
+      until-later ((c .before .before .before .before) .args .piece .now) ((c .before .before .before .loop) .i) (omega arith) ((c .if1) .left),
+    ))
+
+returns-2 : tie.Need-returns-2 Inv-loop μ-loop
+returns-2 c =
+    omega (
+      arith,
+      (c .before .loop) .inv,
+      until-le (drop ((c .before .loop) .i) ((c .before .before) .args .piece .now)),
+      length-drop ((c .before .loop) .i) ((c .before .before) .args .piece .now),
+    )
+
+pub line-end-spec : {M : Type 1} → statement M
+line-end-spec =
+    tie.close (tie.spec Inv-loop μ-loop (λ c. refl) (λ c. search needs) returns (λ c. search needs)
+    (λ c. search needs) loop-again returns-2)

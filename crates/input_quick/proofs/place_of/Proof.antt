@@ -1,0 +1,11 @@
+use borrow.Author.Needs.{needs}
+use Rattle.input_quick.proofs.place_of.Statement.{statement}
+use Rattle.input_quick.proofs.place_of.Tie as tie
+use Rattle.input_quick.specs.Quick.{placeOf}
+
+pub place-of-spec : {M : Type 1} → statement M
+place-of-spec =
+    tie.close (tie.spec (λ c. search needs) (λ c. search needs) (λ c κs. search needs) (λ c. search needs)
+    (λ c. unfold placeOf in rw ((c .enum-told) .given .1))
+    (λ c. unfold placeOf in rw ((c .before .before .m) .given .1) ((c .place-in) .ensures))
+    (λ c. unfold placeOf in rw ((c .enum-told2) .given .1)))

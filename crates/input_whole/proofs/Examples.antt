@@ -1,0 +1,39 @@
+-- The examples of whole inputs, each by computing.
+use mathlib.Core.Path.{refl}
+use Rattle.dates.specs.Dates.{leapRow, monthLength, next, dateOf}
+use Rattle.dates.specs.Numbers.{monthStart, yearStart, dayNumber, isReal, dayAnswer, dateAnswer}
+use Rattle.rules.proofs.Computes.{machines}
+use Rattle.questions.specs.ByBook.{periodsIn, bookPeriods, bookAdvance}
+use Rattle.line_text.specs.Decimal.{spell, fixed}
+use Rattle.line_values.specs.Words.{isSame}
+use Rattle.line_values.specs.Numbers.{moreOf, numberOf, fixedOf}
+use Rattle.line_values.specs.Days.{dayIn}
+use Rattle.line_fields.specs.Fields.{fieldOf, fieldsOf, sortsFrom}
+use Rattle.line_kinds.specs.Kinds.{kindIn}
+use Rattle.line_messages.specs.Reading.{wordEnd, readLine}
+use Rattle.line_answers.specs.Answers.{answerLine, periodLine, totalLine}
+use Rattle.line_listing.specs.Listing.{periodLines, pointLines, listingFrom, listing}
+use Rattle.line_listing.specs.ByBook.{linesOfPeriods, rising, bookListing}
+use Rattle.input_lines.specs.Lines.{linesFrom, linesOf}
+use Rattle.input_lines.specs.Part.{partOf}
+use Rattle.input_lines.specs.Machine.{said, afterLines, transcript}
+use Rattle.register.specs.Opens.{noRegister}
+use Rattle.input_desk.specs.Desk.{answerOf, deskAfter}
+use Rattle.input_whole.specs.Ends.{startSession}
+use Rattle.input_whole.specs.Transcript.{callsIn, storyOf, bookOutput}
+use Rattle.input_whole.specs.Examples.{TranscriptExamples}
+
+pub transcript-examples : TranscriptExamples
+unfolding leapRow monthLength next dateOf monthStart yearStart dayNumber isReal dayAnswer dateAnswer machines periodsIn bookPeriods
+    bookAdvance spell fixed isSame moreOf numberOf fixedOf dayIn fieldOf fieldsOf sortsFrom kindIn wordEnd readLine answerLine periodLine
+    totalLine periodLines pointLines listingFrom listing linesOfPeriods rising bookListing linesFrom linesOf partOf said afterLines transcript
+    noRegister answerOf deskAfter startSession callsIn storyOf bookOutput
+transcript-examples =
+    record {
+      of-document-01 = record { by-desk = refl; by-book = refl };
+      line-before-set = record { by-desk = refl; by-book = refl };
+      set-refused-then-accepted = record { by-desk = refl; by-book = refl };
+      later-set = record { by-desk = refl; by-book = refl };
+      no-set = record { by-desk = refl; by-book = refl };
+      nothing = record { by-desk = refl; by-book = refl };
+    }

@@ -1,0 +1,204 @@
+-- However an input is cut, what is handed on for writing is its transcript. The statement is specs/Transcript.antt.
+use Prim.Native.Nat.{ℕ, _+_, _/_, _≤_}
+use mathlib.Core.Path.{_≡_, refl, sym, ap, ap₂, _∙_}
+use mathlib.Core.Bool.{Bool, true, false, cond, false≢true}
+use mathlib.Core.List.{List, [], _∷_, _++_, append-assoc}
+use native.Mathlib.Omega.{arith}
+use native.Mathlib.Nat.{not-suc-le-zero}
+use borrow.Author.Tests.{ne-eqb}
+use lib.Dec.{eqb}
+use lib.ListN.{length, take, drop}
+use lib.Seq.{take-append-seam, take-all, drop-length}
+use Rattle.rules.specs.declared.{Register.Register}
+use Rattle.line_text.specs.Appending.{put}
+use Rattle.line_listing.specs.declared.{Listed.Listed}
+use Rattle.line_listing.specs.Listing.{listing, listingFrom, piece}
+use Rattle.line_listing.specs.Listing as L
+use Rattle.line_listing.specs.Pieces.{left}
+use Rattle.line_listing.proofs.Pieces.{pieces-join}
+use Rattle.input_lines.specs.declared.{Part.Part}
+use Rattle.input_lines.specs.Lines.{fitting, linesOf}
+use Rattle.input_lines.specs.Part.{capped, kept, partOf}
+use Rattle.input_lines.specs.Machine.{said, afterLines, Run, run}
+use Rattle.input_lines.proofs.Feeds.{fitting-all, fitting-le, fitting-some}
+use Rattle.input_lines.proofs.Parts.{kept-partOf}
+use Rattle.input_lines.proofs.Runs.{run-append, run-part-le, run-lines, run-transcript, lastSaid, lastState}
+use Rattle.input_desk.specs.declared.{Desk.Desk}
+use Rattle.input_pieces.specs.declared.{Session.Session, Fed.Fed}
+use Rattle.input_pieces.specs.Session.{nextDesk, sayLine, runOf, runFrom, takenOf, fedRun, fedAs}
+use Rattle.input_whole.specs.Ends.{startSession, missingFeed, closing, closingPiece, closedNext}
+use Rattle.input_whole.specs.Transcript.{Closing, done, more, Through, fed, ended, served, TranscriptServed, EveryFeedGoesOn, lastDesk}
+use Rattle.input_pieces.proofs.Capped.{read-capped}
+use Rattle.input_whole.proofs.Sized.{Sized, run-sized}
+
+-- what was put at the start of a buffer can be taken from it
+put-start : (t o : List ℕ) → take (length t) (put 0 t o) ≡ t
+unfolding put
+put-start t o = take-append-seam t (drop (0 + length t) o)
+
+-- ---- the closing lines
+
+-- what is still to be listed
+abbrev toList : Desk → ℕ → List ℕ
+toList d from = cond (d .ready) (left (d .register) from) []
+
+none-left : (r : Register) (from : ℕ) → length (r .points) ≡ 32 → from ≡ 32 → left r from ≡ []
+unfolding listingFrom
+none-left r from h e =
+    rw e (ap (listingFrom 33) (ap (λ (n : ℕ). drop n (r .points)) (sym h) ∙ drop-length (r .points)))
+
+closing-all : {d : Desk} {from : ℕ} {w : List ℕ} → Sized d → from ≤ 32 → Closing d from w → w ≡ toList d from
+closing-all {d} {from} s le (done h) = go (d .ready) refl
+  where
+    go : (b : Bool) → d .ready ≡ b → [] ≡ cond b (left (d .register) from) []
+    go true e = sym (none-left (d .register) from (s e) (omega arith))
+    go false e = refl
+closing-all {d} {from} s le (more {w = w} before after x c rest) =
+    let n = length before in
+    let at : x .next ≡ closedNext d from n = ap (λ (y : Listed). y .next) (c .answer) in
+    let long : x .written ≡ length (closingPiece d from n) = ap (λ (y : Listed). y .written) (c .answer) in
+    let text : take (x .written) after ≡ closingPiece d from n =
+    ap₂ (λ (k : ℕ) (o : List ℕ). take k o) long (c .bytes) ∙ put-start (closingPiece d from n) before
+    in
+    let tail : w ≡ toList d (closedNext d from n) = rw at at (closing-all s (rw at (reach (d .ready) n)) rest) in
+    ap₂ (λ (a b : List ℕ). a ++ b) text tail ∙ joins (d .ready) n
+  where
+    reach : (b : Bool) (n : ℕ) → cond b (from + L.taken from n) 32 ≤ 32
+    reach true n = pieces-join .in-range from n le
+    reach false n = omega arith
+
+    joins : (b : Bool) (n : ℕ) →
+        cond b (piece (d .register) from n) [] ++ cond b (left (d .register) (cond b (from + L.taken from n) 32)) []
+        ≡ cond b (left (d .register) from) []
+    joins true n = pieces-join .one (d .register) from n
+    joins false n = refl
+
+closing-from-start : (d : Desk) (w : List ℕ) → Sized d → Closing d 0 w → w ≡ closing d
+unfolding listing
+closing-from-start d w s h = closing-all s (omega arith) h
+
+-- ---- the last line
+
+-- what is said by the end of an input, and the state there
+abbrev saidBy : Desk → List ℕ → List ℕ → List ℕ
+saidBy d l input = lastSaid nextDesk sayLine (runOf d l input)
+
+abbrev deskBy : Desk → List ℕ → List ℕ → Desk
+deskBy d l input = lastState nextDesk sayLine (runOf d l input)
+
+-- a run over nothing but the line feed that is missing
+abbrev missing : List ℕ → List ℕ
+missing l = cond (eqb (length l) 0) [] (10 ∷ [])
+
+last-line : (d : Desk) (l : List ℕ) → (runOf d l (missing l) .out ≡ saidBy d l []) × (runOf d l (missing l) .state ≡ deskBy d l [])
+unfolding run said afterLines
+last-line d [] = (refl, refl)
+last-line d (b ∷ l) =
+    rw (ne-eqb (length (b ∷ l)) 0 (λ e. not-suc-le-zero {n = length l} (omega arith))) (refl, refl)
+
+-- ---- the whole input
+
+module _ (s : Session) (l : List ℕ) (is : s .part ≡ partOf l) (short : length l ≤ 97) where
+  kept-is : kept (s .part) ≡ l
+  kept-is = ap kept is ∙ kept-partOf l short
+
+  run-is : (input : List ℕ) → runFrom s input ≡ runOf (s .desk) l input
+  run-is input = ap (λ (p : List ℕ). runOf (s .desk) p input) kept-is
+
+  missing-is : missingFeed s ≡ missing l
+  unfolding partOf
+  missing-is = ap (λ (p : Part). cond (eqb (p .len) 0) [] (10 ∷ [])) is
+
+-- an input goes on where its first part stopped
+said-append : (d : Desk) (l a rest : List ℕ) →
+    saidBy d l (a ++ rest) ≡ runOf d l a .out ++ saidBy (runOf d l a .state) (runOf d l a .part) rest
+said-append d l a rest = rw (run-append nextDesk sayLine d l a rest, append-assoc)
+
+desk-append : (d : Desk) (l a rest : List ℕ) → deskBy d l (a ++ rest) ≡ deskBy (runOf d l a .state) (runOf d l a .part) rest
+desk-append d l a rest = rw (run-append nextDesk sayLine d l a rest)
+
+missing-short : (b : Bool) → length {A = ℕ} (cond b [] (10 ∷ [])) ≤ 1
+missing-short true = omega arith
+missing-short false = omega arith
+
+-- what an input's run hands on, where it comes to, and that an open register there has 32 points
+pub record Runs (d : Desk) (l input w : List ℕ) (e : Desk) : Type 0 where
+  pub text : w ≡ saidBy d l input
+  pub desk : e ≡ deskBy d l input
+  pub sized : Sized e
+
+through : {s : Session} {input w : List ℕ} {e : Desk} (l : List ℕ) → s .part ≡ partOf l → length l ≤ 97 → Sized (s .desk) →
+    Through s input w e → Runs (s .desk) l input w e
+unfolding fedAs
+through {s} l is short sized (fed {piece = c} {rest = rest} {w = w} before after f h next) =
+    let r = fedRun s c before in
+    let a = take (takenOf c before) c in
+    let run = run-is s l is short a in
+    let text : take (f .written) after ≡ r .out =
+    ap₂ (λ (k : ℕ) (o : List ℕ). take k o) (ap (λ (y : Fed). y .written) (h .result)) (h .bytes) ∙ put-start (r .out) before
+    in
+    let desk-is : f .session .desk ≡ r .state = ap (λ (y : Fed). y .session .desk) (h .result) in
+    let part-is : f .session .part ≡ partOf (r .part) = ap (λ (y : Fed). y .session .part) (h .result) in
+    let taken-is : take (f .taken) c ≡ a = ap (λ (y : Fed). take (y .taken) c) (h .result) in
+    let part-le : length (r .part) ≤ 97 = ap-le run (run-part-le nextDesk sayLine (s .desk) l a short) in
+    let sized′ : Sized (f .session .desk) = rw (desk-is, run) (run-sized (s .desk) l a sized) in
+    let tail = through (r .part) part-is part-le sized′ next in
+    record {
+      text = rw (text, tail .text, desk-is, taken-is, run) (sym (said-append (s .desk) l a rest));
+      desk = rw (tail .desk, desk-is, taken-is, run) (sym (desk-append (s .desk) l a rest));
+      sized = tail .sized;
+    }
+  where
+    ap-le : {x y : Run Desk} → x ≡ y → length (y .part) ≤ 97 → length (x .part) ≤ 97
+    ap-le e k = rw e k
+through {s} l is short sized (ended before after f h room) =
+    let r = fedRun s (missingFeed s) before in
+    let enough : fitting (length before / 24) (missingFeed s) ≡ length (missingFeed s) =
+    fitting-all (length before / 24) (missingFeed s) (omega (arith, missing-short (eqb (s .part .len) 0)))
+    in
+    let all : take (takenOf (missingFeed s) before) (missingFeed s) ≡ missing l =
+    take-all (takenOf (missingFeed s) before) (missingFeed s) (omega (arith, enough)) ∙ missing-is s l is short
+    in
+    let run : r ≡ runOf (s .desk) l (missing l) = ap (runFrom s) all ∙ run-is s l is short (missing l) in
+    let text : take (f .written) after ≡ r .out =
+    ap₂ (λ (k : ℕ) (o : List ℕ). take k o) (ap (λ (y : Fed). y .written) (h .result)) (h .bytes) ∙ put-start (r .out) before
+    in
+    let desk-is : f .session .desk ≡ r .state = ap (λ (y : Fed). y .session .desk) (h .result) in
+    record {
+      text = rw (text, run) (last-line (s .desk) l .0);
+      desk = rw (desk-is, run) (last-line (s .desk) l .1);
+      sized = rw (desk-is, run) (run-sized (s .desk) l (missing l) sized);
+    }
+
+-- a line says what its first 97 bytes say
+say-capped : (d : Desk) (l : List ℕ) → sayLine d (capped l) ≡ sayLine d l
+say-capped d l = rw (read-capped l)
+
+next-capped : (d : Desk) (l : List ℕ) → nextDesk d (capped l) ≡ nextDesk d l
+next-capped d l = rw (read-capped l)
+
+from-start : (input w : List ℕ) (e : Desk) → Through startSession input w e → Runs (startSession .desk) [] input w e
+unfolding startSession
+from-start input w e h = through [] refl (omega arith) (λ q. absurd (false≢true q)) h
+
+pub transcript-served : TranscriptServed
+transcript-served input v (served {w = w} {c = c} {d = d} h close) =
+    let r = from-start input w d h in
+    let tail : c ≡ closing (deskBy (startSession .desk) [] input) =
+    closing-from-start d c (r .sized) close ∙ ap closing (r .desk) in
+    ap₂ (λ (x y : List ℕ). x ++ y) (r .text) tail
+    ∙ run-transcript nextDesk sayLine say-capped next-capped closing (startSession .desk) input
+
+-- the desk that an input comes to, line by line
+pub desk-reached : (input w : List ℕ) (d : Desk) → Through startSession input w d → d ≡ lastDesk input
+unfolding linesOf capped
+desk-reached input w d h =
+    from-start input w d h .desk ∙ run-lines nextDesk sayLine say-capped next-capped (startSession .desk) [] input .1
+
+pub every-feed-goes-on : EveryFeedGoesOn
+unfolding fedAs
+every-feed-goes-on s piece out =
+    record {
+      most = fitting-le (length out / 24) piece;
+      some = λ room any. fitting-some (length out / 24) piece (omega arith) any;
+    }

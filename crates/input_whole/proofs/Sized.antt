@@ -1,0 +1,74 @@
+-- An open register always has 32 points.
+use Prim.Native.Nat.{ℕ, _-_}
+use mathlib.Core.Path.{_≡_, refl, _∙_}
+use mathlib.Core.Bool.{Bool, true, false, cond, not, _&&_}
+use mathlib.Core.List.{List, [], _∷_, _++_, map}
+use lib.Dec.{eqb}
+use lib.ListN.{length, length-set, length-map, length-replicate}
+use Rattle.rules.specs.declared.{Point.Point, Register.Register, Call.Call, Action.Action, Opening.Opening}
+use Rattle.rules.specs.Answers.{isAccepted}
+use Rattle.rules.specs.Rejections.{openingAnswer}
+use Rattle.rules.specs.Register.{catchUp, blankPoint, register, pointAt, advanced, says, acted, failedPoint, done, applied, opened}
+use Rattle.line_messages.specs.declared.{Message.Message}
+use Rattle.line_messages.specs.Reading.{readLine}
+use Rattle.input_lines.specs.Part.{capped}
+use Rattle.input_lines.specs.Machine.{behind, run}
+use Rattle.input_desk.specs.declared.{Desk.Desk}
+use Rattle.input_desk.specs.Desk.{desk, deskAfter}
+use Rattle.input_pieces.specs.Session.{nextDesk, sayLine, runOf}
+
+abbrev pub Sized : Desk → Type 0
+Sized d = d .ready ≡ true → length (d .register .points) ≡ 32
+
+advanced-length : (t : ℕ) (r : Register) → length (advanced t r .points) ≡ length (r .points)
+unfolding advanced
+advanced-length t r = go (eqb (r .day) t)
+  where
+    go : (b : Bool) →
+        length (cond b r (register (r .settings) t (r .contracts) (map (catchUp (r .settings) t) (r .points))) .points) ≡ length (r .points)
+    go true = refl
+    go false = length-map (r .points) (catchUp (r .settings) t)
+
+done-length : (t : ℕ) (a : Action) (r : Register) → length (done t a r .points) ≡ length (r .points)
+unfolding done
+done-length t (Action.Contract s) r = refl
+done-length t (Action.Failure s) r = length-map (r .points) (failedPoint (r .settings) t s)
+done-length t (Action.At p a) r = length-set (r .points) (p - 1) (acted (r .settings) t a (pointAt p (r .points)))
+done-length t Action.Day r = refl
+
+applied-length : (r : Register) (c : Call) → length (applied r c .register .points) ≡ length (r .points)
+unfolding applied
+applied-length r c = go (isAccepted (says r c))
+  where
+    go : (b : Bool) → length (cond b (done (c .today) (c .action) (advanced (c .today) r)) r .points) ≡ length (r .points)
+    go true = done-length (c .today) (c .action) (advanced (c .today) r) ∙ advanced-length (c .today) r
+    go false = refl
+
+opened-length : (o : Opening) → length (opened o .points) ≡ 32
+unfolding opened
+opened-length o = length-replicate {A = Point} 32 blankPoint
+
+sized-after : (d : Desk) (m : Message) → Sized d → Sized (deskAfter d m)
+unfolding deskAfter
+sized-after d (Message.Open o) h = go (not (d .ready) && isAccepted (openingAnswer o))
+  where
+    go : (b : Bool) → Sized (cond b (desk true (opened o)) d)
+    go true = λ e. opened-length o
+    go false = h
+sized-after d (Message.Ask c) h = go (d .ready) refl
+  where
+    go : (b : Bool) → d .ready ≡ b → Sized (cond b (desk true (applied (d .register) c .register)) d)
+    go true e = λ k. applied-length (d .register) c ∙ h e
+    go false e = h
+sized-after d Message.Unreadable h = h
+
+pub run-sized : (d : Desk) (part l : List ℕ) → Sized d → Sized (runOf d part l .state)
+unfolding run
+run-sized d part [] h = h
+run-sized d part (b ∷ l) h =
+    go (eqb b 10) (run-sized (nextDesk d part) [] l (sized-after d (readLine part) h)) (run-sized d (capped (part ++ (b ∷ []))) l h)
+  where
+    go : (t : Bool) → Sized (runOf (nextDesk d part) [] l .state) → Sized (runOf d (capped (part ++ (b ∷ []))) l .state) →
+        Sized (cond t (behind (sayLine d part) (runOf (nextDesk d part) [] l)) (runOf d (capped (part ++ (b ∷ []))) l) .state)
+    go true i j = i
+    go false i j = j

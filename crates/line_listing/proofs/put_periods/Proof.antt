@@ -1,0 +1,54 @@
+-- The lines of the periods passed so far stand behind the position.
+use borrow.Author.Needs.{needs}
+use Rattle.line_listing.proofs.put_periods.Statement.{statement}
+use Rattle.line_listing.proofs.put_periods.Tie as tie
+use Prim.Native.Nat.{_+_, _-_, _*_, _≤_}
+use mathlib.Core.Path.{_≡_}
+use native.Mathlib.Omega.{arith}
+use Rattle.line_listing.specs.Listing.{AppendedWithin, periodLines}
+use Rattle.line_listing.proofs.Growing.{within-none, within-more, within-length, lines-next, lines-none}
+
+abbrev Inv-loop : tie.InvT-loop
+Inv-loop out₀ at p n ps end₀ i₀ out end i = (i ≤ n) × AppendedWithin (37 * i) at (periodLines p i ps) out₀ out end
+
+abbrev μ-loop : tie.MeasureT-loop
+μ-loop out₀ at p n ps end₀ i₀ out end i = n - i
+
+loop-holds : tie.Need-loop-holds Inv-loop μ-loop
+loop-holds c = (
+  omega arith,
+  rw (lines-none (c .before .args .p) (c .before .args .t5))
+      (within-none (c .before .args .at) (c .before .args .out .now) (omega arith)),
+)
+
+loop-again : tie.Need-loop-again Inv-loop μ-loop
+loop-again c =
+    let c₂ = c .before .before in
+    let c₆ = c₂ .before .before .before .before in
+    let c₈ = c₆ .before .before in
+    let a = c₈ .args in
+    let l = c₆ .loop in
+    let k : 37 * (l .i + 1) ≡ 37 * l .i + 37 = omega arith in (
+      omega arith,
+      rw (k, lines-next (a .p) (l .i) (a .t5))
+          (within-more (37 * l .i) 37 (a .at) _ _ _ _ _ _ _ (l .inv .1) (c₂ .put-line .ensures .text)
+          (c₂ .put-line .ensures .short) (omega arith)),
+    )
+
+same-length : tie.Need-same-length Inv-loop μ-loop
+same-length c =
+    let c₃ = c .before .before .before in
+    let a = c₃ .args in
+    let l = c .before .loop in
+    within-length (37 * l .i) (a .at) (periodLines (a .p) (l .i) (a .t5)) _ _ _ (l .inv .1) (omega arith)
+
+returns : tie.Need-returns Inv-loop μ-loop
+returns c =
+    let c₃ = c .before .before .before in
+    let z : c .before .loop .i ≡ c₃ .args .n = omega arith in
+    rw (← z) (c .before .loop .inv .1)
+
+pub put-periods-spec : {M : Type 1} → statement M
+put-periods-spec =
+    tie.close (tie.spec Inv-loop μ-loop loop-holds (λ c. search needs) (λ c. search needs) (λ c κs. search needs)
+    (λ c. search needs) (λ c. search needs) loop-again same-length returns)

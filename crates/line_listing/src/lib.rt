@@ -1,0 +1,114 @@
+// The closing lines of a register: for each enrolled point, rising, its periods and its total.
+use line_answers::put_period;
+use line_answers::put_total;
+use point_periods::marks;
+use questions::advance_in;
+use rules::Period;
+use rules::Point;
+use rules::Register;
+ghost use mathlib.Core.Path.{_≡_};
+ghost use Prim.Native.Nat.{_+_, _-_, _*_, _≤_, _<_};
+ghost use lib.ListN.{length};
+ghost use Rattle.rules.specs.Register.{period};
+ghost use Rattle.line_answers.specs.Answers.{periodLine};
+ghost use Rattle.line_listing.specs.Listing.{taken, ListedFrom, periodLines, pointLines, linesBehind, AppendedWithin};
+
+// The most bytes that the lines of one point take: 24 periods of at most 37 bytes, and a total of at most 30.
+const ROOM: usize = 918;
+
+// What a call has done: the points before next are listed, and the text has so many bytes.
+pub struct Listed {
+    pub next: usize,
+    pub written: usize,
+}
+
+// The lines of the points behind the first ones, from the start of out on: of as many points as surely fit.
+pub fn put_listing(r: Register, from: usize, out: &mut [u8]) -> Listed
+    ensures { λ x. ⌜ ListedFrom r from (now (out .entry)) (now (out .exit)) x ⌝ }
+{
+    let points = r.points;
+    let n = taken_from(from, out.len());
+    let written = put_points(out, points, from, n);
+    Listed {
+        next: from + n,
+        written,
+    }
+}
+
+// How many points a call takes.
+fn taken_from(from: usize, room: usize) -> usize
+    ensures { λ x. ⌜ x ≡ taken from room ⌝ }
+{
+    if 32 <= from {
+        return 0;
+    }
+    let left = 32 - from;
+    let fit = room / ROOM;
+    if fit < left {
+        return fit;
+    }
+    left
+}
+
+// The lines of n points behind the first ones, from the start of out on.
+fn put_points(out: &mut [u8], points: [Point; 32], from: usize, n: usize) -> usize
+    requires { ⌜ (n ≤ 32 - from) × (n * 918 ≤ length (now out)) ⌝ }
+    ensures { λ x. ⌜ AppendedWithin (n * 918) 0 (linesBehind from n points) (now (out .entry)) (now (out .exit)) x ⌝ }
+{
+    let mut at: usize = 0;
+    let mut i: usize = 0;
+    while i < n {
+        let g = points[from + i];
+        let p = (from + i) as u64 + 1;
+        at = put_point(out, at, p, g);
+        i += 1;
+    }
+    at
+}
+
+// The lines of point p: none where it is not enrolled.
+fn put_point(out: &mut [u8], at: usize, p: u64, g: Point) -> usize
+    requires { ⌜ (p < 100) × (at + 918 ≤ length (now out)) ⌝ }
+    ensures { λ x. ⌜ AppendedWithin 918 at (pointLines p g) (now (out .entry)) (now (out .exit)) x ⌝ }
+{
+    let f = g.fields;
+    if !f.enrolled {
+        return at;
+    }
+    let h = g.history;
+    let n = marks(h);
+    let ps = h.periods;
+    let total_at = put_periods(out, at, p, n, ps);
+    let total = advance_in(h);
+    put_total(out, total_at, p, total)
+}
+
+// The lines of the first n periods of point p.
+fn put_periods(out: &mut [u8], at: usize, p: u64, n: usize, ps: [Period; 24]) -> usize
+    requires { ⌜ (p < 100) × (n ≤ 24) × (at + 37 * n ≤ length (now out)) ⌝ }
+    ensures { λ x. ⌜ AppendedWithin (37 * n) at (periodLines p n ps) (now (out .entry)) (now (out .exit)) x ⌝ }
+{
+    let mut end = at;
+    let mut i: usize = 0;
+    while i < n {
+        let q = ps[i];
+        end = put_line(out, end, p, q.start, q.holder, q.volume);
+        i += 1;
+    }
+    end
+}
+
+// One period's line, which has at most 37 bytes.
+fn put_line(out: &mut [u8], at: usize, p: u64, start: u32, holder: u8, volume: u64) -> usize
+    requires { ⌜ p < 100 ⌝ }
+    ensures { λ x. ⌜
+        AppendedWithin 37 at (periodLine p (period start holder volume)) (now (out .entry)) (now (out .exit)) x
+        ⌝ }
+{
+    let q = Period {
+        start,
+        holder,
+        volume,
+    };
+    put_period(out, at, p, q)
+}

@@ -1,0 +1,155 @@
+// Message lines: what a line says, and reading one.
+use line_fields::first_known;
+use line_fields::read_row;
+use line_kinds::Kind;
+use line_kinds::words::kind_named;
+use line_kinds::words::shape_of;
+use rules::Action;
+use rules::Call;
+use rules::Opening;
+use rules::PointAction;
+ghost use mathlib.Core.Path.{_≡_};
+ghost use Prim.Native.Nat.{_≤_};
+ghost use lib.ListN.{length};
+ghost use Rattle.line_messages.specs.Lines.{ask, askAt, messageOf};
+ghost use Rattle.line_messages.specs.Reading.{wordEnd, readLine};
+
+// What a line says: an opening, one of the twelve calls, or nothing that can be read.
+pub enum Message {
+    Open(Opening),
+    Ask(Call),
+    Unreadable,
+}
+
+// A line's kind and the values of its fields; the places past its fields hold 0.
+pub struct Parts {
+    pub kind: Kind,
+    pub values: [u64; 7],
+}
+
+// The most bytes that a line can have without its line feed.
+const LONGEST: usize = 96;
+
+// What a line says, without its line feed.
+pub fn read_line(line: &[u8]) -> Message
+    ensures { λ r. ⌜ r ≡ readLine (now (line .entry)) ⌝ }
+{
+    if LONGEST < line.len() {
+        return Message::Unreadable;
+    }
+    let end = word_end(line);
+    let kind = kind_named(&line[..end]);
+    let shape = shape_of(kind);
+    let mut values = [0u64; 7];
+    let row = read_row(line, end, shape, first_known(), &mut values);
+    if !row.ok {
+        return Message::Unreadable;
+    }
+    if row.end < line.len() {
+        return Message::Unreadable;
+    }
+    message_of(kind, values)
+}
+
+// The end of a line's first word: its first `;`, or its end.
+fn word_end(line: &[u8]) -> usize
+    ensures { λ r. ⌜ (r ≡ wordEnd (now (line .entry))) × (r ≤ length (now (line .entry))) ⌝ }
+{
+    let mut i: usize = 0;
+    while i < line.len() {
+        if line[i] == b';' {
+            return i;
+        }
+        i += 1;
+    }
+    i
+}
+
+// What a line of a kind with these values says.
+pub fn message_of(kind: Kind, v: [u64; 7]) -> Message
+    ensures { λ r. ⌜ r ≡ messageOf kind v ⌝ }
+{
+    let today = v[0];
+    let a = v[1];
+    let b = v[2];
+    let c = v[3];
+    let d = v[4];
+    let e = v[5];
+    let f = v[6];
+    match kind {
+        Kind::Set => Message::Open(Opening {
+            day: today,
+            w: a,
+            a: b,
+            b: c,
+            default: d,
+            resort: e,
+        }),
+        Kind::Ctr => asks(today, Action::Contract { supplier: a }),
+        Kind::Def => asks(today, Action::Failure { supplier: a }),
+        Kind::Enr => asks_at(
+            today,
+            a,
+            PointAction::Enrol {
+                before: b,
+                after: c,
+                index: d,
+            },
+        ),
+        Kind::Demmespc => asks_at(
+            today,
+            a,
+            PointAction::IntoService {
+                supplier: b,
+                key: c,
+            },
+        ),
+        Kind::I => asks_at(today, a, PointAction::DefaultSupply { key: b }),
+        Kind::Demcf => asks_at(
+            today,
+            a,
+            PointAction::Request {
+                supplier: b,
+                key: c,
+                day: d,
+            },
+        ),
+        Kind::Adc => asks_at(today, a, PointAction::Cancel { supplier: b }),
+        Kind::Ri => asks_at(
+            today,
+            a,
+            PointAction::Reading {
+                day: b,
+                index: c,
+                zero: d,
+            },
+        ),
+        Kind::Cdt => asks_at(
+            today,
+            a,
+            PointAction::MeterChange {
+                index: b,
+                zero: c,
+                before: d,
+                after: e,
+                fresh: f,
+            },
+        ),
+        Kind::Demmhs => asks_at(today, a, PointAction::OutOfService),
+        Kind::Sus => asks_at(today, a, PointAction::Suspend { mark: b }),
+        Kind::Jour => asks(today, Action::Day),
+        Kind::Unknown => Message::Unreadable,
+    }
+}
+
+fn asks(today: u64, action: Action) -> Message
+    ensures { λ r. ⌜ r ≡ ask today action ⌝ }
+{
+    Message::Ask(Call { today, action })
+}
+
+fn asks_at(today: u64, point: u64, act: PointAction) -> Message
+    ensures { λ r. ⌜ r ≡ askAt today point act ⌝ }
+{
+    asks(today, Action::At { point, act })
+}

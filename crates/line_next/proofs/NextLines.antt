@@ -1,0 +1,209 @@
+-- The next line, read where it stands: a kind's word, its fields and then a line feed are the line of its message.
+use Prim.Native.Nat.{ℕ, suc, _+_, _-_, _<_, _≤_}
+use mathlib.Core.Path.{_≡_, refl, sym, ap, ap₂, _∙_}
+use mathlib.Core.Logic.{_⊎_, inl, inr, ⊎-elim}
+use mathlib.Core.Bool.{Bool, true, false, cond, _&&_}
+use mathlib.Core.List.{List, [], _∷_, _++_, append-assoc, append-nil}
+use native.Mathlib.Omega.{arith}
+use native.Mathlib.Numerals.{add-one}
+use lib.Dec.{leb, eqb}
+use lib.ListN.{length, take, drop, getD, length-append, length-drop, take-append-drop, drop-of-length-le}
+use lib.Seq.{drop-cons, take-at, take-length}
+use borrow.Author.Tests.{eqb-true, eq-eqb, ne-eqb}
+use Rattle.line_values.specs.Words.{isSame}
+use Rattle.line_fields.specs.Fields.{values, unread, fieldsText, sortsFrom, sortsOf, fieldsOf}
+use Rattle.line_fields.specs.Known.{IsKnown}
+use Rattle.line_fields.specs.With.{RowRead}
+use Rattle.line_fields.specs.declared.{KnownDate.KnownDate}
+use Rattle.line_fields.proofs.FieldSteps.{fields-are}
+use Rattle.line_fields.proofs.FieldTexts.{fields-only}
+use Rattle.line_fields.proofs.KnownStays.{known-stays}
+use Rattle.line_kinds.specs.declared.{Kind.Kind}
+use Rattle.line_kinds.specs.Kinds.{word, kinds, kindIn, kindNamed, shapeOf}
+use Rattle.line_kinds.proofs.KindTable.{few}
+use Rattle.line_kinds.proofs.Naming.{Found, named, unnamed, found}
+use Rattle.input_lines.specs.Lines.{untilFeed}
+use Rattle.line_messages.specs.declared.{Message.Message}
+use Rattle.line_messages.specs.Lines.{messageOf}
+use Rattle.line_messages.specs.Reading.{wordEnd, readLine}
+use Rattle.line_messages.proofs.OneLine.{line-is, its-line-back}
+use Rattle.line_next.specs.declared.{Taken.Taken}
+use Rattle.line_next.specs.NextLine.{firstLine, feedFirst, stopAt, firstKind, firstRow, taken, takenBy, nextLine, IsNext, NextIsLine}
+use Rattle.line_next.proofs.PlainTexts.{Plain, plain-end, plain-append, plain-fields, plain-word}
+
+-- one step of looking for the end of a word, and of a line
+module _ (l : List ℕ) (i : ℕ) (h : i < length l) where
+  pub stop-here : getD l i 0 ≡ 59 → stopAt (drop i l) ≡ 0
+  unfolding stopAt
+  stop-here e = rw (drop-cons l i 0 h, eq-eqb _ _ e)
+
+  pub stop-feed : (getD l i 0 ≡ 59 → ⊥) → getD l i 0 ≡ 10 → stopAt (drop i l) ≡ 0
+  unfolding stopAt
+  stop-feed n e = rw (drop-cons l i 0 h, ne-eqb _ _ n, eq-eqb _ _ e)
+
+  pub stop-past : (getD l i 0 ≡ 59 → ⊥) → (getD l i 0 ≡ 10 → ⊥) → stopAt (drop i l) ≡ suc (stopAt (drop (i + 1) l))
+  unfolding stopAt
+  stop-past n m = rw (drop-cons l i 0 h, ne-eqb _ _ n, ne-eqb _ _ m, add-one i)
+
+module _ (l : List ℕ) (i : ℕ) (h : length l ≤ i) where
+  pub stop-none : stopAt (drop i l) ≡ 0
+  unfolding stopAt
+  stop-none = rw (drop-of-length-le l h)
+
+-- a line feed at a position, or not
+pub feed-off : (l : List ℕ) (i : ℕ) → length l ≤ i → feedFirst (drop i l) ≡ false
+feed-off l i h = rw (drop-of-length-le l h)
+
+pub feed-at : (l : List ℕ) (i : ℕ) → i < length l → feedFirst (drop i l) ≡ eqb (getD l i 0) 10
+feed-at l i h = rw (drop-cons l i 0 h)
+
+-- a word before a line feed is the line
+word-is-line : (l : List ℕ) → feedFirst (drop (stopAt l) l) ≡ true → untilFeed l ≡ stopAt l
+unfolding stopAt untilFeed
+word-is-line [] e = refl
+word-is-line (c ∷ l) e = go (word-is-line l) (eqb c 59) (eqb c 10) refl refl e where
+  go : (feedFirst (drop (stopAt l) l) ≡ true → untilFeed l ≡ stopAt l) → (a b : Bool) → eqb c 59 ≡ a → eqb c 10 ≡ b →
+      feedFirst (drop (cond a 0 (cond b 0 (suc (stopAt l)))) (c ∷ l)) ≡ true →
+      cond b 0 (suc (untilFeed l)) ≡ cond a 0 (cond b 0 (suc (stopAt l)))
+  go ih true true p q e = refl
+  go ih false true p q e = refl
+  go ih true false p q e = absurd (let f : eqb c 10 ≡ true = e in let z : _≡_ {A = ℕ} 0 1 = cc in omega arith)
+  go ih false false p q e = ap suc (ih e)
+
+-- and it has no `;`
+word-whole : (l : List ℕ) → wordEnd (take (stopAt l) l) ≡ length (take (stopAt l) l)
+unfolding stopAt wordEnd
+word-whole [] = refl
+word-whole (c ∷ l) = go (word-whole l) (eqb c 59) (eqb c 10) refl where
+  go : wordEnd (take (stopAt l) l) ≡ length (take (stopAt l) l) → (a b : Bool) → eqb c 59 ≡ a →
+      wordEnd (take (cond a 0 (cond b 0 (suc (stopAt l)))) (c ∷ l)) ≡
+      length (take (cond a 0 (cond b 0 (suc (stopAt l)))) (c ∷ l))
+  go ih true b p = refl
+  go ih false true p = refl
+  go ih false false p = rw p (ap suc ih)
+
+-- a kind is Unknown or not
+known-or : (k : Kind) → (k ≡ Kind.Unknown) ⊎ (k ≡ Kind.Unknown → ⊥)
+known-or Kind.Set = inr (λ e. let z : _≡_ {A = ℕ} 0 1 = cc in omega arith)
+known-or Kind.Ctr = inr (λ e. let z : _≡_ {A = ℕ} 0 1 = cc in omega arith)
+known-or Kind.Def = inr (λ e. let z : _≡_ {A = ℕ} 0 1 = cc in omega arith)
+known-or Kind.Enr = inr (λ e. let z : _≡_ {A = ℕ} 0 1 = cc in omega arith)
+known-or Kind.Demmespc = inr (λ e. let z : _≡_ {A = ℕ} 0 1 = cc in omega arith)
+known-or Kind.I = inr (λ e. let z : _≡_ {A = ℕ} 0 1 = cc in omega arith)
+known-or Kind.Demcf = inr (λ e. let z : _≡_ {A = ℕ} 0 1 = cc in omega arith)
+known-or Kind.Adc = inr (λ e. let z : _≡_ {A = ℕ} 0 1 = cc in omega arith)
+known-or Kind.Ri = inr (λ e. let z : _≡_ {A = ℕ} 0 1 = cc in omega arith)
+known-or Kind.Cdt = inr (λ e. let z : _≡_ {A = ℕ} 0 1 = cc in omega arith)
+known-or Kind.Demmhs = inr (λ e. let z : _≡_ {A = ℕ} 0 1 = cc in omega arith)
+known-or Kind.Sus = inr (λ e. let z : _≡_ {A = ℕ} 0 1 = cc in omega arith)
+known-or Kind.Jour = inr (λ e. let z : _≡_ {A = ℕ} 0 1 = cc in omega arith)
+known-or Kind.Unknown = inl refl
+
+word-found : (w : List ℕ) (k : Kind) → Found w k → (k ≡ Kind.Unknown → ⊥) → w ≡ word k
+word-found w k (named q) h = q
+word-found w k unnamed h = absurd (h refl)
+
+-- a text of one line, its line feed, and more
+first-line : (t r l : List ℕ) → Plain t → l ≡ t ++ r → feedFirst r ≡ true →
+    (firstLine l ≡ t) × (length l ≡ untilFeed l + length r)
+first-line t [] l p e h = absurd (let z : _≡_ {A = ℕ} 0 1 = cc in omega arith)
+first-line t (c ∷ r) l p e h =
+    let ten : c ≡ 10 = eqb-true c 10 h in
+    let end : untilFeed l ≡ length t = ap untilFeed (e ∙ ap (λ (x : ℕ). t ++ (x ∷ r)) ten) ∙ plain-end t r p in
+    let sum = ap length e ∙ length-append t (c ∷ r) in
+    (rw (end, e) (take-at t (c ∷ r) (length t) refl), omega arith)
+
+-- a word that names no kind is no line
+no-line : (w : List ℕ) → wordEnd w ≡ length w → kindNamed w ≡ Kind.Unknown → readLine w ≡ Message.Unreadable
+unfolding readLine fieldsOf sortsFrom
+no-line w e u = rw (name, rest) (go (leb (length w) 96)) where
+  name : kindNamed (take (wordEnd w) w) ≡ Kind.Unknown
+  name = rw (e, take-length w) u
+
+  rest : drop (wordEnd w) w ≡ []
+  rest = let all : length w ≤ length w = omega arith in rw e (drop-of-length-le w all)
+
+  go : (b : Bool) → cond b Message.Unreadable Message.Unreadable ≡ Message.Unreadable
+  go true = refl
+  go false = refl
+
+feed-some : (r : List ℕ) → feedFirst r ≡ true → 0 < length r
+feed-some [] h = absurd (let z : _≡_ {A = ℕ} 0 1 = cc in omega arith)
+feed-some (c ∷ r) h = omega arith
+
+-- the line of a word, a row of fields and a line feed
+module _ (l : List ℕ) (n : ℕ) (k : Kind) (vs r : List ℕ) (hn : n ≡ stopAt l) (hk : k ≡ kindNamed (take n l))
+    (hf : fieldsOf (sortsOf (shapeOf k)) [] (drop n l) ≡ values vs r) (feed : feedFirst r ≡ true) where
+  known-line : (k ≡ Kind.Unknown → ⊥) → (readLine (firstLine l) ≡ messageOf k vs) × (length l ≡ untilFeed l + length r)
+  known-line h =
+      let q = word-found (take n l) k (rw (← hk) at (found kinds (take n l))) h in
+      let a = fields-only (sortsOf (shapeOf k)) [] (drop n l) vs r hf in
+      let T = fieldsText (sortsOf (shapeOf k)) (a .ns) in
+      let whole : l ≡ (word k ++ T) ++ r =
+      sym (take-append-drop n l) ∙ ap₂ _++_ q (a .text) ∙ sym (append-assoc (word k) T r) in
+      let plain = plain-append (word k) T (plain-word k) (plain-fields (sortsOf (shapeOf k)) (a .ns)) in
+      let first = first-line (word k ++ T) r l plain whole feed in
+      let own = line-is (word k ++ T) T k vs refl (record {
+        ns = a .ns;
+        all = a .all;
+        text =
+            sym (append-nil T);
+        fit = a .fit;
+      }) h in
+      (ap readLine (first .0 ∙ own .0) ∙ its-line-back (messageOf k vs) (own .1), first .1)
+
+  unknown-line : k ≡ Kind.Unknown → (readLine (firstLine l) ≡ messageOf k vs) × (length l ≡ untilFeed l + length r)
+  unfolding fieldsOf sortsFrom
+  unknown-line u =
+      let read : values [] (drop n l) ≡ values vs r = rw u at hf in
+      let rest : drop n l ≡ r = cc in
+      let end = word-is-line l (rw (← hn, rest) feed) in
+      let long = sym (ap length rest) ∙ length-drop n l in
+      let name : kindNamed (take (stopAt l) l) ≡ Kind.Unknown = rw (← hn) (sym hk ∙ u) in (
+        rw (end, u) (no-line (take (stopAt l) l) (word-whole l) name),
+        let some = feed-some r feed in let here =
+            hn ∙ sym end in omega arith,
+      )
+
+  row-line : (readLine (firstLine l) ≡ messageOf k vs) × (length l ≡ untilFeed l + length r)
+  row-line = ⊎-elim unknown-line known-line (known-or k)
+
+-- with a right known date
+pub empty-line : readLine [] ≡ Message.Unreadable
+unfolding readLine wordEnd kindIn isSame fieldsOf sortsFrom
+empty-line = refl
+
+module _ (k : KnownDate) (buf : List ℕ) (from : ℕ) (right : IsKnown k) where
+  abbrev text : List ℕ
+  text = drop from buf
+
+  abbrev x : RowRead
+  x = firstRow k text
+
+  is-known : IsKnown (x .known)
+  is-known = known-stays .right k (shapeOf (firstKind text)) (drop (stopAt text) text) right
+
+  -- its fields are those that are read without a known date
+  row-of : x .ok ≡ true → fieldsOf (sortsOf (shapeOf (firstKind text))) [] (drop (stopAt text) text) ≡ values (x .read) (x .rest)
+  row-of e =
+      sym (fields-are (shapeOf (firstKind text)) (drop (stopAt text) text) (few (firstKind text))) ∙
+      sym (known-stays .same k (shapeOf (firstKind text)) (drop (stopAt text) text) right) ∙
+      ap (λ (b : Bool). cond b (values (x .read) (x .rest)) unread) e
+
+  pub next-is : IsNext buf from (takenBy from text x)
+  next-is = go (x .ok) (feedFirst (x .rest)) refl refl where
+    go : (a b : Bool) → x .ok ≡ a → feedFirst (x .rest) ≡ b →
+        IsNext buf from (cond (a && b) (taken (messageOf (firstKind text) (x .read)) (from + (length text - length (x .rest))) (x .known))
+        (taken (readLine (firstLine text)) (from + untilFeed text) (x .known)))
+    go true true p q =
+        let w = row-line text (stopAt text) (firstKind text) (x .read) (x .rest) refl refl (row-of p) q in
+        record { message = sym (w .0); end = ap (λ (n : ℕ). from + n) (omega arith); known = is-known }
+    go true false p q = record { message = refl; end = refl; known = is-known }
+    go false b p q = record { message = refl; end = refl; known = is-known }
+
+pub next-is-line : NextIsLine
+unfolding nextLine
+next-is-line k buf from right = next-is k buf from right
+
+pub next-right : (k : KnownDate) (buf : List ℕ) (from : ℕ) (t : Taken) → t ≡ nextLine k buf from → IsKnown k → IsNext buf from t
+next-right k buf from t e right = rw e (next-is-line k buf from right)

@@ -1,0 +1,11 @@
+-- `message_lines::parts_of` meets its contract, message by message.
+
+use borrow.Author.Needs.{needs}
+use Rattle.line_writing.proofs.parts_of.Statement.{statement}
+use Rattle.line_writing.proofs.parts_of.Tie as tie
+
+pub parts-of-spec : {M : Type 1} → statement M
+parts-of-spec =
+    tie.close (tie.spec (λ c. search needs) (λ c. search needs) (λ c κs. search needs) (λ c. search needs)
+    (λ c. rw (c .before .m .given .1)) (λ c. rw (c .before .before .m2 .given .1) (c .call-parts .ensures))
+    (λ c. rw (c .enum-told .given .1)))

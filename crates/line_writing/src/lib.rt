@@ -1,0 +1,225 @@
+// Writing the line of a call or of an opening.
+use dates::LAST_DAY;
+use line_fields::Shape;
+use line_fields::Sort;
+use line_fields::sort_at;
+use line_kinds::Kind;
+use line_kinds::words::put_kind;
+use line_kinds::words::shape_of;
+use line_messages::Message;
+use line_messages::Parts;
+use line_text::write::put_byte;
+use line_text::write::put_day;
+use line_text::write::put_number;
+use rules::Action;
+use rules::PointAction;
+ghost use mathlib.Core.Path.{_≡_};
+ghost use Prim.Native.Nat.{_+_, _*_, _≤_};
+ghost use mathlib.Core.Bool.{true};
+ghost use mathlib.Core.List.{[]};
+ghost use lib.ListN.{length, take};
+ghost use Rattle.line_text.specs.Appending.{Appended};
+ghost use Rattle.line_fields.specs.Fields.{sortsOf, fieldText, fieldsText, fits as Fields·fits, fitAll};
+ghost use Rattle.line_messages.specs.Lines.{kindOf, partsOf, callParts, pointParts};
+ghost use Rattle.line_messages.specs.Writing.{isWritable};
+ghost use Rattle.line_writing.specs.Written.{writtenLine};
+
+// A line: its first len bytes. The bytes behind them are 0.
+pub struct Line {
+    pub len: usize,
+    pub bytes: [u8; 96],
+}
+
+// The line that says m; no bytes where m is not writable.
+pub fn write_line(m: Message) -> Line
+    ensures { λ r. ⌜ r ≡ writtenLine m ⌝ }
+{
+    let mut bytes = [0u8; 96];
+    if !is_writable(m) {
+        return Line { len: 0, bytes };
+    }
+    let parts = parts_of(m);
+    let kind = parts.kind;
+    let values = parts.values;
+    let shape = shape_of(kind);
+    let at = put_kind(&mut bytes, 0, kind);
+    let len = put_fields(&mut bytes, at, values, shape);
+    Line { len, bytes }
+}
+
+// The message can be read, its days are in the calendar, and its numbers have at most 12 digits.
+pub fn is_writable(m: Message) -> bool
+    ensures { λ r. ⌜ r ≡ isWritable m ⌝ }
+{
+    if let Message::Unreadable = m {
+        return false;
+    }
+    let parts = parts_of(m);
+    let kind = parts.kind;
+    let values = parts.values;
+    fit_all(values, shape_of(kind))
+}
+
+// The kind of the line that says m.
+pub fn kind_of(m: Message) -> Kind
+    ensures { λ r. ⌜ r ≡ kindOf m ⌝ }
+{
+    let parts = parts_of(m);
+    parts.kind
+}
+
+// A message's kind and values.
+fn parts_of(m: Message) -> Parts
+    ensures { λ r. ⌜ r ≡ partsOf m ⌝ }
+{
+    match m {
+        Message::Open(o) => Parts {
+            kind: Kind::Set,
+            values: [o.day, o.w, o.a, o.b, o.default, o.resort, 0],
+        },
+        Message::Ask(c) => {
+            let action = c.action;
+            call_parts(c.today, action)
+        }
+        Message::Unreadable => Parts {
+            kind: Kind::Unknown,
+            values: [0, 0, 0, 0, 0, 0, 0],
+        },
+    }
+}
+
+fn call_parts(t: u64, action: Action) -> Parts
+    ensures { λ r. ⌜ r ≡ callParts t action ⌝ }
+{
+    match action {
+        Action::Contract { supplier } => Parts {
+            kind: Kind::Ctr,
+            values: [t, supplier, 0, 0, 0, 0, 0],
+        },
+        Action::Failure { supplier } => Parts {
+            kind: Kind::Def,
+            values: [t, supplier, 0, 0, 0, 0, 0],
+        },
+        Action::At { point, act } => point_parts(t, point, act),
+        Action::Day => Parts {
+            kind: Kind::Jour,
+            values: [t, 0, 0, 0, 0, 0, 0],
+        },
+    }
+}
+
+fn point_parts(t: u64, p: u64, act: PointAction) -> Parts
+    ensures { λ r. ⌜ r ≡ pointParts t p act ⌝ }
+{
+    match act {
+        PointAction::Enrol {
+            before,
+            after,
+            index,
+        } => Parts {
+            kind: Kind::Enr,
+            values: [t, p, before, after, index, 0, 0],
+        },
+        PointAction::IntoService { supplier, key } => Parts {
+            kind: Kind::Demmespc,
+            values: [t, p, supplier, key, 0, 0, 0],
+        },
+        PointAction::DefaultSupply { key } => Parts {
+            kind: Kind::I,
+            values: [t, p, key, 0, 0, 0, 0],
+        },
+        PointAction::Request { supplier, key, day } => Parts {
+            kind: Kind::Demcf,
+            values: [t, p, supplier, key, day, 0, 0],
+        },
+        PointAction::Cancel { supplier } => Parts {
+            kind: Kind::Adc,
+            values: [t, p, supplier, 0, 0, 0, 0],
+        },
+        PointAction::Reading { day, index, zero } => Parts {
+            kind: Kind::Ri,
+            values: [t, p, day, index, zero, 0, 0],
+        },
+        PointAction::MeterChange {
+            index,
+            zero,
+            before,
+            after,
+            fresh,
+        } => {
+            Parts {
+                kind: Kind::Cdt,
+                values: [t, p, index, zero, before, after, fresh],
+            }
+        }
+        PointAction::OutOfService => Parts {
+            kind: Kind::Demmhs,
+            values: [t, p, 0, 0, 0, 0, 0],
+        },
+        PointAction::Suspend { mark } => Parts {
+            kind: Kind::Sus,
+            values: [t, p, mark, 0, 0, 0, 0],
+        },
+    }
+}
+
+// Each value fits its field.
+fn fit_all(values: [u64; 7], shape: Shape) -> bool
+    requires { ⌜ shape .count ≤ 7 ⌝ }
+    ensures { λ r. ⌜ r ≡ fitAll (sortsOf shape) (take (shape .count) values) ⌝ }
+{
+    let count = shape.count;
+    let second = shape.second;
+    let mut i: usize = 0;
+    while i < count {
+        let sort = sort_at(second, i);
+        if !fits(sort, values[i]) {
+            return false;
+        }
+        i += 1;
+    }
+    true
+}
+
+// A value fits a field of its sort.
+fn fits(sort: Sort, n: u64) -> bool
+    ensures { λ r. ⌜ r ≡ Fields·fits sort n ⌝ }
+{
+    match sort {
+        Sort::Date => n <= LAST_DAY as u64,
+        Sort::Number => n < 1_000_000_000_000,
+    }
+}
+
+// The fields of a shape, each behind its `;`.
+fn put_fields(out: &mut [u8], from: usize, values: [u64; 7], shape: Shape) -> usize
+    requires { ⌜ shape .count ≤ 7 ⌝ }
+    requires { ⌜ fitAll (sortsOf shape) (take (shape .count) values) ≡ true ⌝ }
+    requires { ⌜ from + 13 * shape .count ≤ length (now out) ⌝ }
+    ensures { λ r. ⌜ Appended from (fieldsText (sortsOf shape) (take (shape .count) values)) (now (out .entry)) (now (out .exit)) r ⌝ }
+{
+    let count = shape.count;
+    let second = shape.second;
+    let mut at = from;
+    let mut i: usize = 0;
+    while i < count {
+        let sort = sort_at(second, i);
+        let n = values[i];
+        at = put_field(out, at, sort, n);
+        i += 1;
+    }
+    at
+}
+
+// A field behind its `;`.
+fn put_field(out: &mut [u8], at: usize, sort: Sort, n: u64) -> usize
+    requires { ⌜ Fields·fits sort n ≡ true ⌝ }
+    requires { ⌜ at + 13 ≤ length (now out) ⌝ }
+    ensures { λ r. ⌜ Appended at (fieldText sort n []) (now (out .entry)) (now (out .exit)) r ⌝ }
+{
+    let begin = put_byte(out, at, b';');
+    match sort {
+        Sort::Date => put_day(out, begin, n),
+        Sort::Number => put_number(out, begin, n),
+    }
+}

@@ -1,7 +1,0 @@
--- As many points as there are left, or as surely fit.
-use native.Mathlib.Omega.{arith}
-use Rattle.listing.proofs.taken_from.Statement.{statement}
-use Rattle.listing.proofs.taken_from.Tie as tie
-
-pub taken-from-spec : {M : Type 1} → statement M
-taken-from-spec = tie.close (tie.spec (λ c. omega arith) (λ c. omega arith) (λ c. omega arith) (λ c. omega arith))

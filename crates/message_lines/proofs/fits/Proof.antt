@@ -1,9 +1,0 @@
--- `message_lines::fits` meets its contract, sort by sort.
-use borrow.Author.Needs.{needs}
-use Rattle.message_lines.proofs.fits.Statement.{statement}
-use Rattle.message_lines.proofs.fits.Tie as tie
-
-pub fits-spec : {M : Type 1} → statement M
-fits-spec =
-    tie.close (tie.spec (λ c. search needs) (λ c. search needs) (λ c. search needs) (λ c. rw (c .enum-told .given .1))
-    (λ c. rw (c .enum-told2 .given .1)))

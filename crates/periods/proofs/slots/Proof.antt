@@ -1,7 +1,0 @@
--- `slots` meets its contract: a count past 24 counts as 24.
-use native.Mathlib.Omega.{arith}
-use Rattle.periods.proofs.slots.Statement.{statement}
-use Rattle.periods.proofs.slots.Tie as tie
-
-pub slots-spec : {M : Type 1} → statement M
-slots-spec = tie.close (tie.spec (λ c. omega arith) (λ c. omega arith))

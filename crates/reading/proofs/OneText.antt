@@ -1,8 +1,0 @@
--- Numbers and dates have one text each: the statement `OneText`, proved.
-use Rattle.reading.specs.OneText.{OneText}
-use Rattle.reading.proofs.Numbers.{number-back, number-only}
-use Rattle.reading.proofs.Days.{day-back, day-only}
-
-pub one-text : OneText
-one-text =
-    record { number-back = number-back; number-only = number-only; day-back = day-back; day-only = day-only }

@@ -1,0 +1,77 @@
+// The twelve calls, each over apply.
+mod readings;
+mod requests;
+mod service;
+
+pub use readings::meter_change;
+pub use readings::reading;
+use register::apply;
+pub use requests::cancel;
+pub use requests::request;
+use rules::Action;
+use rules::Call;
+use rules::Outcome;
+use rules::PointAction;
+use rules::Register;
+pub use service::default_supply;
+pub use service::enrol;
+pub use service::into_service;
+pub use service::out_of_service;
+pub use service::suspend;
+ghost use mathlib.Core.Path.{_≡_};
+ghost use Rattle.rules.specs.Register.{applied};
+ghost use Rattle.register.specs.Calls.{call, callAt};
+
+pub(crate) fn apply_at(r: Register, today: u64, p: u64, a: PointAction) -> Outcome
+    ensures { λ x. ⌜ x ≡ applied r (callAt today p a) ⌝ }
+{
+    let action = Action::At { point: p, act: a };
+    apply(
+        r,
+        Call {
+            today: today,
+            action: action,
+        },
+    )
+}
+
+// 1. Supplier s is under contract.
+pub fn contract(r: Register, today: u64, s: u64) -> Outcome
+    ensures { λ x. ⌜ x ≡ applied r (call today (Action.Contract s)) ⌝ }
+{
+    let action = Action::Contract { supplier: s };
+    apply(
+        r,
+        Call {
+            today: today,
+            action: action,
+        },
+    )
+}
+
+// 2. Supplier s fails.
+pub fn failure(r: Register, today: u64, s: u64) -> Outcome
+    ensures { λ x. ⌜ x ≡ applied r (call today (Action.Failure s)) ⌝ }
+{
+    let action = Action::Failure { supplier: s };
+    apply(
+        r,
+        Call {
+            today: today,
+            action: action,
+        },
+    )
+}
+
+// 12. A new day.
+pub fn day(r: Register, today: u64) -> Outcome
+    ensures { λ x. ⌜ x ≡ applied r (call today Action.Day) ⌝ }
+{
+    apply(
+        r,
+        Call {
+            today: today,
+            action: Action::Day,
+        },
+    )
+}

@@ -1,7 +1,7 @@
 -- The two machines brought up to a day: the book day by day, the register by catch-up.
-use mathlib.Core.Path.{_≡_, refl, sym, _∙_, subst}
+use mathlib.Core.Path.{_≡_, refl, sym, _∙_, ap, subst, subst₂}
 use mathlib.Core.Bool.{Bool, true, false, cond}
-use mathlib.Core.List.{List, [], _∷_, append-nil, map}
+use mathlib.Core.List.{List, [], _∷_, _++_, append-nil, map}
 use Prim.Native.Nat.{ℕ, zero, suc, _+_, _-_, _≤_, _<_}
 use native.Mathlib.Omega.{arith}
 use native.Mathlib.Nat.{add-zero, add-suc, suc-add}
@@ -10,13 +10,14 @@ use lib.ListN.{length, getD}
 use borrow.Author.Tests.{eqb-true}
 use Rattle.dates.specs.Dates.{lastDay}
 use Rattle.rules.specs.declared.{Fields.Fields, Point.Point, Register.Register, Settings.Settings, Span.Span}
-use Rattle.rules.specs.Effects.{Effect, event}
+use Rattle.rules.specs.declared.{Effect.Effect}
+use Rattle.rules.specs.Effects.{spansIn, event}
 use Rattle.rules.specs.Volumes.{volume}
-use Rattle.rules.specs.Register.{catchUp, register, pointAt, noPoint, advanced}
-use Rattle.rules.specs.DayBook.{cell, Page, Book, newDay, goOn, upToDay, look}
+use Rattle.rules.specs.Register.{entered, catchUp, register, pointAt, noPoint, advanced}
+use Rattle.rules.specs.DayBook.{cell, Page, Book, written, newDay, goOn, upToDay, look}
 use Rattle.agreement.proofs.Tally.{live-runs, dawn}
 use Rattle.agreement.proofs.Jump.{Ahead, onDay, daily, daily-catchUp}
-use Rattle.agreement.proofs.Good.{Fine, event-good}
+use Rattle.agreement.proofs.Good.{Fine, event-good, event-unread}
 use Rattle.agreement.proofs.Tied.{Told, Tied, effect-tied}
 
 module _ (S : Settings) (B : 0 < S .b) where
@@ -47,8 +48,11 @@ module _ (S : Settings) (B : 0 < S .b) where
         blank = h .fine .blank;
       } in
       let e : Effect = event S (suc t) f in
+      let q : spansIn e ≡ [] = event-unread S (suc t) f in
       rw (← (x .same))
-      (rw (append-nil l, append-nil n) at (effect-tied (suc t) l n new r told e [] [] (event-good S B t (look new) fine) cal))
+      (subst₂ (λ (x : List Span) (y : List ℕ). Tied (suc t) x y (written e (new .cells)) (entered (suc t) e (r .history)))
+      (ap (λ (x : List Span). l ++ x) q ∙ append-nil l) (append-nil n)
+      (effect-tied (suc t) l n new r told e [] (rw q (event-good S B t (look new) fine)) cal))
 
   -- n days of a page, one at a time
   unfoldable pages : ℕ → ℕ → Page → Page

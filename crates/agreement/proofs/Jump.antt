@@ -10,7 +10,8 @@ use Rattle.rules.specs.declared.{Fields.Fields, Point.Point, History.History, S
 use Rattle.rules.specs.declared.{SupplyKind.SupplyKind, Pending.Pending, Meter.Meter, Reading.Reading}
 use Rattle.rules.specs.declared.Due.the-variants as due
 use Rattle.rules.specs.Fields.{supply, fields}
-use Rattle.rules.specs.Effects.{Effect, keep, name, fieldsOf, event, pendingEvent, deadlineEvent}
+use Rattle.rules.specs.declared.{Effect.Effect}
+use Rattle.rules.specs.Effects.{fieldsOf, event, pendingEvent, deadlineEvent}
 use Rattle.rules.specs.Register.{entered, expiryBy, endsBefore, dueBy, happened, nextEvent, catchUp}
 
 -- What is due lies after day t.
@@ -42,7 +43,7 @@ ahead-back : {a b : ℕ} (s : Supply) → a ≤ b → Ahead b s → Ahead a s
 ahead-back s h r = record { kind = kind-back (s .kind) h (r .kind); pending = pending-back (s .pending) h (r .pending) }
 
 -- A day before what is due has no event.
-deadline-quiet : (S : Settings) (t : ℕ) (f : Fields) (k : SupplyKind) → KindAhead t k → deadlineEvent S t f k ≡ keep f
+deadline-quiet : (S : Settings) (t : ℕ) (f : Fields) (k : SupplyKind) → KindAhead t k → deadlineEvent S t f k ≡ Effect.Keep f
 unfolding deadlineEvent
 deadline-quiet S t f SupplyKind.None r = refl
 deadline-quiet S t f SupplyKind.Contract r = refl
@@ -50,12 +51,12 @@ deadline-quiet S t f (SupplyKind.Default d) r = rw (ne-eqb d t (omega arith))
 deadline-quiet S t f (SupplyKind.LastResort d) r = rw (ne-eqb d t (omega arith))
 
 pending-quiet : (S : Settings) (t : ℕ) (f : Fields) (q : Pending) → PendingAhead t q → KindAhead t (f .supply .kind)
-    → pendingEvent S t f q ≡ keep f
+    → pendingEvent S t f q ≡ Effect.Keep f
 unfolding pendingEvent
 pending-quiet S t f Pending.Nothing r k = deadline-quiet S t f _ k
 pending-quiet S t f (Pending.Request s e) r k = rw (ne-eqb e t (omega arith)) (deadline-quiet S t f _ k)
 
-event-quiet : (S : Settings) (t : ℕ) (f : Fields) → Ahead t (f .supply) → event S t f ≡ keep f
+event-quiet : (S : Settings) (t : ℕ) (f : Fields) → Ahead t (f .supply) → event S t f ≡ Effect.Keep f
 unfolding event
 event-quiet S t f a = pending-quiet S t f (f .supply .pending) (a .pending) (a .kind)
 
@@ -165,8 +166,7 @@ and-false true = refl
 and-false false = refl
 
 entered-fields : (t : ℕ) (e : Effect) (h : History) → entered t e h .fields ≡ fieldsOf e
-entered-fields t (keep f) h = refl
-entered-fields t (name f) h = refl
+entered-fields t e h = refl
 
 -- Nothing is due by a day before the next event.
 due-quiet : (S : Settings) (t : ℕ) (k : SupplyKind) (q : Pending) → KindAhead t k → PendingAhead t q → dueBy S t k q ≡ due.Nothing

@@ -10,10 +10,10 @@ use lib.Pow.{pow-add}
 use borrow.Author.Tests.{eqb-true, eqb-false, leb-false, ltb-true, ltb-false, not-false}
 use Rattle.rules.specs.declared.{Fields.Fields, Settings.Settings, Supply.Supply, SupplyKind.SupplyKind}
 use Rattle.rules.specs.declared.{Pending.Pending, Meter.Meter, Action.Action, PointAction.PointAction}
-use Rattle.rules.specs.declared.{Answer.Answer}
+use Rattle.rules.specs.declared.{Answer.Answer, Effect.Effect}
 use Rattle.rules.specs.Fields.{supply, meter, reading, fields, withSupply, withPending, unsupplied}
-use Rattle.rules.specs.Effects.{Effect, keep, name, fieldsOf, notice, effectiveDay, effectOf, failed, effect, dropped}
-use Rattle.rules.specs.Volumes.{fullTurn, unitOf, advanceOf, spanTo, registered, spansOf, spans}
+use Rattle.rules.specs.Effects.{fieldsOf, names, spansIn, enrols, notice, effectiveDay, effectOf, failed, effect, dropped}
+use Rattle.rules.specs.Volumes.{fullTurn, unitOf, advanceOf, spanTo, registered}
 use Rattle.rules.specs.Answers.{isAccepted}
 use Rattle.rules.specs.declared.{View.View}
 use Rattle.rules.specs.Rejections.{
@@ -34,14 +34,12 @@ use Rattle.rules.specs.Rejections.{
   outOfTime,
   indexDisagrees,
   lastResortNear,
-  outOfRangeAt,
-  outOfRange,
   rowsAt,
   rows,
-  acceptedAt,
+  answerTo,
   accepted,
 }
-use Rattle.rules.specs.DayBook.{enrolsAt, enrols}
+use Rattle.rules.proofs.Views.{dated, dated-also}
 use Rattle.rules.proofs.Accept.{pass, neither}
 use Rattle.agreement.proofs.Jump.{PendingAhead}
 use Rattle.agreement.proofs.Good.{
@@ -57,27 +55,27 @@ use Rattle.agreement.proofs.Good.{
   naming,
 }
 
-pass-near : (t : ℕ) (k : SupplyKind) (rs : List Row) (a : Answer) → isAccepted (firstOf (lastResortNear t k ∷ rs) a) ≡ true
+pass-near : (S : Settings) (t : ℕ) (k : SupplyKind) (rs : List Row) (a : Answer) → isAccepted (firstOf (lastResortNear S t k ∷ rs) a) ≡ true
     → isAccepted (firstOf rs a) ≡ true
 unfolding firstOf
-pass-near t SupplyKind.None rs a h = h
-pass-near t SupplyKind.Contract rs a h = h
-pass-near t (SupplyKind.Default d) rs a h = go (leb d (t + notice)) h
+pass-near S t SupplyKind.None rs a h = h
+pass-near S t SupplyKind.Contract rs a h = h
+pass-near S t (SupplyKind.Default d) rs a h = go (leb d (t + notice S t)) h
   where
     go : (b : Bool) → isAccepted (cond b (Answer.RefusedUntil d) (firstOf rs a)) ≡ true → isAccepted (firstOf rs a) ≡ true
     go true z = absurd (false≢true z)
     go false z = z
-pass-near t (SupplyKind.LastResort d) rs a h = h
+pass-near S t (SupplyKind.LastResort d) rs a h = h
 
 is-enrolled : (p : ℕ) (v : View) → notEnrolled p v ≡ false → v .fields .enrolled ≡ true
 is-enrolled p v h = not-false _ (neither (notPoint p) _ h .1)
 
 -- What a reading books: at most a full turn, which is at most 10^11 thousandths.
-turn-unit : (m : Meter) → Wheels m → fullTurn m * unitOf m ≤ perDay
+turn-unit : (m : Meter) → fullTurn m * unitOf m ≤ perDay
 unfolding fullTurn unitOf
-turn-unit m w =
-    let k : min (m .before + m .after) 11 + (3 - m .after) ≤ 11 = omega arith in
-    rw (← (pow-add 10 (min (m .before + m .after) 11) (3 - m .after))) (pow-le-pow-right (omega arith) k)
+turn-unit m =
+    let k : min (m .before) 8 + min (m .after) 3 + (3 - m .after) ≤ 11 = omega arith in
+    rw (← (pow-add 10 (min (m .before) 8 + min (m .after) 3) (3 - m .after))) (pow-le-pow-right (omega arith) k)
 
 advance-most : (x₁ x z turn : ℕ) → z ≤ 1 → leb turn x ≡ false → (eqb z 0 && ltb x x₁) ≡ false → (eqb z 1 && not (ltb x x₁)) ≡ false
     → advanceOf x₁ x z turn ≤ turn
@@ -86,16 +84,16 @@ advance-most x₁ x zero turn h a b c = omega (arith, leb-false turn x a)
 advance-most x₁ x (suc zero) turn h a b c = omega (arith, ltb-true x x₁ (not-false (ltb x x₁) c))
 advance-most x₁ x (suc (suc z)) turn h a b c = absurd (omega arith)
 
-span-most : (f : Fields) (d x z : ℕ) → Wheels (f .meter) → notMark z ≡ false → indexDisagrees f x z ≡ false
+span-most : (f : Fields) (d x z : ℕ) → notMark z ≡ false → indexDisagrees f x z ≡ false
     → spanTo f d x z .advance * spanTo f d x z .unit ≤ perDay
 unfolding spanTo
-span-most f d x z w m i =
+span-most f d x z m i =
     let c = neither (leb (fullTurn (f .meter)) x || (eqb z 0 && ltb x (f .reading .index))) _ i in
     let b = neither (leb (fullTurn (f .meter)) x) _ (c .0) in
     le-trans
     (mul-le-mul-right (unitOf (f .meter))
     (advance-most (f .reading .index) x z (fullTurn (f .meter)) (ltb-false 1 z (neither (ltb z 0) (ltb 1 z) m .1)) (b .0) (b .1) (c .1)))
-    (turn-unit (f .meter) w)
+    (turn-unit (f .meter))
 
 pending-dropped : (t s : ℕ) (q : Pending) → PendingAhead t q → PendingAhead t (dropped s q)
 pending-dropped t s Pending.Nothing h = tt
@@ -113,24 +111,27 @@ due-dropped s (Pending.Request q e) = go (eqb q s)
     go true = omega arith
     go false = omega arith
 
-module _ (S : Settings) (A : 0 < S .a) (B : 0 < S .b) (u : List Bool) (t : ℕ) where
+-- The enrolments of an effect on day t.
+abbrev pub enrolledBy : ℕ → Effect → List ℕ
+enrolledBy t e = cond (enrols e) (t ∷ []) []
+
+module _ (S : Settings) (A : 0 < S .a) (B : 0 < S .b) (day : ℕ) (u : List Bool) (t : ℕ) where
   -- the calls that name a point, there
   module _ (v : View) (h : Fine t v) where
     not-full : (e : Effect) → isFull v e ≡ false → marksAfter v e + due (fieldsOf e .supply) ≤ 24
     not-full e f = ltb-false 24 (marksAfter v e + due (fieldsOf e .supply)) f
 
     -- a pending request comes or goes
-    asks : v .fields .enrolled ≡ true → (q : Pending) → PendingAhead t q →
-        marksAfter v (keep (withPending (v .fields) q)) + due (withPending (v .fields) q .supply) ≤ 24
-        → Good t v (keep (withPending (v .fields) q)) [] []
-    asks y q a f =
-        unread t v h (keep (withPending (v .fields) q)) [] refl refl (record { kind = h .ahead .kind; pending = a }) refl (refl, refl) f
-        (not-blank y)
+    asks : v .fields .enrolled ≡ true → (q : Pending) → PendingAhead t q → (e : Effect) → fieldsOf e ≡ withPending (v .fields) q
+        → names e ≡ false → v .marks + due (withPending (v .fields) q .supply) ≤ 24 → Good t v e [] []
+    asks y q a e fs n f =
+        unread t v h e [] (rw fs refl) (rw fs refl) (rw fs (record { kind = h .ahead .kind; pending = a })) (rw (fs, n) refl) (rw (fs, n) (refl, refl))
+        (rw (fs, n) f) (rw fs (not-blank y))
 
     -- a reading on day d
     reads : v .fields .enrolled ≡ true → (d x z : ℕ) (g : Fields) → g .reading .day ≡ d → g .enrolled ≡ v .fields .enrolled
         → g .supply ≡ v .fields .supply → Wheels (g .meter) → outOfTime t d (v .fields) ≡ false
-        → notMark z ≡ false → indexDisagrees (v .fields) x z ≡ false → Good t v (keep g) (spanTo (v .fields) d x z ∷ []) []
+        → notMark z ≡ false → indexDisagrees (v .fields) x z ≡ false → Good t v (Effect.Read (spanTo (v .fields) d x z) g) (spanTo (v .fields) d x z ∷ []) []
     unfolding registered spanTo
     reads y d x z g r n s w o m i =
         let c = neither (leb d (v .fields .reading .day)) (ltb t d) o in
@@ -141,7 +142,7 @@ module _ (S : Settings) (A : 0 < S .a) (B : 0 < S .b) (u : List Bool) (t : ℕ) 
           hi = omega arith;
           made = ((refl, lt, omega arith), tt);
           once = not-blank y;
-          most = omega (arith, span-most (v .fields) d x z (h .wheels) m i);
+          most = omega (arith, span-most (v .fields) d x z m i);
           wheels = w;
           ahead = rw s (h .ahead);
           keeps = ap (λ (x : Supply). x .holder) s;
@@ -150,12 +151,13 @@ module _ (S : Settings) (A : 0 < S .a) (B : 0 < S .b) (u : List Bool) (t : ℕ) 
           blank = not-blank (n ∙ y);
         }
 
-    at-good : (p : ℕ) (a : PointAction) → outOfRangeAt a ≡ false → isAccepted (firstOf (rowsAt S u t p a v) (acceptedAt t a)) ≡ true
-        → Good t v (effectOf S t a (v .fields)) (spansOf t a (v .fields)) (cond (enrolsAt a) (t ∷ []) [])
-    unfolding effectOf spansOf rowsAt outOfRangeAt enrolsAt registered effectiveDay
-    at-good p (PointAction.Enrol b a x) bad ok =
-        let k = pass _ _ _ _ (pass _ _ _ _ ok .1) in
-        let w = neither (outside 1 8 b) (outside 0 3 a) bad in
+    at-good : (p : ℕ) (a : PointAction) (b : Answer) → isAccepted (firstOf (rowsAt S day u t p a v) b) ≡ true
+        → Good t v (effectOf S t a (v .fields)) (spansIn (effectOf S t a (v .fields))) (enrolledBy t (effectOf S t a (v .fields)))
+    unfolding effectOf rowsAt registered effectiveDay
+    at-good p (PointAction.Enrol b a x) _ ok =
+        let c = pass _ _ _ _ ok in
+        let k = pass _ _ _ _ (pass _ _ _ _ (dated day t _ _ (c .1) .rest) .1) in
+        let w = neither (outside 1 8 b) (outside 0 3 a) (c .0) in
         let z = h .blank (k .0) in
         record {
           lo = h .past;
@@ -167,42 +169,44 @@ module _ (S : Settings) (A : 0 < S .a) (B : 0 < S .b) (u : List Bool) (t : ℕ) 
           ahead = record { kind = tt; pending = tt };
           keeps = tt;
           enrols = subst (λ (n : Bool). Names t n (fields true unsupplied 0 0 (meter b a) (reading t x)) (t ∷ [])) (sym (k .0)) (refl, refl, refl);
-          fit = omega (arith, z .0, marks-most v (name (v .fields)));
+          fit = omega (arith, z .0, marks-most v (Effect.Name (v .fields)));
           blank = not-blank refl;
         }
-    at-good p (PointAction.IntoService s k) bad ok =
-        let b = pass _ _ _ _ (pass _ _ _ _ ok .1) in
+    at-good p (PointAction.IntoService s k) _ ok =
+        let b = pass _ _ _ _ (pass _ _ _ _ (dated day t _ _ (pass _ _ _ _ ok .1) .rest) .1) in
         naming t v h (is-enrolled p v (b .0)) _ refl refl refl (record { kind = tt; pending = h .ahead .pending })
         (not-full (effectOf S t (PointAction.IntoService s k) (v .fields)) (pass _ _ _ _ (pass _ _ _ _ (b .1) .1) .0))
-    at-good p (PointAction.DefaultSupply k) bad ok =
-        let b = pass _ _ _ _ ok in
+    at-good p (PointAction.DefaultSupply k) _ ok =
+        let b = pass _ _ _ _ (dated-also day t _ _ _ (pass _ _ _ _ ok .1) .1 .rest) in
         naming t v h (is-enrolled p v (b .0)) _ refl refl refl (record { kind = omega arith; pending = h .ahead .pending })
         (not-full (effectOf S t (PointAction.DefaultSupply k) (v .fields)) (pass _ _ _ _ (pass _ _ _ _ (b .1) .1) .0))
-    at-good p (PointAction.Request s k r) bad ok =
-        let b = pass _ _ _ _ (pass _ _ _ _ ok .1) in
+    at-good p (PointAction.Request s k r) _ ok =
+        let b = pass _ _ _ _ (pass _ _ _ _ (dated-also day t _ _ _ (pass _ _ _ _ ok .1) .1 .rest) .1) in
         let f = pass _ _ _ _ (pass _ _ _ _ (pass _ _ _ _ (pass _ _ _ _ (pass _ _ _ _ (b .1) .1) .1) .1) .1) in
-        asks (is-enrolled p v (b .0)) (Pending.Request s (max r (t + notice))) (omega arith)
-        (not-full (effectOf S t (PointAction.Request s k r) (v .fields)) (pass _ _ _ _ (pass-near t (v .fields .supply .kind) _ _ (f .1)) .0))
-    at-good p (PointAction.Cancel s) bad ok =
-        asks (is-enrolled p v (pass _ _ _ _ ok .0)) Pending.Nothing tt (omega (arith, h .fit))
-    at-good p (PointAction.Reading d x z) bad ok =
-        let k = pass _ _ _ _ ok in
+        asks (is-enrolled p v (b .0)) (Pending.Request s (max r (t + notice S t))) (omega arith) _ refl refl
+        (not-full (effectOf S t (PointAction.Request s k r) (v .fields)) (pass _ _ _ _ (pass-near S t (v .fields .supply .kind) _ _ (f .1)) .0))
+    at-good p (PointAction.Cancel s) _ ok =
+        asks (is-enrolled p v (pass _ _ _ _ (dated day t _ _ (pass _ _ _ _ ok .1) .rest) .0)) Pending.Nothing tt _ refl refl (omega (arith, h .fit))
+    at-good p (PointAction.Reading d x z) _ ok =
+        let c = pass _ _ _ _ ok in
+        let k = pass _ _ _ _ (dated-also day t _ _ _ (c .1) .1 .rest) in
         let l = pass _ _ _ _ (k .1) in
-        reads (is-enrolled p v (k .0)) d x z _ refl refl refl (h .wheels) (l .0) bad (pass _ _ _ _ (l .1) .0)
-    at-good p (PointAction.MeterChange x z b a y) bad ok =
-        let k = pass _ _ _ _ ok in
+        reads (is-enrolled p v (k .0)) d x z _ refl refl refl (h .wheels) (l .0) (c .0) (pass _ _ _ _ (l .1) .0)
+    at-good p (PointAction.MeterChange x z b a y) _ ok =
+        let c = pass _ _ _ _ ok in
+        let k = pass _ _ _ _ (dated day t _ _ (c .1) .rest) in
         let l = pass _ _ _ _ (k .1) in
-        let n = neither (notMark z) (notWheels b a) bad in
+        let n = neither (notMark z) (notWheels b a) (c .0) in
         let w = neither (outside 1 8 b) (outside 0 3 a) (n .1) in
         let i = neither (indexDisagrees (v .fields) x z) _ (pass _ _ _ _ (l .1) .0) in
         reads (is-enrolled p v (k .0)) t x z _ refl refl refl
         (ltb-false 8 b (neither (ltb b 1) (ltb 8 b) (w .0) .1), ltb-false 3 a (neither (ltb a 0) (ltb 3 a) (w .1) .1))
         (l .0) (n .0) (i .0)
-    at-good p PointAction.OutOfService bad ok =
-        let b = pass _ _ _ _ ok in
+    at-good p PointAction.OutOfService _ ok =
+        let b = pass _ _ _ _ (dated day t _ _ ok .rest) in
         naming t v h (is-enrolled p v (b .0)) _ refl refl refl (record { kind = tt; pending = tt })
         (not-full (effectOf S t PointAction.OutOfService (v .fields)) (pass _ _ _ _ (pass _ _ _ _ (b .1) .1) .0))
-    at-good p (PointAction.Suspend m) bad ok = unchanged t v h _ refl refl refl refl
+    at-good p (PointAction.Suspend m) _ ok = unchanged t v h _ refl refl refl refl
 
     -- a failure, at any point
     holder-enrolled : (s : ℕ) → 0 < s → v .fields .supply .holder ≡ s → v .fields .enrolled ≡ true
@@ -213,24 +217,25 @@ module _ (S : Settings) (A : 0 < S .a) (B : 0 < S .b) (u : List Bool) (t : ℕ) 
         go false z = let k : v .fields .supply .holder ≡ 0 = ap (λ (x : Supply). x .holder) (h .blank z .1) in absurd (omega arith)
 
     failed-good : (s : ℕ) → 0 < s → (touches s (v .fields) && isFull v (failed S t s (v .fields))) ≡ false
-        → Good t v (failed S t s (v .fields)) [] []
+        → Good t v (failed S t s (v .fields)) (spansIn (failed S t s (v .fields))) (enrolledBy t (failed S t s (v .fields)))
     unfolding failed
     failed-good s lo f = go (eqb (v .fields .supply .holder) s) refl f
       where
         go : (b : Bool) → eqb (v .fields .supply .holder) s ≡ b
             → ((b || isBy s (v .fields .supply .pending)) && isFull v (cond b
-            (name (withSupply (v .fields) (supply (S .resort) (SupplyKind.LastResort (t + S .b)) (dropped s (v .fields .supply .pending)))))
-            (keep (withPending (v .fields) (dropped s (v .fields .supply .pending)))))) ≡ false
-            → Good t v (cond b
-            (name (withSupply (v .fields) (supply (S .resort) (SupplyKind.LastResort (t + S .b)) (dropped s (v .fields .supply .pending)))))
-            (keep (withPending (v .fields) (dropped s (v .fields .supply .pending))))) [] []
+            (Effect.Name (withSupply (v .fields) (supply (S .resort) (SupplyKind.LastResort (t + S .b)) (dropped s (v .fields .supply .pending)))))
+            (Effect.Keep (withPending (v .fields) (dropped s (v .fields .supply .pending)))))) ≡ false
+            → let e = cond b
+            (Effect.Name (withSupply (v .fields) (supply (S .resort) (SupplyKind.LastResort (t + S .b)) (dropped s (v .fields .supply .pending)))))
+            (Effect.Keep (withPending (v .fields) (dropped s (v .fields .supply .pending)))) in
+            Good t v e (spansIn e) (enrolledBy t e)
         go true e k =
             naming t v h (holder-enrolled s lo (eqb-true _ _ e))
             (withSupply (v .fields) (supply (S .resort) (SupplyKind.LastResort (t + S .b)) (dropped s (v .fields .supply .pending)))) refl refl refl
             (record { kind = omega arith; pending = pending-dropped t s (v .fields .supply .pending) (h .ahead .pending) })
-            (not-full (name (withSupply (v .fields) (supply (S .resort) (SupplyKind.LastResort (t + S .b)) (dropped s (v .fields .supply .pending))))) k)
+            (not-full (Effect.Name (withSupply (v .fields) (supply (S .resort) (SupplyKind.LastResort (t + S .b)) (dropped s (v .fields .supply .pending))))) k)
         go false e k =
-            unread t v h (keep (withPending (v .fields) (dropped s (v .fields .supply .pending)))) [] refl refl
+            unread t v h (Effect.Keep (withPending (v .fields) (dropped s (v .fields .supply .pending)))) [] refl refl
             (record { kind = h .ahead .kind; pending = pending-dropped t s (v .fields .supply .pending) (h .ahead .pending) }) refl (refl, refl)
             (omega (arith, h .fit, due-dropped s (v .fields .supply .pending)))
             (λ z. (h .blank z .0, ap (λ (x : Supply). supply (x .holder) (x .kind) (dropped s (x .pending))) (h .blank z .1)))
@@ -245,20 +250,18 @@ module _ (S : Settings) (A : 0 < S .a) (B : 0 < S .b) (u : List Bool) (t : ℕ) 
       go true e w ih = rw (← (eqb-true p q e)) (w .0)
       go false e w ih = let z : p ≡ q → ⊥ = eqb-false p q e in ih (w .1) q (omega arith) (omega arith)
 
-  pub call-good : (v : ℕ → View) (p : ℕ) → 1 ≤ p → p ≤ 32 → Fine t (v p) → (c : Action) → outOfRange c ≡ false
-      → isAccepted (firstOf (rows S u t c v) (accepted t c)) ≡ true
-      → Good t (v p) (effect S t c p (v p .fields)) (spans t c p (v p .fields)) (cond (enrols c p) (t ∷ []) [])
-  unfolding effect spans rows accepted outOfRange enrols
-  call-good v p lo hi h (Action.Contract s) bad ok = unchanged t (v p) h (v p .fields) refl refl refl refl
-  call-good v p lo hi h (Action.Failure s) bad ok =
-      failed-good (v p) h s (ltb-false s 1 (neither (ltb s 1) (ltb 99 s) bad .0))
-      (any-none 32 1 (λ q. touches s (v q .fields) && isFull (v q) (failed S t s (v q .fields)))
-      (pass _ _ _ _ (pass _ _ _ _ (pass _ _ _ _ ok .1) .1) .0) p lo (omega arith))
-  call-good v p lo hi h (Action.At q a) bad ok = go (eqb p q) refl
+  pub call-good : (v : ℕ → View) (p : ℕ) → 1 ≤ p → p ≤ 32 → Fine t (v p) → (c : Action) → isAccepted (answerTo S day u t c v) ≡ true
+      → Good t (v p) (effect S t c p (v p .fields)) (spansIn (effect S t c p (v p .fields))) (enrolledBy t (effect S t c p (v p .fields)))
+  unfolding effect rows answerTo
+  call-good v p lo hi h (Action.Contract s) ok = unchanged t (v p) h (v p .fields) refl refl refl refl
+  call-good v p lo hi h (Action.Failure s) ok =
+      let k = pass _ _ _ _ ok in
+      let l = pass _ _ _ _ (pass _ _ _ _ (dated-also day t _ _ _ (k .1) .1 .rest) .1) in
+      failed-good (v p) h s (ltb-false s 1 (neither (ltb s 1) (ltb 99 s) (k .0) .0))
+      (any-none 32 1 (λ q. touches s (v q .fields) && isFull (v q) (failed S t s (v q .fields))) (pass _ _ _ _ (l .1) .0) p lo (omega arith))
+  call-good v p lo hi h (Action.At q a) ok = go (eqb p q) refl
     where
-      go : (b : Bool) → eqb p q ≡ b
-          → Good t (v p) (cond b (effectOf S t a (v p .fields)) (keep (v p .fields))) (cond b (spansOf t a (v p .fields)) [])
-          (cond (cond b (enrolsAt a) false) (t ∷ []) [])
-      go true e = at-good (v p) h q a bad (rw (eqb-true p q e) ok)
+      go : (b : Bool) → eqb p q ≡ b → let e = cond b (effectOf S t a (v p .fields)) (Effect.Keep (v p .fields)) in Good t (v p) e (spansIn e) (enrolledBy t e)
+      go true e = at-good (v p) h q a (accepted S t (Action.At q a) v) (rw (eqb-true p q e) ok)
       go false e = unchanged t (v p) h (v p .fields) refl refl refl refl
-  call-good v p lo hi h Action.Day bad ok = unchanged t (v p) h (v p .fields) refl refl refl refl
+  call-good v p lo hi h Action.Day ok = unchanged t (v p) h (v p .fields) refl refl refl refl

@@ -20,12 +20,7 @@ use native.Mathlib.Nat.{
 }
 use borrow.Author.Tests.{lt-ltb, le-ltb, le-leb, lt-leb}
 use Rattle.rules.specs.declared.{Span.Span}
-use Rattle.rules.specs.Volumes.{upTo, share, dayVolume, volume, registered}
-use Rattle.rules.specs.Register.{sharesBefore}
-
--- what is booked before gas day d
-abbrev pub given : Span → ℕ → ℕ
-given s d = sharesBefore s d * s .unit
+use Rattle.rules.specs.Volumes.{upTo, share, given, dayVolume, volume, registered}
 
 abbrev pub All : (Span → Type 0) → List Span → Type 0
 All P [] = Unit {0}
@@ -55,21 +50,21 @@ module _ (s : Span) (h : s .from < s .to) where
   upTo-all = mul-div-left (s .advance) (omega arith)
 
   pub given-before : (d : ℕ) → d ≤ s .from → given s d ≡ 0
-  unfolding sharesBefore
+  unfolding given
   given-before d p = let k : min (d - s .from) (s .to - s .from) ≡ 0 = omega arith in rw (k, upTo-none, zero-mul)
 
   pub given-after : (d : ℕ) → s .to ≤ d → given s d ≡ s .advance * s .unit
-  unfolding sharesBefore
+  unfolding given
   given-after d p = let k : min (d - s .from) (s .to - s .from) ≡ s .to - s .from = omega arith in rw (k, upTo-all)
 
   pub given-le : (d : ℕ) → given s d ≤ s .advance * s .unit
-  unfolding sharesBefore
+  unfolding given
   given-le d =
       let k : min (d - s .from) (s .to - s .from) ≤ s .to - s .from = omega arith in
       mul-le-mul-right (s .unit) (rw upTo-all at (upTo-up k))
 
   given-inside : (d : ℕ) → s .from ≤ d → d < s .to → given s (suc d) ≡ given s d + dayVolume s d
-  unfolding sharesBefore dayVolume share
+  unfolding given dayVolume share
   given-inside d p q =
       let k : min (suc d - s .from) (s .to - s .from) ≡ suc (d - s .from) = omega arith in
       let l : min (d - s .from) (s .to - s .from) ≡ d - s .from = omega arith in

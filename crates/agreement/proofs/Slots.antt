@@ -14,7 +14,7 @@ use lib.ListN.{length, getD, set, take, length-set}
 use lib.Seq.{getD-set-same, getD-set-other, set-comm, take-suc, append-snoc}
 use borrow.Author.Tests.{lt-ltb, le-leb, lt-leb}
 use Rattle.rules.specs.declared.{Period.Period, History.History, Span.Span}
-use Rattle.rules.specs.Volumes.{registered}
+use Rattle.rules.specs.Volumes.{given, registered}
 use Rattle.rules.specs.Register.{
   period,
   noPeriod,
@@ -23,13 +23,12 @@ use Rattle.rules.specs.Register.{
   replaced,
   appended,
   named,
-  sharesBefore,
   bookedPeriod,
   bookedSlots,
   booked,
   bookedAll,
 }
-use Rattle.agreement.proofs.Shares.{All, sub-mul, given, given-before, given-after, given-le}
+use Rattle.agreement.proofs.Shares.{All, given-before, given-after, given-le}
 use Rattle.agreement.proofs.Tally.{
   begin,
   beganOn,
@@ -145,29 +144,31 @@ cond-ap : {A B : Type 0} (f : A → B) (b : Bool) (x y : A) → cond b (f x) (f 
 cond-ap f true x y = refl
 cond-ap f false x y = refl
 
-bookedSlots-length : (s : Span) (e n : ℕ) (ps : List Period) → length (bookedSlots s e n ps) ≡ length ps
-unfolding bookedSlots
-bookedSlots-length s e zero ps = refl
-bookedSlots-length s e (suc n) ps =
-    let q : Period = getD ps n noPeriod in
-    let k = length-set ps n (bookedPeriod s e q) in
-    cond-holds (λ (l : List Period). length l ≡ length ps) (leb (q .start) (s .from)) k
-    (bookedSlots-length s (q .start) n (set ps n (bookedPeriod s e q)) ∙ k)
+-- whatever a reading gives
+module _ (c : ℕ → ℕ) (from : ℕ) where
+  bookedSlots-length : (e n : ℕ) (ps : List Period) → length (bookedSlots c from e n ps) ≡ length ps
+  unfolding bookedSlots
+  bookedSlots-length e zero ps = refl
+  bookedSlots-length e (suc n) ps =
+      let q : Period = getD ps n noPeriod in
+      let k = length-set ps n (bookedPeriod c e q) in
+      cond-holds (λ (l : List Period). length l ≡ length ps) (leb (q .start) from) k
+      (bookedSlots-length (q .start) n (set ps n (bookedPeriod c e q)) ∙ k)
 
--- a slot at or past n is left alone
-bookedSlots-set : (s : Span) (e n i : ℕ) (ps : List Period) (p : Period) → n ≤ i
-    → bookedSlots s e n (set ps i p) ≡ set (bookedSlots s e n ps) i p
-unfolding bookedSlots
-bookedSlots-set s e zero i ps p le = refl
-bookedSlots-set s e (suc n) i ps p le =
-    let q : Period = getD ps n noPeriod in
-    let r : List Period = set ps n (bookedPeriod s e q) in
-    rw (
-      getD-set-other ps i n p noPeriod (omega arith),
-      set-comm ps i n p (bookedPeriod s e q) (omega arith),
-      bookedSlots-set s (q .start) n i r p (omega arith),
-    )
-    (cond-ap (λ (l : List Period). set l i p) (leb (q .start) (s .from)) r (bookedSlots s (q .start) n r))
+  -- a slot at or past n is left alone
+  bookedSlots-set : (e n i : ℕ) (ps : List Period) (p : Period) → n ≤ i
+      → bookedSlots c from e n (set ps i p) ≡ set (bookedSlots c from e n ps) i p
+  unfolding bookedSlots
+  bookedSlots-set e zero i ps p le = refl
+  bookedSlots-set e (suc n) i ps p le =
+      let q : Period = getD ps n noPeriod in
+      let r : List Period = set ps n (bookedPeriod c e q) in
+      rw (
+        getD-set-other ps i n p noPeriod (omega arith),
+        set-comm ps i n p (bookedPeriod c e q) (omega arith),
+        bookedSlots-set (q .start) n i r p (omega arith),
+      )
+      (cond-ap (λ (l : List Period). set l i p) (leb (q .start) from) r (bookedSlots c from (q .start) n r))
 
 bookTotal-end : (c : ℕ → ℕ) (e f : ℕ) (ps : List Period) → c e ≡ c f → bookTotal c e ps ≡ bookTotal c f ps
 unfolding bookTotal
@@ -177,12 +178,10 @@ bookTotal-end c e f (p ∷ ps) q = rw q
 module _ (s : Span) (lt : s .from < s .to) where
   -- the wrap never fires
   bookedPeriod-exact : (e : ℕ) (q : Period) → q .volume + s .advance * s .unit < 2 ^ 64
-      → bookedPeriod s e q ≡ period (q .start) (q .holder) (q .volume + (given s e - given s (q .start)))
+      → bookedPeriod (given s) e q ≡ period (q .start) (q .holder) (q .volume + (given s e - given s (q .start)))
   unfolding bookedPeriod
   bookedPeriod-exact e q fits =
-      ap (period (q .start) (q .holder))
-      (rw (sub-mul (sharesBefore s e) (sharesBefore s (q .start)) (s .unit))
-      (mod-eq-of-lt (omega (arith, given-le s lt e))))
+      ap (period (q .start) (q .holder)) (mod-eq-of-lt (omega (arith, given-le s lt e)))
 
   -- periods that end by the reading's first day get nothing
   bookTotal-before : (ps : List Period) (e : ℕ) → e ≤ s .from → Desc e ps → bookTotal (given s) e ps ≡ ps
@@ -194,7 +193,7 @@ module _ (s : Span) (lt : s .from < s .to) where
 
   bookedSlots-recent : (n e f : ℕ) (ps : List Period) → n ≤ length ps → Desc f (recent n ps)
       → sumVolumes (recent n ps) + s .advance * s .unit < 2 ^ 64
-      → recent n (bookedSlots s e n ps) ≡ bookTotal (given s) e (recent n ps)
+      → recent n (bookedSlots (given s) (s .from) e n ps) ≡ bookTotal (given s) e (recent n ps)
   unfolding recent bookedSlots bookTotal sumVolumes
   bookedSlots-recent zero e f ps le r fits = refl
   bookedSlots-recent (suc n) e f ps le r fits =
@@ -205,8 +204,8 @@ module _ (s : Span) (lt : s .from < s .to) where
       (elim (decLe (q .start) (s .from)) [
         | yes k ↦ rw (le-leb _ _ k)
             (recent-push n ps p le ∙ ap onto (sym (bookTotal-before (recent n ps) (q .start) k (r .1))))
-        | no k ↦ rw (lt-leb (q .start) (s .from) (omega arith), bookedSlots-set s (q .start) n n ps p (omega arith))
-            (recent-push n (bookedSlots s (q .start) n ps) p (rw (bookedSlots-length s (q .start) n ps) le)
+        | no k ↦ rw (lt-leb (q .start) (s .from) (omega arith), bookedSlots-set (given s) (s .from) (q .start) n n ps p (omega arith))
+            (recent-push n (bookedSlots (given s) (s .from) (q .start) n ps) p (rw (bookedSlots-length (given s) (s .from) (q .start) n ps) le)
             ∙ ap onto (bookedSlots-recent n (q .start) (q .start) ps (omega arith) (r .1) (omega arith)))
       ])
 
@@ -222,7 +221,7 @@ booked-listed s e h z lt le r fits =
 
 pub booked-sized : (s : Span) (h : History) → Sized h → Sized (booked s h)
 unfolding booked
-booked-sized s h z = record { slots = bookedSlots-length s (s .to) _ (h .periods) ∙ z .slots; some = z .some }
+booked-sized s h z = record { slots = bookedSlots-length (given s) (s .from) (s .to) _ (h .periods) ∙ z .slots; some = z .some }
 
 pub bookedAll-listed : (l : List Span) (e : ℕ) (h : History) → Sized h
     → All (λ (s : Span). (s .from < s .to) × (s .to ≤ e)) l → Desc e (listed h)

@@ -1,7 +1,7 @@
 -- One call on both sides: the same answer, and the register stays beside the day book.
 use mathlib.Core.Path.{_≡_, refl, sym, _∙_, ap, subst}
 use mathlib.Core.Bool.{Bool, true, false, cond}
-use mathlib.Core.List.{List, [], _∷_, _++_, append-nil, map}
+use mathlib.Core.List.{List, [], _++_, append-nil, map}
 use Prim.Native.Nat.{ℕ, _-_, _≤_, _<_}
 use native.Mathlib.Omega.{arith}
 use lib.Dec.{eqb, ltb}
@@ -10,17 +10,15 @@ use lib.Seq.{getD-set-same, getD-set-other}
 use borrow.Author.Tests.{eqb-true, eqb-false, ltb-false}
 use Rattle.dates.specs.Dates.{lastDay}
 use Rattle.rules.specs.declared.{Fields.Fields, Point.Point, Register.Register, Settings.Settings, Span.Span}
-use Rattle.rules.specs.declared.{Call.Call, Action.Action}
-use Rattle.rules.specs.Effects.{Effect, keep, effectOf, effect}
-use Rattle.rules.specs.Volumes.{spansOf, spans}
+use Rattle.rules.specs.declared.{Call.Call, Action.Action, Effect.Effect}
+use Rattle.rules.specs.Effects.{spansIn, effectOf, effect}
 use Rattle.rules.specs.Answers.{isAccepted}
 use Rattle.rules.specs.declared.{View.View}
-use Rattle.rules.specs.Rejections.{firstOf, rows, accepted, shown, answer}
+use Rattle.rules.specs.Rejections.{answerTo, shown, answer}
 use Rattle.rules.specs.Register
 use Rattle.rules.specs.Register.{
   entered,
   catchUp,
-  bookedAll,
   view,
   register,
   pointAt,
@@ -32,19 +30,17 @@ use Rattle.rules.specs.Register.{
   applied,
 }
 use Rattle.rules.specs.DayBook
-use Rattle.rules.specs.DayBook.{Book, Page, upToDay, look, signed, written, next, enrols}
+use Rattle.rules.specs.DayBook.{Book, Page, upToDay, look, signed, written, next, does}
 use Rattle.agreement.proofs.Good.{Good}
 use Rattle.rules.proofs.Views.{
   shown-in,
   answer-ext,
   answer-off,
   answer-back,
-  Passed,
   passed,
-  names-point,
+  accepted-point,
 }
-use Rattle.rules.proofs.Accept.{neither}
-use Rattle.agreement.proofs.Kept.{call-good}
+use Rattle.agreement.proofs.Kept.{enrolledBy, call-good}
 use Rattle.agreement.proofs.Tied.{Tied, views-agree, effect-tied}
 use Rattle.agreement.proofs.Days.{gone-on, point-map, caught}
 
@@ -59,10 +55,10 @@ pub record Agree (l : ℕ → List Span) (n : ℕ → List ℕ) (b : Book) (r : 
   pub points : (p : ℕ) → 1 ≤ p → p ≤ 32 → Tied (b .day) (l p) (n p) (b .page p) (pointAt p (r .points))
 
 -- The register after an accepted call, point by point.
-abbrev does : Settings → ℕ → Action → ℕ → Point → Point
-does S t c p g = entered t (effect S t c p (g .fields)) (bookedAll (spans t c p (g .fields)) (g .history))
+abbrev did : Settings → ℕ → Action → ℕ → Point → Point
+did S t c p g = entered t (effect S t c p (g .fields)) (g .history)
 
-module _ (r : Register) (count : length (r .points) ≡ 32) (t : ℕ) (u : List Bool) (v : ℕ → View) where
+module _ (r : Register) (count : length (r .points) ≡ 32) (t day : ℕ) (u : List Bool) (v : ℕ → View) where
   done-count : (c : Action) → length (done t c r .points) ≡ 32
   unfolding done
   done-count (Action.Contract s) = count
@@ -70,25 +66,23 @@ module _ (r : Register) (count : length (r .points) ≡ 32) (t : ℕ) (u : List 
   done-count (Action.At q a) = length-set (r .points) (q - 1) _ ∙ count
   done-count Action.Day = count
 
-  done-points : (c : Action) → isAccepted (firstOf (rows (r .settings) u t c v) (accepted t c)) ≡ true → (p : ℕ) → 1 ≤ p → p ≤ 32
-      → pointAt p (done t c r .points) ≡ does (r .settings) t c p (pointAt p (r .points))
-  unfolding done effect spans failedPoint acted rows accepted
+  done-points : (c : Action) → isAccepted (answerTo (r .settings) day u t c v) ≡ true → (p : ℕ) → 1 ≤ p → p ≤ 32
+      → pointAt p (done t c r .points) ≡ did (r .settings) t c p (pointAt p (r .points))
+  unfolding done effect failedPoint acted
   done-points (Action.Contract s) ok p lo hi = refl
   done-points (Action.Failure s) ok p lo hi = point-map (failedPoint (r .settings) t s) (r .points) p lo (omega arith)
   done-points (Action.At q a) ok p lo hi = go (eqb p q) refl
     where
       at : (1 ≤ q) × (q ≤ 32)
-      at =
-          let k = neither (ltb q 1) (ltb 32 q) (names-point (r .settings) u t q a (v q) ok) in
-          (ltb-false q 1 (k .0), ltb-false 32 q (k .1))
+      at = let k = accepted-point (r .settings) day u t q a v ok in (k .1, k .2)
 
       new : Point
       new = acted (r .settings) t a (pointAt q (r .points))
 
       go : (b : Bool) → eqb p q ≡ b
           → pointAt p (set (r .points) (q - 1) new)
-          ≡ entered t (cond b (effectOf (r .settings) t a (pointAt p (r .points) .fields)) (keep (pointAt p (r .points) .fields)))
-          (bookedAll (cond b (spansOf t a (pointAt p (r .points) .fields)) []) (pointAt p (r .points) .history))
+          ≡ entered t (cond b (effectOf (r .settings) t a (pointAt p (r .points) .fields)) (Effect.Keep (pointAt p (r .points) .fields)))
+          (pointAt p (r .points) .history)
       go true e =
           let w : p ≡ q = eqb-true p q e in
           rw w (getD-set-same (r .points) (q - 1) new noPoint (omega (arith, at .0, at .1)))
@@ -135,18 +129,18 @@ module _ (c : Call) (l : ℕ → List Span) (n : ℕ → List ℕ) (b : Book) (r
       go : (x y : Bool) → ltb lastDay t ≡ x → ltb t (b .day) ≡ y
           → answer (b .settings) (b .day) (b .contracts) c (λ p. look (upToDay t b .page p))
           ≡ answer (b .settings) (b .day) (b .contracts) c (λ p. view t (pointAt p (advanced t r .points)))
-      go true y a d = answer-off (b .settings) (b .day) (b .contracts) t (c .action) _ _ a
-      go false true a d = answer-back (b .settings) (b .day) (b .contracts) t (c .action) _ _ d
+      go true y a d = answer-off (b .settings) (b .day) (b .contracts) t _ _ (c .action) a
+      go false true a d = answer-back (b .settings) (b .day) (b .contracts) t _ _ (c .action) d
       go false false a d =
           answer-ext (b .settings) (b .day) (b .contracts) c _ _
           (λ p lo hi. views-agree t (l p) (n p) _ _ (now (ltb-false t (b .day) d) (ltb-false lastDay t a) p lo hi .point))
 
   -- the readings and the enrolments of this call at point p
   abbrev pub readNow : ℕ → List Span
-  readNow p = cond (isAccepted (DayBook.says b c)) (spans t (c .action) p (upToDay t b .page p .fields)) []
+  readNow p = cond (isAccepted (DayBook.says b c)) (spansIn (does b c p)) []
 
   abbrev pub enrolledNow : ℕ → List ℕ
-  enrolledNow p = cond (isAccepted (DayBook.says b c)) (cond (enrols (c .action) p) (t ∷ []) []) []
+  enrolledNow p = cond (isAccepted (DayBook.says b c)) (enrolledBy t (does b c p)) []
 
   abbrev v : ℕ → View
   v p = look (upToDay t b .page p)
@@ -155,34 +149,29 @@ module _ (c : Call) (l : ℕ → List Span) (n : ℕ → List ℕ) (b : Book) (r
   point p = pointAt p (advanced t r .points)
 
   -- an accepted call, at point p
-  module _ (w : Passed (b .settings) (b .day) (b .contracts) t (c .action) (shown v)) (p : ℕ) (lo : 1 ≤ p) (hi : p ≤ 32) where
+  module _ (ok : isAccepted (answerTo (b .settings) (b .day) (b .contracts) t (c .action) (shown v)) ≡ true) (p : ℕ) (lo : 1 ≤ p) (hi : p ≤ 32) where
     abbrev page : Page
     page = upToDay t b .page p
 
-    abbrev sp : List Span
-    sp = spans t (c .action) p (page .fields)
-
-    abbrev j : List ℕ
-    j = cond (enrols (c .action) p) (t ∷ []) []
-
     abbrev e : Effect
-    e = effect (b .settings) t (c .action) p (page .fields)
+    e = does b c p
 
-    turned : Tied t (l p ++ sp) (n p ++ j) (written e (page .cells)) (does (b .settings) t (c .action) p (point p))
+    turned : Tied t (l p ++ spansIn e) (n p ++ enrolledBy t e) (written e (page .cells)) (did (b .settings) t (c .action) p (point p))
     turned =
-        let i = now (w .on) (w .calendar) p lo hi in
+        let w = passed (b .settings) (b .day) (b .contracts) t (c .action) (shown v) ok in
+        let i = now (w .1) (w .0) p lo hi in
         let q : shown v p ≡ v p = shown-in v p lo hi in
-        let k : Good t (v p) e sp j
-        = subst (λ (x : View). Good t x (effect (b .settings) t (c .action) p (x .fields)) (spans t (c .action) p (x .fields)) j) q
-        (call-good (b .settings) (h .lasting .0) (h .lasting .1) (b .contracts) t (shown v) p lo hi (rw q (i .fine)) (c .action)
-        (w .ranges) (w .rest)) in
+        let k : Good t (v p) e (spansIn e) (enrolledBy t e)
+        = subst
+        (λ (x : View). let f = effect (b .settings) t (c .action) p (x .fields) in Good t x f (spansIn f) (enrolledBy t f)) q
+        (call-good (b .settings) (h .lasting .0) (h .lasting .1) (b .day) (b .contracts) t (shown v) p lo hi (rw q (i .fine)) (c .action) ok) in
         subst
-        (λ (x : Fields). Tied t (l p ++ sp) (n p ++ j) (written e (page .cells))
-        (entered t (effect (b .settings) t (c .action) p x) (bookedAll (spans t (c .action) p x) (point p .history))))
-        (i .point .same) (effect-tied t (l p) (n p) page (point p) (i .point) e sp j k (w .calendar))
+        (λ (x : Fields). Tied t (l p ++ spansIn e) (n p ++ enrolledBy t e) (written e (page .cells))
+        (entered t (effect (b .settings) t (c .action) p x) (point p .history)))
+        (i .point .same) (effect-tied t (l p) (n p) page (point p) (i .point) e (enrolledBy t e) k (w .0))
 
   accepted-agree : isAccepted (DayBook.says b c) ≡ true
-      → Agree (λ p. l p ++ spans t (c .action) p (upToDay t b .page p .fields)) (λ p. n p ++ cond (enrols (c .action) p) (t ∷ []) [])
+      → Agree (λ p. l p ++ spansIn (does b c p)) (λ p. n p ++ enrolledBy t (does b c p))
       (DayBook.entered c (upToDay t b)) (done t (c .action) (advanced t r))
   unfolding DayBook.says answer
   accepted-agree ok =
@@ -190,17 +179,17 @@ module _ (c : Call) (l : ℕ → List Span) (n : ℕ → List ℕ) (b : Book) (r
       let a = advanced-rest t r in
       let g = gone-on (t - b .day) b in
       let s : advanced t r .settings ≡ b .settings = a .0 ∙ sym (h .settings) in
-      let d : upToDay t b .day ≡ t = g .day ∙ omega (arith, w .on) in
+      let d : upToDay t b .day ≡ t = g .day ∙ omega (arith, w .1) in
       let m : length (advanced t r .points) ≡ 32 = a .3 ∙ h .count in
-      let k = done-rest (advanced t r) m t (b .contracts) (shown v) (c .action) in
+      let k = done-rest (advanced t r) m t (b .day) (b .contracts) (shown v) (c .action) in
       record {
         settings = g .settings ∙ sym s ∙ sym (k .0);
         day = d ∙ sym (a .1) ∙ sym (k .1);
         contracts = ap (signed (c .action)) (g .contracts ∙ h .contracts ∙ sym (a .2)) ∙ sym (k .2);
-        count = done-count (advanced t r) m t (b .contracts) (shown v) (c .action);
+        count = done-count (advanced t r) m t (b .day) (b .contracts) (shown v) (c .action);
         lasting = rw (g .settings) (h .lasting);
-        points = λ p lo hi. rw (d, g .settings, done-points (advanced t r) m t (b .contracts) (shown v) (c .action) (rw s (w .rest)) p lo hi, s)
-            (turned w p lo hi);
+        points = λ p lo hi. rw (d, g .settings, done-points (advanced t r) m t (b .day) (b .contracts) (shown v) (c .action) (rw s ok) p lo hi, s)
+            (turned ok p lo hi);
       }
 
   pub call-agree : Agree (λ p. l p ++ readNow p) (λ p. n p ++ enrolledNow p) (DayBook.next b c) (applied r c .register)
@@ -208,8 +197,7 @@ module _ (c : Call) (l : ℕ → List Span) (n : ℕ → List ℕ) (b : Book) (r
   call-agree = rw (← says-agree) (go (isAccepted (DayBook.says b c)) refl)
     where
       go : (x : Bool) → isAccepted (DayBook.says b c) ≡ x
-          → Agree (λ p. l p ++ cond x (spans t (c .action) p (upToDay t b .page p .fields)) [])
-          (λ p. n p ++ cond x (cond (enrols (c .action) p) (t ∷ []) []) [])
+          → Agree (λ p. l p ++ cond x (spansIn (does b c p)) []) (λ p. n p ++ cond x (enrolledBy t (does b c p)) [])
           (cond x (DayBook.entered c (upToDay t b)) b) (cond x (done t (c .action) (advanced t r)) r)
       go true ok = accepted-agree ok
       go false ok = record {

@@ -10,10 +10,10 @@ use lib.Dec.{eqb}
 use lib.ListN.{length}
 use borrow.Author.Tests.{eq-eqb, ne-eqb, eqb-true}
 use Rattle.rules.specs.declared.{Period.Period, Span.Span}
-use Rattle.rules.specs.Volumes.{dayVolume, volume, registered}
+use Rattle.rules.specs.Volumes.{given, dayVolume, volume, registered}
 use Rattle.rules.specs.Register.{period}
 use Rattle.rules.specs.DayBook.{Cell, cell, overwritten, countMarks, isMarked}
-use Rattle.agreement.proofs.Shares.{All, given, given-suc, given-before, given-after}
+use Rattle.agreement.proofs.Shares.{All, given-suc, given-before, given-after}
 
 -- A holder is named on day t: a new period, or the newest replaced where it starts on that day.
 abbrev pub begin : ℕ → ℕ → List Period → List Period

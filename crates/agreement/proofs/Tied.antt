@@ -11,10 +11,10 @@ use native.Mathlib.Nat.{add-zero, le-trans}
 use native.Mathlib.Numerals.{add-one}
 use lib.ListN.{length}
 use Rattle.dates.specs.Dates.{lastDay}
-use Rattle.rules.specs.declared.{Fields.Fields, History.History, Period.Period, Point.Point, Span.Span}
-use Rattle.rules.specs.Effects.{Effect, keep, name, fieldsOf}
+use Rattle.rules.specs.declared.{Fields.Fields, History.History, Period.Period, Point.Point, Span.Span, Effect.Effect}
+use Rattle.rules.specs.Effects.{fieldsOf, names, spansIn}
 use Rattle.rules.specs.Volumes.{volume, registered}
-use Rattle.rules.specs.Rejections.{marksAfter}
+use Rattle.rules.specs.Rejections.{due, marksAfter}
 use Rattle.rules.specs.Register.{startsOn, named, entered, bookedAll, view}
 use Rattle.rules.specs.DayBook.{Cell, cell, Page, overwritten, written, countMarks, isMarked, look}
 use Rattle.agreement.proofs.Shares.{All, all-map, volume-append, registered-append, volume-after}
@@ -52,7 +52,7 @@ use Rattle.agreement.proofs.Slots.{
   bookedAll-listed,
   bookedAll-sized,
 }
-use Rattle.agreement.proofs.Good.{perDay, Fine, Names, Good}
+use Rattle.agreement.proofs.Good.{perDay, Fine, Keeps, Names, Enrols, Good}
 
 -- The oldest period starts on the one enrolment day, at or before the last reading.
 pub record Since (n : List ℕ) (ps : List Period) (d : ℕ) : Type 0 where
@@ -97,12 +97,12 @@ marks-overwritten t h (cell d k false ∷ cs) r = sym (add-one _)
 
 -- The marks after an effect are those of the cells after it.
 marks-written : (t : ℕ) (g : Page) (e : Effect) → Live t (g .cells) → countMarks (written e (g .cells) .cells) ≡ marksAfter (look g) e
-marks-written t g (keep f) r = refl
-marks-written t g (name f) r = marks-overwritten t (f .supply .holder) (g .cells) r
-
-pub written-fields : (e : Effect) (cs : List Cell) → written e cs .fields ≡ fieldsOf e
-written-fields (keep f) cs = refl
-written-fields (name f) cs = refl
+marks-written t g e r = go (names e)
+  where
+    go : (n : Bool) → countMarks (cond n (overwritten (fieldsOf e .supply .holder) (g .cells)) (g .cells))
+        ≡ cond n (countMarks (g .cells) + cond (isMarked (g .cells)) 0 1) (countMarks (g .cells))
+    go true = marks-overwritten t (fieldsOf e .supply .holder) (g .cells) r
+    go false = refl
 
 -- The history with an effect's readings booked: l are all readings, d is the day of the last one.
 pub record Booked (t : ℕ) (l : List Span) (d : ℕ) (g : Page) (r : Point) (H : History) : Type 0 where
@@ -163,26 +163,28 @@ module _ (t : ℕ) (l : List Span) (n : List ℕ) (g : Page) (r : Point) (h : To
   fine-after : Fine t (look (written e (g .cells)))
   fine-after =
       let m = marks-written t g e (h .live) in
-      let f = written-fields e (g .cells) in
-      record {
-        past = rw f (k .hi);
-        wheels = rw f (k .wheels);
-        ahead = rw f (k .ahead);
-        fit = rw (m, f) (k .fit);
-        blank = rw (m, f) (k .blank);
-      }
+      record { past = k .hi; wheels = k .wheels; ahead = k .ahead; fit = rw m (k .fit); blank = rw m (k .blank) }
 
-module _ (t : ℕ) (l : List Span) (n : List ℕ) (g : Page) (r : Point) (h : Told t l n g r) (f : Fields) (sp : List Span) (j : List ℕ)
-    (cal : t ≤ lastDay) where
+module _ (t : ℕ) (l : List Span) (n : List ℕ) (g : Page) (r : Point) (h : Told t l n g r) (e : Effect) (j : List ℕ)
+    (k : Good t (look g) e (spansIn e) j) (cal : t ≤ lastDay) where
+  abbrev sp : List Span
+  sp = spansIn e
+
+  abbrev f : Fields
+  f = fieldsOf e
+
   abbrev after : History
   after = bookedAll sp (r .history)
 
+  abbrev b : Booked t (l ++ sp) (f .reading .day) g r after
+  b = booked-effect t l n g r h e sp j k cal
+
   -- an effect that keeps the holder
-  told-keep : Good t (look g) (keep f) sp j → Told t (l ++ sp) (n ++ j) (written (keep f) (g .cells)) (entered t (keep f) after)
-  told-keep k =
-      let b = booked-effect t l n g r h (keep f) sp j k cal in
-      let m : n ++ j ≡ n = ap (λ (x : List ℕ). n ++ x) (k .enrols .1) ∙ append-nil n in
-      let y = sym (k .enrols .0) in
+  told-keep : Keeps (g .fields) false f → Enrols t (g .fields) false f j
+      → Told t (l ++ sp) (n ++ j) (record { fields = f; cells = g .cells }) (record { fields = f; history = after })
+  told-keep keeps enrols =
+      let m : n ++ j ≡ n = ap (λ (x : List ℕ). n ++ x) (enrols .1) ∙ append-nil n in
+      let y = sym (enrols .0) in
       record {
         same = refl;
         sized = b .sized;
@@ -191,7 +193,7 @@ module _ (t : ℕ) (l : List Span) (n : List ℕ) (g : Page) (r : Point) (h : To
         still = b .still;
         sum = b .sum;
         most = b .most;
-        held = rw (k .keeps) (h .held);
+        held = rw keeps (h .held);
         born = record {
           outside = λ z. (m ∙ h .born .outside (y ∙ z) .0, b .none (y ∙ z));
           inside = λ z. let s = h .born .inside (y ∙ z) in
@@ -200,12 +202,9 @@ module _ (t : ℕ) (l : List Span) (n : List ℕ) (g : Page) (r : Point) (h : To
       }
 
   -- an effect that names one
-  module _ (k : Good t (look g) (name f) sp j) where
+  module _ (fit : countMarks (g .cells) + cond (isMarked (g .cells)) 0 1 + due (f .supply) ≤ 24) (enrols : Names t (g .fields .enrolled) f j) where
     abbrev s : ℕ
     s = f .supply .holder
-
-    abbrev b : Booked t (l ++ sp) (f .reading .day) g r after
-    b = booked-effect t l n g r h (name f) sp j k cal
 
     room : after .count + cond (startsOn t after) 0 1 ≤ 24
     room =
@@ -213,10 +212,10 @@ module _ (t : ℕ) (l : List Span) (n : List ℕ) (g : Page) (r : Point) (h : To
         = sym (length-listed after) ∙ ap length (b .told) ∙ tally-length (volume (l ++ sp)) (g .cells) 0 in
         let m : startsOn t after ≡ isMarked (g .cells)
         = starts-listed t after (b .sized) ∙ ap (beganOn t) (b .told) ∙ began (volume (l ++ sp)) t (g .cells) (h .live) in
-        rw (c, m) (omega (arith, k .fit))
+        rw (c, m) (omega arith)
 
-    names : listed (named t s after) ≡ begin t s (listed after)
-    names = named-listed t s after (b .sized) room
+    begins : listed (named t s after) ≡ begin t s (listed after)
+    begins = named-listed t s after (b .sized) room
 
     first-period : (q : List Period) → q ≡ [] → (x : ℕ) → oldest (begin t s q) x ≡ t
     unfolding oldest
@@ -228,14 +227,14 @@ module _ (t : ℕ) (l : List Span) (n : List ℕ) (g : Page) (r : Point) (h : To
         record {
           enrolment = o .enrolment;
           one = ap (λ (x : List ℕ). n ++ x) (m .1) ∙ append-nil n ∙ o .one;
-          start = λ x. ap (λ (q : List Period). oldest q x) names ∙ oldest-begin t s (listed after) x ∙ b .start t ∙ o .start t;
+          start = λ x. ap (λ (q : List Period). oldest q x) begins ∙ oldest-begin t s (listed after) x ∙ b .start t ∙ o .start t;
           read = le-trans (o .read) (k .lo);
         }
     since false z m =
         record {
           enrolment = t;
           one = ap (λ (x : List ℕ). n ++ x) (m .1) ∙ ap (λ (x : List ℕ). x ++ (t ∷ [])) (h .born .outside z .0);
-          start = λ x. ap (λ (q : List Period). oldest q x) names ∙ first-period (listed after) (b .none z) x;
+          start = λ x. ap (λ (q : List Period). oldest q x) begins ∙ first-period (listed after) (b .none z) x;
           read = omega (arith, m .2);
         }
 
@@ -243,27 +242,35 @@ module _ (t : ℕ) (l : List Span) (n : List ℕ) (g : Page) (r : Point) (h : To
     names-enrolled true m = m .0
     names-enrolled false m = m .0
 
-    told-name : Told t (l ++ sp) (n ++ j) (written (name f) (g .cells)) (entered t (name f) after)
+    told-name :
+        Told t (l ++ sp) (n ++ j) (record { fields = f; cells = overwritten s (g .cells) }) (record { fields = f; history = named t s after })
     told-name =
         record {
           same = refl;
           sized = named-sized t s after (b .sized) room;
           live = live-overwritten t s (g .cells) (h .live);
-          told = names ∙ ap (begin t s) (b .told) ∙ begin-tally (volume (l ++ sp)) t s (g .cells) (b .still t (k .hi)) (h .live);
+          told = begins ∙ ap (begin t s) (b .told) ∙ begin-tally (volume (l ++ sp)) t s (g .cells) (b .still t (k .hi)) (h .live);
           still = b .still;
-          sum = ap sumVolumes names ∙ sum-begin t s (listed after) ∙ b .sum;
+          sum = ap sumVolumes begins ∙ sum-begin t s (listed after) ∙ b .sum;
           most = b .most;
           held = held-overwritten s (g .fields .supply .holder) (g .cells) (h .held);
           born = record {
-            outside = λ z. absurd (true≢false (sym (names-enrolled (g .fields .enrolled) (k .enrols)) ∙ z));
-            inside = λ z. since (g .fields .enrolled) refl (k .enrols);
+            outside = λ z. absurd (true≢false (sym (names-enrolled (g .fields .enrolled) enrols) ∙ z));
+            inside = λ z. since (g .fields .enrolled) refl enrols;
           };
         }
 
--- An effect on both sides: the page is written, the readings are booked and the effect is entered.
-pub effect-tied : (t : ℕ) (l : List Span) (n : List ℕ) (g : Page) (r : Point) → Told t l n g r → (e : Effect) (sp : List Span) (j : List ℕ)
-    → Good t (look g) e sp j → t ≤ lastDay → Tied t (l ++ sp) (n ++ j) (written e (g .cells)) (entered t e (bookedAll sp (r .history)))
-effect-tied t l n g r h (keep f) sp j k cal =
-    record { point = told-keep t l n g r h f sp j cal k; fine = fine-after t l n g r h (keep f) sp j k cal }
-effect-tied t l n g r h (name f) sp j k cal =
-    record { point = told-name t l n g r h f sp j cal k; fine = fine-after t l n g r h (name f) sp j k cal }
+  told-effect : (b : Bool) → Keeps (g .fields) b f → Enrols t (g .fields) b f j
+      → cond b (countMarks (g .cells) + cond (isMarked (g .cells)) 0 1) (countMarks (g .cells)) + due (f .supply) ≤ 24
+      → Told t (l ++ sp) (n ++ j) (record { fields = f; cells = cond b (overwritten (f .supply .holder) (g .cells)) (g .cells) })
+      (record { fields = f; history = cond b (named t (f .supply .holder) after) after })
+  told-effect false keeps enrols fit = told-keep keeps enrols
+  told-effect true keeps enrols fit = told-name fit enrols
+
+  -- An effect on both sides: the page is written, and the effect is entered.
+  pub effect-tied : Tied t (l ++ sp) (n ++ j) (written e (g .cells)) (entered t e (r .history))
+  effect-tied =
+      record {
+        point = told-effect (names e) (k .keeps) (k .enrols) (k .fit);
+        fine = fine-after t l n g r h e sp j k cal;
+      }

@@ -60,3 +60,8 @@ between-days t e =
 -- the same of a count n that was taken to day l
 pub between-counted : (n l t e : ℕ) → l ≡ e - 1 → n ≡ workingDays (t + 1) l → n ≡ workingBetween t e
 between-counted n l t e h k = rw h at k ∙ between-days t e
+
+-- Where e is not ahead no day lies between.
+pub between-none : (t e : ℕ) → e ≤ t → workingBetween t e ≡ 0
+unfolding workingBetween workingFrom
+between-none t e h = let k : e - (t + 1) ≡ 0 = omega arith in rw k

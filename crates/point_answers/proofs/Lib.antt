@@ -1,3 +1,2 @@
 pub mod Folded
-pub mod Readings
-pub mod Within
+pub mod Failures

@@ -1,3 +1,1 @@
-pub mod Ranges
-pub mod Rows
-pub mod Ruling
+pub mod Between

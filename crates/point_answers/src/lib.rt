@@ -1,24 +1,48 @@
-// The checks of the calls that name a point: their answers.
-mod ranges;
+// The answers to calls: the rows of the table.
+mod calls;
 mod rows;
 
-use dates::LAST_DAY;
-use point_checks::is_accepted;
-use point_checks::outside;
-use ranges::off_calendar;
-use ranges::out_of_range_at;
-use rows::first_rows;
-use rows::read;
-use rows::ruling_at;
+pub use calls::contract_answer;
+pub use calls::day_answer;
+pub use calls::failure_rows;
+use rows::Situation;
+use rows::cancel;
+use rows::default_supply;
+use rows::enrol;
+use rows::into_service;
+use rows::meter_change;
+use rows::out_of_service;
+use rows::reading;
+use rows::request;
+use rows::suspend;
 use rules::Answer;
-use rules::Fields;
 use rules::PointAction;
 use rules::Settings;
 use rules::View;
 ghost use mathlib.Core.Path.{_≡_};
-ghost use Rattle.point_answers.specs.Ruling.{answerAt, readAnswer};
+ghost use Rattle.point_answers.specs.Between.{answerAt};
 
-// The answer to a call that names point p, of which the checks see v: 22, 20 and 21 first, then the rows of the call.
+fn situation(
+    set: Settings,
+    day: u32,
+    contracts: [bool; 100],
+    today: u64,
+    p: u64,
+    v: View,
+) -> Situation
+    ensures { λ r. ⌜ r ≡ record { settings = set; day = day; contracts = contracts; today = today; point = p; view = v } ⌝ }
+{
+    Situation {
+        settings: set,
+        day: day,
+        contracts: contracts,
+        today: today,
+        point: p,
+        view: v,
+    }
+}
+
+// The answer to a call that names point p, of which the checks see v.
 pub fn answer_at(
     set: Settings,
     day: u32,
@@ -30,30 +54,63 @@ pub fn answer_at(
 ) -> Answer
     ensures { λ r. ⌜ r ≡ answerAt set day contracts today p a v ⌝ }
 {
-    let off = off_calendar(set, today, a);
-    let first = first_rows(out_of_range_at(a), off, today < day as u64);
-    if is_accepted(first) {
-        return ruling_at(set, contracts, today as u32, p, a, v);
+    match a {
+        PointAction::Enrol {
+            before,
+            after,
+            index,
+        } => enrol(
+            situation(set, day, contracts, today, p, v),
+            before,
+            after,
+            index,
+        ),
+        PointAction::IntoService { supplier, key } => into_service(
+            situation(set, day, contracts, today, p, v),
+            supplier,
+            key,
+        ),
+        PointAction::DefaultSupply { key } => default_supply(
+            situation(set, day, contracts, today, p, v),
+            key,
+        ),
+        PointAction::Request {
+            supplier,
+            key,
+            day: r,
+        } => request(
+            situation(set, day, contracts, today, p, v),
+            supplier,
+            key,
+            r,
+        ),
+        PointAction::Cancel { supplier } => cancel(
+            situation(set, day, contracts, today, p, v),
+            supplier,
+        ),
+        PointAction::Reading {
+            day: d,
+            index,
+            zero,
+        } => {
+            let f = v.fields;
+            reading(day, today, p, d, index, zero, f)
+        }
+        PointAction::MeterChange {
+            index,
+            zero,
+            before,
+            after,
+            fresh,
+        } => meter_change(
+            situation(set, day, contracts, today, p, v),
+            index,
+            zero,
+            before,
+            after,
+            fresh,
+        ),
+        PointAction::OutOfService => out_of_service(situation(set, day, contracts, today, p, v)),
+        PointAction::Suspend { mark } => suspend(situation(set, day, contracts, today, p, v), mark),
     }
-    first
-}
-
-// The answer to a reading: it looks at the point's fields alone.
-pub fn read_answer(day: u32, today: u64, p: u64, d: u64, x: u64, z: u64, f: Fields) -> Answer
-    ensures { λ r. ⌜ r ≡ readAnswer day today p d x z f ⌝ }
-{
-    if outside(0, 1, z) {
-        return Answer::Refused(22);
-    }
-    if today > LAST_DAY as u64 {
-        return Answer::Refused(20);
-    }
-    let t = today as u32;
-    if (LAST_DAY as u64) < d {
-        return Answer::Refused(20);
-    }
-    if t < day {
-        return Answer::Refused(21);
-    }
-    read(t, p, d, x, z, f)
 }

@@ -2,10 +2,42 @@
 -- refused before. Number 30: instead of adding to the marks, the code takes from 24.
 use mathlib.Core.Path.{_≡_, refl}
 use mathlib.Core.Bool.{Bool, true, false, not, _&&_, _||_}
-use Prim.Native.Nat.{ℕ, _+_, _-_, _≤_}
+use Prim.Native.Nat.{ℕ, _+_, _-_, _≤_, _<_, min}
+use native.Mathlib.Decide.{decLe, decLt}
 use native.Mathlib.Omega.{arith}
 use lib.Dec.{eqb, leb, ltb}
-use borrow.Author.Tests.{ne-eqb, le-leb, lt-leb, lt-ltb, le-ltb, ltb-true, ltb-false}
+use borrow.Author.Tests.{ne-eqb, le-leb, lt-leb, lt-ltb, le-ltb, leb-true, leb-false, ltb-true, ltb-false}
+
+-- Two comparisons that hold together.
+same-ltb : (a b x y : ℕ) → (a < b → x < y) → (x < y → a < b) → ltb a b ≡ ltb x y
+same-ltb a b x y f g = go (ltb x y) refl
+  where
+    go : (z : Bool) → ltb x y ≡ z → ltb a b ≡ z
+    go true e = lt-ltb a b (g (ltb-true x y e))
+    go false e = le-ltb a b (elim (decLe b a) [
+      | yes k ↦ k
+      | no k ↦ absurd (let w = f (omega arith) in let v = ltb-false x y e in omega arith)
+    ])
+
+same-leb : (a b x y : ℕ) → (a ≤ b → x ≤ y) → (x ≤ y → a ≤ b) → leb a b ≡ leb x y
+same-leb a b x y f g = go (leb x y) refl
+  where
+    go : (z : Bool) → leb x y ≡ z → leb a b ≡ z
+    go true e = le-leb a b (g (leb-true x y e))
+    go false e = lt-leb a b (elim (decLt b a) [
+      | yes k ↦ k
+      | no k ↦ absurd (let w = f (omega arith) in let v = leb-false x y e in omega arith)
+    ])
+
+-- Sums past the calendar's end, and notices, without adding.
+pub past-sum : (t n : ℕ) → t ≤ 73048 → ltb (73048 - t) n ≡ ltb 73048 (t + n)
+past-sum t n h = same-ltb (73048 - t) n 73048 (t + n) (λ w. omega arith) (λ w. omega arith)
+
+pub past-capped : (e m : ℕ) → e ≡ min m 73049 → ltb 73048 e ≡ ltb 73048 m
+past-capped e m h = same-ltb 73048 e 73048 m (λ w. omega arith) (λ w. omega arith)
+
+pub near-less : (d t k n : ℕ) → t < d → k ≡ n → leb (d - t) k ≡ leb d (t + n)
+near-less d t k n h e = same-leb (d - t) k d (t + n) (λ w. omega arith) (λ w. omega arith)
 
 abbrev pub disagree : ℕ → ℕ → ℕ → Bool
 disagree z x last = (eqb z 0 && ltb x last) || (eqb z 1 && not (ltb x last))
@@ -31,11 +63,7 @@ pub at-other : (z x last : ℕ) → (z ≡ 0 → ⊥) → (z ≡ 1 → ⊥) → 
 at-other z x last a b = rw (ne-eqb z 0 a, ne-eqb z 1 b)
 
 room : (most due n all : ℕ) → due ≤ most → all + most ≡ n + due + 24 → ltb (most - due) n ≡ ltb 24 all
-room most due n all h e = go (ltb 24 all) refl
-  where
-    go : (b : Bool) → ltb 24 all ≡ b → ltb (most - due) n ≡ b
-    go true x = let w = ltb-true 24 all x in lt-ltb (most - due) n (omega arith)
-    go false x = let w = ltb-false 24 all x in le-ltb (most - due) n (omega arith)
+room most due n all h e = same-ltb (most - due) n 24 all (λ w. omega arith) (λ w. omega arith)
 
 module _ (n p k dueP dueK : ℕ) (hp : (p ≡ dueP) × (p ≤ 1)) (hk : (k ≡ dueK) × (k ≤ 2)) where
   pub kept-room : ltb (24 - (p + k)) n ≡ ltb 24 (n + (dueP + dueK))

@@ -1,20 +1,23 @@
-// Conditions and numbers that the answers to calls and their effects share.
+// The conditions of the table of rejection codes, for any numbers.
+mod days;
 mod marks;
-mod meter;
 
-use dates::LAST_DAY;
-use dates::three_months_after;
+pub use days::bad_day;
+pub use days::effective_day;
+pub use days::is_past;
+pub use days::near;
+pub use days::out_of_time;
+pub use days::sum_past;
+pub use days::too_late;
 pub use marks::is_full;
 pub use marks::view_of;
-pub use meter::full_turn;
-pub use meter::unit_of;
 use rules::Answer;
+use rules::Pending;
 ghost use mathlib.Core.Path.{_≡_};
 ghost use mathlib.Core.Bool.{not, _&&_, _||_};
 ghost use lib.Dec.{eqb, leb, ltb};
 ghost use Rattle.rules.specs.Answers.{isAccepted};
-ghost use Rattle.rules.specs.Effects.{effectiveDay};
-ghost use Rattle.rules.specs.Rejections.{outside as Rejections·outside, badDay};
+ghost use Rattle.rules.specs.Rejections.{outside as Rejections·outside, notWheels, notPoint, noContract, isPending, isBy};
 
 pub fn is_accepted(a: Answer) -> bool
     ensures { λ r. ⌜ r ≡ isAccepted a ⌝ }
@@ -27,6 +30,15 @@ pub fn is_accepted(a: Answer) -> bool
     }
 }
 
+pub fn or(a: bool, b: bool) -> bool
+    ensures { λ r. ⌜ r ≡ (a || b) ⌝ }
+{
+    if a {
+        return true;
+    }
+    b
+}
+
 // n is not lo to hi.
 pub fn outside(lo: u64, hi: u64, n: u64) -> bool
     ensures { λ r. ⌜ r ≡ Rejections·outside lo hi n ⌝ }
@@ -37,36 +49,49 @@ pub fn outside(lo: u64, hi: u64, n: u64) -> bool
     hi < n
 }
 
-// e: the larger of r and today + 21.
-pub fn effective_day(t: u32, r: u32) -> u64
-    ensures { λ e. ⌜ e ≡ effectiveDay t r ⌝ }
+// 22: the wheels of a meter are out of range.
+pub fn not_wheels(before: u64, after: u64) -> bool
+    ensures { λ r. ⌜ r ≡ notWheels before after ⌝ }
 {
-    let asked = r as u64;
-    let least = t as u64 + 21;
-    if asked < least { least } else { asked }
+    or(outside(1, 8, before), outside(0, 3, after))
 }
 
-// 3: the day asked for is before today or too far off, or e is past the calendar's end.
-pub fn bad_day(t: u32, r: u32) -> bool
-    ensures { λ b. ⌜ b ≡ badDay t r ⌝ }
+// 1: s is not under contract.
+pub fn no_contract(contracts: [bool; 100], s: u64) -> bool
+    ensures { λ r. ⌜ r ≡ noContract contracts s ⌝ }
 {
-    if r < t {
-        return true;
+    if s < 100 {
+        let i = s as usize;
+        return !contracts[i];
     }
-    if three_months_after(t as u64) < r {
-        return true;
-    }
-    (LAST_DAY as u64) < effective_day(t, r)
+    true
 }
 
-// 27: not after the last reading, or past today.
-pub fn out_of_time(t: u32, d: u32, last: u32) -> bool
-    ensures { λ r. ⌜ r ≡ (leb d last || ltb t d) ⌝ }
+// 2: no point, or not enrolled.
+pub fn not_enrolled(p: u64, enrolled: bool) -> bool
+    ensures { λ r. ⌜ r ≡ (notPoint p || not enrolled) ⌝ }
 {
-    if d <= last {
-        return true;
+    or(outside(1, 32, p), !enrolled)
+}
+
+// 5: a request is pending.
+pub fn is_pending(q: Pending) -> bool
+    ensures { λ r. ⌜ r ≡ isPending q ⌝ }
+{
+    match q {
+        Pending::Nothing => false,
+        Pending::Request(_, _) => true,
     }
-    t < d
+}
+
+// 25: the pending request is by s.
+pub fn is_by(s: u64, q: Pending) -> bool
+    ensures { λ r. ⌜ r ≡ isBy s q ⌝ }
+{
+    match q {
+        Pending::Nothing => false,
+        Pending::Request(by, _) => by as u64 == s,
+    }
 }
 
 // 28: the index is no index of the wheels, or it and the zero mark do not go with the last one.

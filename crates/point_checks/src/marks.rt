@@ -1,16 +1,14 @@
 // Number 30: a point's marks and those due.
-use point_periods::marks;
+use point_periods::period_count;
 use rules::Pending;
 use rules::Point;
-use rules::Supply;
 use rules::SupplyKind;
 use rules::View;
 ghost use mathlib.Core.Path.{_≡_};
 ghost use mathlib.Core.Bool.{cond};
-ghost use Prim.Native.Nat.{_≤_};
-ghost use Rattle.rules.specs.Fields.{withSupply};
-ghost use Rattle.rules.specs.Effects.{keep, name};
-ghost use Rattle.rules.specs.Rejections.{pendingDue, kindDue, isFull};
+ghost use Prim.Native.Nat.{_+_, _≤_};
+ghost use lib.Dec.{ltb};
+ghost use Rattle.rules.specs.Rejections.{pendingDue, kindDue};
 ghost use Rattle.rules.specs.Register.{view};
 
 // Marks that are due: pending 1, default 2, last resort 1.
@@ -40,7 +38,7 @@ pub fn view_of(t: u64, g: Point) -> View
 {
     let f = g.fields;
     let h = g.history;
-    let n = marks(h);
+    let n = period_count(h);
     if n == 0 {
         return View {
             fields: f,
@@ -56,12 +54,11 @@ pub fn view_of(t: u64, g: Point) -> View
     }
 }
 
-// 30: the marks, and those due under the supply s after the call, exceed 24. A holder named today marks today's cell.
-pub fn is_full(v: View, names: bool, s: Supply) -> bool
-    ensures { λ r. ⌜ r ≡ isFull v (cond names (name (withSupply (v .fields) s)) (keep (withSupply (v .fields) s))) ⌝ }
+// 30: the marks after the call, and those due under the kind and the request that it leaves, exceed 24. A holder named
+// today marks today's cell.
+pub fn is_full(v: View, names: bool, k: SupplyKind, q: Pending) -> bool
+    ensures { λ r. ⌜ r ≡ ltb 24 (cond names (v .marks + cond (v .marked) 0 1) (v .marks) + (pendingDue q + kindDue k)) ⌝ }
 {
-    let k = s.kind;
-    let q = s.pending;
     let n = v.marks;
     let due = pending_due(q) + kind_due(k);
     if names {

@@ -1,74 +1,138 @@
--- What the checks have seen to where they let a call through: its day and its numbers are in range, and its reading can
--- be booked.
-use mathlib.Core.Path.{_≡_}
-use mathlib.Core.Bool.{Bool, true, false, _||_, _&&_}
-use mathlib.Core.List.{List}
-use Prim.Native.Nat.{ℕ, _^_, _≤_, _<_}
-use native.Mathlib.Omega.{arith}
-use native.Mathlib.Nat.{le-trans}
+-- What the checks have seen to where they let a call through: its numbers fit, and its reading can be booked.
+use mathlib.Core.Path.{_≡_, refl}
+use mathlib.Core.Bool.{Bool, true, false, cond, _||_}
+use mathlib.Core.List.{[]}
+use Prim.Native.Nat.{ℕ, _+_, _≤_, _<_}
 use lib.Dec.{eqb, leb, ltb}
-use borrow.Author.Tests.{leb-false, ltb-false}
+use borrow.Author.Tests.{ltb-false, leb-false, le-leb}
 use Rattle.dates.specs.Dates.{lastDay}
-use Rattle.rules.specs.declared.{Fields.Fields, Point.Point, View.View, Settings.Settings, PointAction.PointAction, Answer.Answer}
-use Rattle.rules.specs.Volumes.{fullTurn}
-use Rattle.rules.specs.Answers.{isAccepted}
-use Rattle.rules.specs.Rejections.{indexDisagrees, outOfRange, offCalendar, rows, rowsAt, accepted, answerTo}
-use Rattle.rules.specs.Register.{view}
+use Rattle.dates.specs.Months.{threeMonthsAfter}
+use Rattle.rules.specs.declared.{Effect.Effect, Fields.Fields, History.History, PointAction.PointAction}
+use Rattle.rules.specs.declared.{Settings.Settings, SupplyKind.SupplyKind}
+use Rattle.rules.specs.Fields.{supply, withSupply, withPending}
+use Rattle.rules.specs.Effects.{spansIn, effectiveDay, effectOf, dropped, failed}
+use Rattle.rules.specs.Rejections.{outside, notMark, notWheels, notSupplier, notKey, isPast, rowsAt}
+use Rattle.rules.specs.Register.{entered}
+use Rattle.rules.specs.Volumes.{fullTurn, spanTo}
 use Rattle.rules.proofs.Accept.{pass, neither}
-use Rattle.point_answers.specs.Ranges.{InRange}
-use Rattle.point_answers.specs.Ruling.{answerAt, rulingAt}
-use Rattle.point_checks.proofs.Powers.{turn-most}
-use Rattle.point_answers.proofs.Within.{in-range}
-use Rattle.point_effects.specs.Ranges.{Readable}
+use Rattle.rules.proofs.Views.{dated, dated-also, passed-at}
+use Rattle.point_volumes.proofs.Readings.{read-span, read-booked}
+use Rattle.point_answers.specs.Between.{answerAt}
+use Rattle.point_effects.specs.Between.{Accepted, noted, failedBy}
 
-index-small : (f : Fields) (x z : ℕ) → indexDisagrees f x z ≡ false → x ≤ 10 ^ 11
-index-small f x z h =
-    let c = neither (leb (fullTurn (f .meter)) x || (eqb z 0 && ltb x (f .reading .index))) _ h in
-    let b = neither (leb (fullTurn (f .meter)) x) _ (c .0) in
-    let lt = leb-false (fullTurn (f .meter)) x (b .0) in
-    le-trans (omega arith) (turn-most (f .meter))
+pub within : (lo hi n : ℕ) → outside lo hi n ≡ false → (lo ≤ n) × (n ≤ hi)
+within lo hi n h = let k = neither (ltb n lo) (ltb hi n) h in (ltb-false n lo (k .0), ltb-false hi n (k .1))
 
-reads-forward : (t d l : ℕ) → (leb d l || ltb t d) ≡ false → l < d
-reads-forward t d l h = leb-false d l (neither (leb d l) (ltb t d) h .0)
+wheels : (b a : ℕ) → notWheels b a ≡ false → (b ≤ 8) × (a ≤ 3)
+wheels b a h = let k = neither (outside 1 8 b) (outside 0 3 a) h in (within 1 8 b (k .0) .1, within 0 3 a (k .1) .1)
 
-pub readable : (S : Settings) (u : List Bool) (t p : ℕ) (a : PointAction) (v : View)
-    → isAccepted (rulingAt S u t p a v) ≡ true
-    → Readable t a (v .fields)
-unfolding rulingAt rowsAt
-readable S u t p (PointAction.Enrol b a x) v ok = tt
-readable S u t p (PointAction.IntoService s k) v ok = tt
-readable S u t p (PointAction.DefaultSupply k) v ok = tt
-readable S u t p (PointAction.Request s k r) v ok = tt
-readable S u t p (PointAction.Cancel s) v ok = tt
-readable S u t p (PointAction.Reading d x z) v ok =
-    let k = pass _ _ _ _ (pass _ _ _ _ ok .1) in
-    (reads-forward t d (v .fields .reading .day) (k .0), index-small (v .fields) x z (pass _ _ _ _ (k .1) .0))
-readable S u t p (PointAction.MeterChange x z b a y) v ok =
-    let k = pass _ _ _ _ (pass _ _ _ _ ok .1) in (
-      reads-forward t t (v .fields .reading .day) (k .0),
-      index-small (v .fields) x z (neither (indexDisagrees (v .fields) x z) _ (pass _ _ _ _ (k .1) .0) .0),
-    )
-readable S u t p PointAction.OutOfService v ok = tt
-readable S u t p (PointAction.Suspend m) v ok = tt
+-- A reading goes forward to a day of the calendar, and the wheels have its index.
+pub record Readable (f : Fields) (d x z : ℕ) : Type 0 where
+  pub calendar : d ≤ lastDay
+  pub forward : f .reading .day < d
+  pub index : x < fullTurn (f .meter)
+  pub mark : z ≤ 1
 
-pub record Passed (t : ℕ) (a : PointAction) (f : Fields) : Type 0 where
-  pub calendar : t ≤ lastDay
-  pub ranges : InRange a
-  pub readable : Readable t a f
+module _ (S : Settings) (t : ℕ) (f : Fields) where
+  pub today-fits : (a : PointAction) → Accepted S t a f → t ≤ lastDay
+  unfolding answerAt
+  today-fits a h = passed-at S (h .day) (h .contracts) t (h .point) a (h .view) _ (h .ok) .0
 
-pub passed : (S : Settings) (day : ℕ) (u : List Bool) (t p : ℕ) (a : PointAction) (v : View)
-    → isAccepted (answerAt S day u t p a v) ≡ true → Passed t a (v .fields)
-unfolding answerTo outOfRange offCalendar rows accepted rulingAt
-passed S day u t p a v ok =
-    let k = pass _ _ _ _ ok in
-    let l = pass _ _ _ _ (k .1) in
-    let n = neither (ltb lastDay t) _ (l .0) in
-    record {
-      calendar = ltb-false lastDay t (n .0);
-      ranges = in-range S t a (k .0) (n .1);
-      readable = readable S u t p a v (pass _ _ _ _ (l .1) .1);
-    }
+  pub enrol-fits : (b a x : ℕ) → Accepted S t (PointAction.Enrol b a x) f → (b ≤ 8) × (a ≤ 3)
+  unfolding answerAt rowsAt
+  enrol-fits b a x h = wheels b a (pass _ _ _ _ (h .ok) .0)
 
-pub turn-passed : (S : Settings) (day : ℕ) (u : List Bool) (t p : ℕ) (a : PointAction) (g : Point) (v : View) (x : Answer) (b : Bool)
-    → v ≡ view t g → x ≡ answerAt S day u t p a v → b ≡ isAccepted x → b ≡ true → Passed t a (g .fields)
-turn-passed S day u t p a g v x b seen told is ok = passed S day u t p a (view t g) (rw (← seen, ← told, ← is) ok)
+  pub service-fits : (s k : ℕ) → Accepted S t (PointAction.IntoService s k) f → (s ≤ 99) × (k ≤ 999999999)
+  unfolding answerAt rowsAt
+  service-fits s k h =
+      let n = neither (notSupplier s) (notKey k) (pass _ _ _ _ (h .ok) .0) in
+      (within 1 99 s (n .0) .1, within 1 999999999 k (n .1) .1)
+
+  pub default-fits : (k : ℕ) → Accepted S t (PointAction.DefaultSupply k) f → k ≤ 999999999
+  unfolding answerAt rowsAt
+  default-fits k h = within 1 999999999 k (pass _ _ _ _ (h .ok) .0) .1
+
+  pub request-fits : (s k r : ℕ) → Accepted S t (PointAction.Request s k r) f → (s ≤ 99) × (effectiveDay S t r ≤ lastDay)
+  unfolding answerAt rowsAt
+  request-fits s k r h =
+      let a = pass _ _ _ _ (h .ok) in
+      let b = dated-also (h .day) t _ _ _ (a .1) .1 .rest in
+      let c = pass _ _ _ _ (pass _ _ _ _ (pass _ _ _ _ b .1) .1) in
+      (within 1 99 s (neither (notSupplier s) (notKey k) (a .0) .0) .1, ltb-false lastDay (effectiveDay S t r) (neither (ltb r t || ltb (threeMonthsAfter t) r) (isPast (effectiveDay S t r)) (c .0) .1))
+
+  pub suspend-fits : (m : ℕ) → Accepted S t (PointAction.Suspend m) f → m ≤ 1
+  unfolding answerAt rowsAt
+  suspend-fits m h = within 0 1 m (pass _ _ _ _ (h .ok) .0) .1
+
+  pub reading-fits : (d x z : ℕ) → Accepted S t (PointAction.Reading d x z) f → Readable f d x z
+  unfolding answerAt rowsAt
+  reading-fits d x z h =
+      let a = pass _ _ _ _ (h .ok) in
+      let b = dated-also (h .day) t _ _ _ (a .1) in
+      let c = pass _ _ _ _ (pass _ _ _ _ (b .1 .rest) .1) in
+      let e = pass _ _ _ _ (c .1) in
+      let i = neither _ _ (neither _ _ (e .0) .0) in
+      rw (← (h .same)) (record {
+        calendar = ltb-false lastDay d (b .0);
+        forward = leb-false d (h .view .fields .reading .day) (neither (leb d (h .view .fields .reading .day)) (ltb t d) (c .0) .0);
+        index = leb-false (fullTurn (h .view .fields .meter)) x (i .0);
+        mark = within 0 1 z (a .0) .1;
+      })
+
+  pub change-fits : (x z b a y : ℕ) → Accepted S t (PointAction.MeterChange x z b a y) f → Readable f t x z × (b ≤ 8) × (a ≤ 3)
+  unfolding answerAt rowsAt
+  change-fits x z b a y h =
+      let k = pass _ _ _ _ (h .ok) in
+      let n = neither (notMark z) (notWheels b a) (k .0) in
+      let d = dated (h .day) t _ _ (k .1) in
+      let c = pass _ _ _ _ (pass _ _ _ _ (d .rest) .1) in
+      let e = pass _ _ _ _ (c .1) in
+      let i = neither _ _ (neither _ _ (neither _ (leb _ y) (e .0) .0) .0) in
+      let r : Readable f t x z = rw (← (h .same)) (record {
+        calendar = d .calendar;
+        forward = leb-false t (h .view .fields .reading .day) (neither (leb t (h .view .fields .reading .day)) (ltb t t) (c .0) .0);
+        index = leb-false (fullTurn (h .view .fields .meter)) x (i .0);
+        mark = within 0 1 z (n .0) .1;
+      }) in
+      let w = wheels b a (n .1) in
+      (r, w .0, w .1)
+
+-- An effect without a reading, and that of an accepted call, are written down as the definition enters them.
+pub unread-noted : (t : ℕ) (e : Effect) (h : History) → spansIn e ≡ [] → noted t e h ≡ entered t e h
+unfolding noted
+unread-noted t e h q = rw q
+
+read-noted : (t : ℕ) (f g : Fields) (d x z : ℕ) (h : History) → Readable f d x z
+    → noted t (Effect.Read (spanTo f d x z) g) h ≡ entered t (Effect.Read (spanTo f d x z) g) h
+unfolding noted
+read-noted t f g d x z h k =
+    let e = read-span f d x z (k .index) (k .mark) in
+    rw (rw e at (read-booked (f .meter) (f .reading) d x z (k .forward) (k .calendar) h))
+
+pub accepted-noted : (S : Settings) (t : ℕ) (a : PointAction) (f : Fields) (h : History) → Accepted S t a f
+    → noted t (effectOf S t a f) h ≡ entered t (effectOf S t a f) h
+unfolding effectOf
+accepted-noted S t (PointAction.Enrol b a x) f h k = unread-noted t _ h refl
+accepted-noted S t (PointAction.IntoService s y) f h k = unread-noted t _ h refl
+accepted-noted S t (PointAction.DefaultSupply y) f h k = unread-noted t _ h refl
+accepted-noted S t (PointAction.Request s y r) f h k = unread-noted t _ h refl
+accepted-noted S t (PointAction.Cancel s) f h k = unread-noted t _ h refl
+accepted-noted S t (PointAction.Reading d x z) f h k = read-noted t f _ d x z h (reading-fits S t f d x z k)
+accepted-noted S t (PointAction.MeterChange x z b a y) f h k = read-noted t f _ t x z h (change-fits S t f x z b a y k .0)
+accepted-noted S t PointAction.OutOfService f h k = unread-noted t _ h refl
+accepted-noted S t (PointAction.Suspend m) f h k = unread-noted t _ h refl
+
+-- So is a failure's.
+pub failed-noted : (S : Settings) (t s : ℕ) (f : Fields) (h : History) → t ≤ lastDay
+    → noted t (failedBy S t s f) h ≡ entered t (failed S t s f) h
+unfolding failedBy failed
+failed-noted S t s f h le = rw (le-leb t lastDay le) (go (eqb (f .supply .holder) s))
+  where
+    go : (b : Bool) → noted t (cond b
+        (Effect.Name (withSupply f (supply (S .resort) (SupplyKind.LastResort (t + S .b)) (dropped s (f .supply .pending)))))
+        (Effect.Keep (withPending f (dropped s (f .supply .pending))))) h
+        ≡ entered t (cond b
+        (Effect.Name (withSupply f (supply (S .resort) (SupplyKind.LastResort (t + S .b)) (dropped s (f .supply .pending)))))
+        (Effect.Keep (withPending f (dropped s (f .supply .pending))))) h
+    go true = unread-noted t _ h refl
+    go false = unread-noted t _ h refl

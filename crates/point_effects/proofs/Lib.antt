@@ -1,4 +1,1 @@
 pub mod Accepted
-pub mod Booked
-pub mod Fairness
-pub mod NewestTurn

@@ -1,4 +1,1 @@
-pub mod Ranges
-pub mod Readings
-pub mod Turn
-pub mod Newest
+pub mod Between

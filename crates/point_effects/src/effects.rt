@@ -1,286 +1,247 @@
-// What accepted calls do to a point.
-use crate::events::supplied;
-use crate::meter::span_to;
-use crate::readings::reading_of;
+// What accepted calls and failures do to a point's fields.
 use dates::LAST_DAY;
 use point_checks::effective_day;
+use point_checks::is_by;
 use point_checks::is_full;
-use point_checks::view_of;
-use point_periods::book;
-use point_periods::named;
+use point_volumes::span_to;
+use rules::Effect;
 use rules::Fields;
 use rules::Meter;
 use rules::Pending;
-use rules::Point;
 use rules::PointAction;
 use rules::Reading;
 use rules::Settings;
 use rules::Supply;
 use rules::SupplyKind;
+use rules::View;
 ghost use mathlib.Core.Path.{_≡_};
-ghost use Prim.Native.Nat.{_≤_, _<_};
-ghost use Rattle.rules.specs.declared.Pending.the-variants.{Request};
-ghost use Rattle.rules.specs.Effects.{dropped as Effects·dropped, effectiveDay};
-ghost use Rattle.rules.specs.Fields.{reading, withPending, withMark, withReading};
-ghost use Rattle.rules.specs.Volumes.{spanTo};
-ghost use Rattle.rules.specs.Rejections.{isBy};
-ghost use Rattle.rules.specs.Register.{acted as Register·acted, booked};
-ghost use Rattle.point_answers.specs.Ranges.{InRange};
-ghost use Rattle.point_effects.specs.Ranges.{Readable};
-ghost use Rattle.point_effects.specs.Turn.{failureFills, failedBy};
+ghost use mathlib.Core.Bool.{true, _&&_};
+ghost use Prim.Native.Nat.{ℕ, _+_, _≤_, _<_};
+ghost use Rattle.rules.specs.Effects.{dropped as Effects·dropped, effectiveDay, effectOf, failed as Effects·failed};
+ghost use Rattle.rules.specs.Fields.{fields, meter, reading as Fields·reading, supply, unsupplied};
+ghost use Rattle.rules.specs.Fields.{withSupply, withPending, withKey, withMark, withReading};
+ghost use Rattle.rules.specs.Rejections.{touches, isFull};
+ghost use Rattle.rules.specs.Volumes.{fullTurn, spanTo};
+ghost use Rattle.point_effects.specs.Between.{Accepted, failedBy};
 
-fn enrol(set: Settings, t: u32, before: u64, after: u64, index: u64, g: Point) -> Point
-    requires { ⌜ (before ≤ 8) × (after ≤ 3) ⌝ }
-    ensures { λ r. ⌜ r ≡ Register·acted set t (PointAction.Enrol before after index) g ⌝ }
+// The same fields with another supply.
+fn with_supply(f: Fields, s: Supply) -> Fields
+    ensures { λ r. ⌜ r ≡ withSupply f s ⌝ }
 {
-    let h = g.history;
-    Point {
-        fields: Fields {
-            enrolled: true,
-            supply: Supply {
-                holder: 0,
-                kind: SupplyKind::None,
-                pending: Pending::Nothing,
-            },
-            key: 0,
-            mark: 0,
-            meter: Meter {
-                before: before as u8,
-                after: after as u8,
-            },
-            reading: Reading {
-                day: t,
-                index: index,
-            },
-        },
-        history: named(t, 0, h),
-    }
+    let mut g = f;
+    g.supply = s;
+    g
 }
 
-fn into_service(set: Settings, t: u32, s: u64, key: u64, g: Point) -> Point
-    requires { ⌜ (s ≤ 99) × (key ≤ 999999999) ⌝ }
-    ensures { λ r. ⌜ r ≡ Register·acted set t (PointAction.IntoService s key) g ⌝ }
+// The same fields with another pending request.
+fn with_pending(f: Fields, q: Pending) -> Fields
+    ensures { λ r. ⌜ r ≡ withPending f q ⌝ }
 {
-    let f = g.fields;
-    let h = g.history;
-    let now = f.supply;
-    let q = now.pending;
-    let supply = Supply {
-        holder: s as u8,
-        kind: SupplyKind::Contract,
-        pending: q,
-    };
-    Point {
-        fields: Fields {
-            supply: supply,
-            key: key as u32,
-            ..f
-        },
-        history: named(t, s as u8, h),
-    }
-}
-
-fn default_supply(set: Settings, t: u32, key: u64, g: Point) -> Point
-    requires { ⌜ (t ≤ 73048) × (key ≤ 999999999) ⌝ }
-    ensures { λ r. ⌜ r ≡ Register·acted set t (PointAction.DefaultSupply key) g ⌝ }
-{
-    let f = g.fields;
-    let h = g.history;
-    let now = f.supply;
-    let q = now.pending;
-    let supply = Supply {
-        holder: set.default,
-        kind: SupplyKind::Default(t + set.a as u32),
-        pending: q,
-    };
-    Point {
-        fields: Fields {
-            supply: supply,
-            key: key as u32,
-            ..f
-        },
-        history: named(t, set.default, h),
-    }
-}
-
-// The pending request comes or goes.
-fn with_pending(q: Pending, g: Point) -> Point
-    ensures { λ r. ⌜ r ≡ record { fields = withPending (g .fields) q; history = g .history } ⌝ }
-{
-    let f = g.fields;
-    let h = g.history;
     let now = f.supply;
     let k = now.kind;
-    let supply = Supply {
+    let after = Supply {
         holder: now.holder,
         kind: k,
         pending: q,
     };
-    Point {
-        fields: Fields {
-            supply: supply,
-            ..f
-        },
-        history: h,
-    }
+    with_supply(f, after)
 }
 
-// A reading of x on day d is booked, and the meter is m from then on, with the last index y.
-fn read(d: u32, x: u64, z: u64, m: Meter, y: u64, g: Point) -> Point
-    requires { ⌜ (d ≤ 73048) × (x ≤ 100000000000) × (z ≤ 1) × (g .fields .reading .day < d) ⌝ }
-    ensures { λ r. ⌜ r ≡ record { fields = withReading (g .fields) m (reading d y); history = booked (spanTo (g .fields) d x z) (g .history) } ⌝ }
+fn enrol(t: u32, before: u64, after: u64, index: u64) -> Effect
+    requires { ⌜ (before ≤ 8) × (after ≤ 3) ⌝ }
+    ensures { λ r. ⌜ r ≡ Effect.Enrol (fields true unsupplied 0 0 (meter before after) (Fields·reading t index)) ⌝ }
 {
-    let f = g.fields;
-    let h = g.history;
+    let none = Supply {
+        holder: 0,
+        kind: SupplyKind::None,
+        pending: Pending::Nothing,
+    };
+    let m = Meter {
+        before: before as u8,
+        after: after as u8,
+    };
+    let first = Reading {
+        day: t,
+        index: index,
+    };
+    Effect::Enrol(Fields {
+        enrolled: true,
+        supply: none,
+        key: 0,
+        mark: 0,
+        meter: m,
+        reading: first,
+    })
+}
+
+// A holder is named under a kind of supply, and the key is stored.
+fn served(f: Fields, s: u8, k: SupplyKind, key: u64) -> Effect
+    requires { ⌜ key ≤ 999999999 ⌝ }
+    ensures { λ r. ⌜ r ≡ Effect.Name (withKey (withSupply f (supply s k (f .supply .pending))) key) ⌝ }
+{
+    let now = f.supply;
+    let q = now.pending;
+    let after = Supply {
+        holder: s,
+        kind: k,
+        pending: q,
+    };
+    let mut g = f;
+    g.supply = after;
+    g.key = key as u32;
+    Effect::Name(g)
+}
+
+fn request(set: Settings, t: u32, s: u64, r: u64, f: Fields) -> Effect
+    requires { ⌜ (s ≤ 99) × (effectiveDay set t r ≤ 73048) ⌝ }
+    ensures { λ x. ⌜ x ≡ Effect.Request (effectiveDay set t r) (withPending f (Pending.Request s (effectiveDay set t r))) ⌝ }
+{
+    let e = effective_day(set, t as u64, r);
+    Effect::Request(e, with_pending(f, Pending::Request(s as u8, e)))
+}
+
+// A reading of x on day d, and the meter and the last reading from then on.
+fn read(f: Fields, d: u32, x: u64, z: u64, m: Meter, now: Reading) -> Effect
+    requires { ⌜ (x < fullTurn (f .meter)) × (z ≤ 1) ⌝ }
+    ensures { λ r. ⌜ r ≡ Effect.Read (spanTo f d x z) (withReading f m now) ⌝ }
+{
     let old = f.meter;
     let last = f.reading;
     let s = span_to(old, last, d, x, z);
-    Point {
-        fields: Fields {
-            meter: m,
-            reading: Reading { day: d, index: y },
-            ..f
-        },
-        history: book(s, h),
-    }
+    let mut g = f;
+    g.meter = m;
+    g.reading = now;
+    Effect::Read(s, g)
 }
 
-fn out_of_service(set: Settings, t: u32, g: Point) -> Point
-    ensures { λ r. ⌜ r ≡ Register·acted set t PointAction.OutOfService g ⌝ }
-{
-    supplied(t, 0, SupplyKind::None, Pending::Nothing, g)
-}
-
-fn suspend(mark: u64, g: Point) -> Point
+fn suspend(f: Fields, mark: u64) -> Effect
     requires { ⌜ mark ≤ 1 ⌝ }
-    ensures { λ r. ⌜ r ≡ record { fields = withMark (g .fields) mark; history = g .history } ⌝ }
+    ensures { λ r. ⌜ r ≡ Effect.Keep (withMark f mark) ⌝ }
 {
-    let f = g.fields;
-    let h = g.history;
-    Point {
-        fields: Fields {
-            mark: mark as u8,
-            ..f
-        },
-        history: h,
-    }
+    let mut g = f;
+    g.mark = mark as u8;
+    Effect::Keep(g)
 }
 
-// A request becomes pending.
-fn ask(t: u32, s: u64, day: u64, g: Point) -> Point
-    requires { ⌜ (t ≤ 73048) × (s ≤ 99) × (day ≤ 73048) ⌝ }
-    ensures { λ r. ⌜ r ≡ record { fields = withPending (g .fields) (Request s (effectiveDay t day)); history = g .history } ⌝ }
+fn unsupplied_effect(f: Fields) -> Effect
+    ensures { λ r. ⌜ r ≡ Effect.Name (withSupply f unsupplied) ⌝ }
 {
-    let e = effective_day(t, day as u32) as u32;
-    with_pending(Pending::Request(s as u8, e), g)
+    let none = Supply {
+        holder: 0,
+        kind: SupplyKind::None,
+        pending: Pending::Nothing,
+    };
+    Effect::Name(with_supply(f, none))
 }
 
-// An accepted call, at the point that it names.
-pub(crate) fn acted(set: Settings, t: u32, a: PointAction, g: Point) -> Point
-    requires { ⌜ (t ≤ 73048) × InRange a × Readable t a (g .fields) ⌝ }
-    ensures { λ r. ⌜ r ≡ Register·acted set t a g ⌝ }
+// What an accepted call does to the point that it names.
+pub(crate) fn effect_of(set: Settings, t: u32, a: PointAction, f: Fields) -> Effect
+    requires { ⌜ Accepted set t a f ⌝ }
+    ensures { λ r. ⌜ r ≡ effectOf set t a f ⌝ }
 {
-    let f = g.fields;
-    let b = reading_of(t, f.meter, a);
-    if b.is {
-        let m = b.meter;
-        return read(b.day, b.index, b.zero, m, b.last, g);
-    }
     match a {
         PointAction::Enrol {
             before,
             after,
             index,
-        } => enrol(set, t, before, after, index, g),
-        PointAction::IntoService { supplier, key } => into_service(set, t, supplier, key, g),
-        PointAction::DefaultSupply { key } => default_supply(set, t, key, g),
+        } => enrol(t, before, after, index),
+        PointAction::IntoService { supplier, key } => served(
+            f,
+            supplier as u8,
+            SupplyKind::Contract,
+            key,
+        ),
+        PointAction::DefaultSupply { key } => served(
+            f,
+            set.default,
+            SupplyKind::Default(t + set.a as u32),
+            key,
+        ),
         PointAction::Request {
             supplier,
             key: _,
             day,
-        } => ask(t, supplier, day, g),
-        PointAction::Cancel { supplier: _ } => with_pending(Pending::Nothing, g),
-        PointAction::OutOfService => out_of_service(set, t, g),
-        PointAction::Suspend { mark } => suspend(mark, g),
-        // A reading has been seen to above.
-        PointAction::Reading {
-            day: _,
-            index: _,
-            zero: _,
-        } => g,
+        } => request(set, t, supplier, day, f),
+        PointAction::Cancel { supplier: _ } => Effect::Keep(with_pending(f, Pending::Nothing)),
+        PointAction::Reading { day, index, zero } => {
+            let m = f.meter;
+            let now = Reading {
+                day: day as u32,
+                index: index,
+            };
+            read(f, day as u32, index, zero, m, now)
+        }
         PointAction::MeterChange {
-            index: _,
-            zero: _,
-            before: _,
-            after: _,
-            fresh: _,
-        } => g,
+            index,
+            zero,
+            before,
+            after,
+            fresh,
+        } => {
+            let m = Meter {
+                before: before as u8,
+                after: after as u8,
+            };
+            let now = Reading {
+                day: t,
+                index: fresh,
+            };
+            read(f, t, index, zero, m, now)
+        }
+        PointAction::OutOfService => unsupplied_effect(f),
+        PointAction::Suspend { mark } => suspend(f, mark),
     }
 }
 
 // The request that is left when those of s are dropped.
-fn dropped(s: u8, q: Pending) -> Pending
+fn dropped(s: u64, q: Pending) -> Pending
     ensures { λ r. ⌜ r ≡ Effects·dropped s q ⌝ }
 {
     let Pending::Request(by, e) = q else {
         return Pending::Nothing;
     };
-    if by == s {
+    if by as u64 == s {
         return Pending::Nothing;
     }
     Pending::Request(by, e)
 }
 
-fn is_by(s: u8, q: Pending) -> bool
-    ensures { λ r. ⌜ r ≡ isBy s q ⌝ }
-{
-    match q {
-        Pending::Nothing => false,
-        Pending::Request(by, _) => by == s,
-    }
-}
-
 // Number 30 of a failure of s, at one point: s holds it or has a request there, and its marks and those due exceed 24.
-pub fn failure_fills(set: Settings, t: u32, s: u8, g: Point) -> bool
-    ensures { λ r. ⌜ r ≡ failureFills set t s g ⌝ }
+pub fn fills(s: u64, v: View) -> bool
+    ensures { λ r. ⌜ ((S : Settings) (t : ℕ) → r ≡ (touches s (v .fields) && isFull v (Effects·failed S t s (v .fields)))) ⌝ }
 {
-    let f = g.fields;
+    let f = v.fields;
     let now = f.supply;
+    let k = now.kind;
     let q = now.pending;
     let left = dropped(s, q);
-    let v = view_of(t as u64, g);
-    if now.holder == s {
-        let after = Supply {
-            holder: set.resort,
-            kind: SupplyKind::LastResort(t),
-            pending: left,
-        };
-        return is_full(v, true, after);
+    if now.holder as u64 == s {
+        // Number 30 does not look at the deadline's day.
+        return is_full(v, true, SupplyKind::LastResort(0), left);
     }
     if is_by(s, q) {
-        let after = Supply {
-            pending: left,
-            ..now
-        };
-        return is_full(v, false, after);
+        return is_full(v, false, k, left);
     }
     false
 }
 
-// A failure of s, at any point.
-pub fn failed(set: Settings, t: u32, s: u8, g: Point) -> Point
-    ensures { λ r. ⌜ r ≡ failedBy set t s g ⌝ }
+// What a failure of s does to any point.
+pub fn fail(set: Settings, t: u32, s: u64, f: Fields) -> Effect
+    ensures { λ r. ⌜ r ≡ failedBy set t s f ⌝ }
 {
     if t > LAST_DAY {
-        return g;
+        return Effect::Keep(f);
     }
-    let f = g.fields;
     let now = f.supply;
     let q = now.pending;
     let left = dropped(s, q);
-    if now.holder == s {
-        let end = t + set.b as u32;
-        return supplied(t, set.resort, SupplyKind::LastResort(end), left, g);
+    if now.holder as u64 == s {
+        let after = Supply {
+            holder: set.resort,
+            kind: SupplyKind::LastResort(t + set.b as u32),
+            pending: left,
+        };
+        return Effect::Name(with_supply(f, after));
     }
-    with_pending(left, g)
+    Effect::Keep(with_pending(f, left))
 }

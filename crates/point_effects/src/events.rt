@@ -12,7 +12,7 @@ ghost use mathlib.Core.Path.{_≡_};
 ghost use Prim.Native.Nat.{_≤_};
 ghost use Rattle.rules.specs.Fields.{supply, withSupply};
 ghost use Rattle.rules.specs.Register.{named as Register·named, expiryBy, endsBefore, dueBy, happened, nextEvent};
-ghost use Rattle.point_effects.specs.Turn.{caughtUp};
+ghost use Rattle.point_effects.specs.Between.{caughtUp};
 
 // What ends a supply kind by day t.
 fn expiry_by(set: Settings, t: u32, k: SupplyKind) -> Due

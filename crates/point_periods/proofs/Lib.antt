@@ -1,5 +1,1 @@
 pub mod Starts
-pub mod Shares
-pub mod Booking
-pub mod Fairness
-pub mod Newest

@@ -9,26 +9,26 @@ use borrow.Author.Tests.{le-leb, lt-leb, eq-eqb, ne-eqb}
 use Rattle.dates.specs.Dates.{lastDay}
 use Rattle.rules.specs.declared.{Point.Point, Register.Register, Settings.Settings}
 use Rattle.rules.specs.Register.{catchUp, nextEvent, dueBy, expiryBy, happened, register, pointAt, noPoint, advanced}
-use Rattle.point_effects.specs.Turn.{caughtUp}
-use Rattle.register.specs.Calls.{advancedTo}
+use Rattle.point_effects.specs.Between.{caughtUp}
+use Rattle.register.specs.Calls.{broughtUp}
 
 -- On the calendar catching up is the definition's.
 pub caughtUp-on : (S : Settings) (t : ℕ) → t ≤ lastDay → caughtUp S t ≡ catchUp S t
 unfolding caughtUp
 caughtUp-on S t h = fun-ext (λ g. rw (le-leb t lastDay h))
 
-pub advanced-off : (t : ℕ) (r : Register) → lastDay < t → advancedTo t r ≡ r
-unfolding advancedTo
+pub advanced-off : (t : ℕ) (r : Register) → lastDay < t → broughtUp t r ≡ r
+unfolding broughtUp
 advanced-off t r h = rw (lt-leb t lastDay h)
 
 module _ (t : ℕ) (r : Register) (h : t ≤ lastDay) where
-  pub advanced-same : r .day ≡ t → advancedTo t r ≡ r
-  unfolding advancedTo advanced
+  pub advanced-same : r .day ≡ t → broughtUp t r ≡ r
+  unfolding broughtUp advanced
   advanced-same e = rw (le-leb t lastDay h, eq-eqb (r .day) t e)
 
-  pub advanced-new : (r .day ≡ t → ⊥) → advancedTo t r
+  pub advanced-new : (r .day ≡ t → ⊥) → broughtUp t r
       ≡ register (r .settings) t (r .contracts) (map (caughtUp (r .settings) t) (r .points))
-  unfolding advancedTo advanced
+  unfolding broughtUp advanced
   advanced-new n = rw (le-leb t lastDay h, ne-eqb (r .day) t n, caughtUp-on (r .settings) t h)
 
 -- Nothing falls due where there is no point.

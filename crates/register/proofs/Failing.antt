@@ -1,35 +1,22 @@
--- A failure on the whole register, once its first checks are passed.
-use mathlib.Core.Path.{_≡_, refl, fun-ext}
-use mathlib.Core.Bool.{Bool, true, false, _||_, _&&_}
-use mathlib.Core.List.{[], _∷_}
+-- A failure on the whole register: the rows before number 30, number 30 by the points, and the register after it.
+use mathlib.Core.Path.{_≡_, refl, sym, _∙_, ap, fun-ext}
+use mathlib.Core.Bool.{Bool, true, false, _&&_}
+use mathlib.Core.List.{List, map}
 use Prim.Native.Nat.{ℕ, zero, suc, _+_, _≤_, _<_}
 use native.Mathlib.Omega.{arith}
-use lib.Dec.{eqb, ltb}
-use borrow.Author.Tests.{le-leb, le-ltb, ltb-false, eq-eqb, ne-eqb}
+use lib.ListN.{set}
 use Rattle.dates.specs.Dates.{lastDay}
-use Rattle.rules.specs.declared.{Register.Register, View.View, Settings.Settings, Answer.Answer, Action.Action}
+use Rattle.rules.specs.declared.{Point.Point, Register.Register, View.View, Settings.Settings, Answer.Answer, Action.Action}
+use Rattle.rules.specs.Answers.{isAccepted}
 use Rattle.rules.specs.Effects.{failed}
-use Rattle.rules.specs.Rejections.{
-  _⇒_,
-  outside,
-  firstOf,
-  touches,
-  isFull,
-  anyPoint,
-  outOfRange,
-  offCalendar,
-  rows,
-  accepted,
-  shown,
-  answerTo,
-  answer,
-}
-use Rattle.rules.specs.Register.{view, pointAt, advanced, says, failedPoint}
-use Rattle.rules.proofs.Accept.{neither}
+use Rattle.rules.specs.Rejections.{_⇒_, firstOf, touches, isFull, anyPoint, shown, answer}
+use Rattle.rules.specs.Register.{view, pointAt, register, advanced, says, failedPoint, done, outcome, applied}
 use Rattle.rules.proofs.Views.{shown-in}
-use Rattle.point_effects.specs.Turn.{failureFills, failedBy}
-use Rattle.register.specs.Calls.{call}
-use Rattle.register.specs.Failure.{FailureOn}
+use Rattle.point_answers.specs.Between.{after, failureRows}
+use Rattle.point_answers.proofs.Failures.{failure-answer, failure-fits}
+use Rattle.point_effects.proofs.Accepted.{failed-noted}
+use Rattle.register.specs.Calls.{call, broughtUp, failureFills, failedOn}
+use Rattle.register.proofs.AtPoint.{advanced-on, advanced-settings}
 
 any-ext : (n p : ℕ) (f g : ℕ → Bool) → ((q : ℕ) → p ≤ q → q < p + n → f q ≡ g q) → anyPoint p n f ≡ anyPoint p n g
 unfolding anyPoint
@@ -37,43 +24,55 @@ any-ext zero p f g h = refl
 any-ext (suc n) p f g h =
     rw (h p (omega arith) (omega arith), any-ext n (suc p) f g (λ q lo hi. h q (omega arith) (omega arith)))
 
-pub failedBy-on : (S : Settings) (t s : ℕ) → t ≤ lastDay → failedBy S t s ≡ failedPoint S t s
-unfolding failedBy
-failedBy-on S t s h = fun-ext (λ g. rw (le-leb t lastDay h))
+failedOn-is : (S : Settings) (t s : ℕ) → t ≤ lastDay → failedOn S t s ≡ failedPoint S t s
+unfolding failedOn failedPoint
+failedOn-is S t s h = fun-ext (λ g. failed-noted S t s (g .fields) (g .history) h)
 
-module _ (t s : ℕ) (r : Register) (h : FailureOn t s r) where
+module _ (t s : ℕ) (r : Register) where
   abbrev every : ℕ → View
   every q = view t (pointAt q (advanced t r .points))
 
   -- number 30 by the points themselves
-  abbrev pub fills : Bool
-  fills = anyPoint 1 32 (λ q. failureFills (r .settings) t s (pointAt q (advanced t r .points)))
+  abbrev pub filled : Bool
+  filled = anyPoint 1 32 (λ q. failureFills (r .settings) t s (pointAt q (advanced t r .points)))
 
   any-fills : anyPoint 1 32 (λ q. touches s (shown every q .fields) && isFull (shown every q) (failed (r .settings) t s (shown every q .fields)))
-      ≡ fills
+      ≡ filled
   unfolding failureFills
   any-fills = any-ext 32 1 _ _ (λ q lo hi. rw (shown-in every q lo (omega arith)))
 
-  pub failure-says : says r (call t (Action.Failure s))
-      ≡ firstOf ((eqb s (r .settings .default) || eqb s (r .settings .resort) ⇒ 29) ∷ (fills ⇒ 30) ∷ []) Answer.Accepted
-  unfolding says answer answerTo outOfRange offCalendar rows accepted firstOf
-  failure-says =
-      rw (
-        le-ltb s 1 (h .least),
-        le-ltb 99 s (h .most),
-        le-ltb lastDay t (omega (arith, h .calendar)),
-        le-ltb lastDay (t + r .settings .b) (h .calendar),
-        le-ltb t (r .day) (h .on),
-        h .signed,
-        any-fills,
-      )
+  abbrev first : Answer
+  first = firstOf (failureRows (r .settings) (r .day) (r .contracts) t s) Answer.Accepted
 
-pub supplier-in : (s : ℕ) → outside 1 99 s ≡ false → (1 ≤ s) × (s ≤ 99)
-supplier-in s z = let k = neither (ltb s 1) (ltb 99 s) z in (ltb-false s 1 (k .0), ltb-false 99 s (k .1))
+  says-first : says r (call t (Action.Failure s)) ≡ after first (filled ⇒ 30)
+  unfolding says answer
+  says-first = rw (failure-answer (r .settings) (r .day) (r .contracts) t s (shown every), any-fills)
 
--- the row of the protected suppliers
-pub protected : (s d l : ℕ) → (s ≡ d → ⊥) → (s ≡ l → ⊥) → (eqb s d || eqb s l) ≡ false
-protected s d l a b = rw (ne-eqb s d a, ne-eqb s l b)
+  pub failure-refused : (a : Answer) → a ≡ first → isAccepted a ≡ false → outcome a r ≡ applied r (call t (Action.Failure s))
+  unfolding applied after
+  failure-refused a e z = let w : isAccepted first ≡ false = rw e at z in rw (says-first, w, e, w)
 
-pub protected-last : (s d l : ℕ) → (s ≡ d → ⊥) → s ≡ l → (eqb s d || eqb s l) ≡ true
-protected-last s d l a b = rw (ne-eqb s d a, eq-eqb s l b)
+  module _ (a : Answer) (e : a ≡ first) (z : isAccepted a ≡ true) (n : Register) (m : n ≡ broughtUp t r) where
+    ok : isAccepted first ≡ true
+    ok = rw e at z
+
+    pub failure-in : (1 ≤ s) × (s ≤ 99) × (t ≤ lastDay)
+    failure-in = failure-fits (r .settings) (r .day) (r .contracts) t s ok
+
+    up : n ≡ advanced t r
+    up = m ∙ advanced-on t r (failure-in .2)
+
+    module _ (b : Bool) (k : (S : Settings) → b ≡ anyPoint 1 32 (λ p. failureFills S t s (pointAt p (n .points)))) where
+      filled-is : b ≡ filled
+      filled-is = k (r .settings) ∙ ap (λ (x : Register). anyPoint 1 32 (λ p. failureFills (r .settings) t s (pointAt p (x .points)))) up
+
+      pub failure-full : b ≡ true → outcome (Answer.Refused 30) r ≡ applied r (call t (Action.Failure s))
+      unfolding applied after
+      failure-full y = let w : filled ≡ true = sym filled-is ∙ y in rw (says-first, ok, w)
+
+      pub failure-done : b ≡ false → (ps : List Point) → ps ≡ map (failedOn (r .settings) t s) (n .points)
+          → outcome a (register (n .settings) (n .day) (set (n .contracts) s false) ps) ≡ applied r (call t (Action.Failure s))
+      unfolding applied after done
+      failure-done y ps l =
+          let w : filled ≡ false = sym filled-is ∙ y in
+          rw (l, up, failedOn-is (r .settings) t s (failure-in .2), says-first, w, ok, advanced-settings t r, e, ok)

@@ -4,3 +4,4 @@ pub mod Failing
 pub mod Opens
 pub mod Search
 pub mod Sweep
+pub mod Plain

@@ -7,7 +7,7 @@ use Rattle.rules.specs.declared.{Opening.Opening}
 use Rattle.rules.specs.Answers.{isAccepted}
 use Rattle.rules.specs.Rejections.{openingAnswer}
 use Rattle.rules.proofs.Accept.{pass}
-use Rattle.point_answers.proofs.Within.{at-most}
+use Rattle.point_effects.proofs.Accepted.{within}
 use Rattle.register.specs.Opens.{InRange}
 
 pub opening-in-range : (o : Opening) → isAccepted (openingAnswer o) ≡ true → InRange o
@@ -20,10 +20,10 @@ opening-in-range o ok =
     let l = pass _ _ _ _ (s .1) in
     let d = pass _ _ _ _ (pass _ _ _ _ (l .1) .1) in
     record {
-      w = at-most 0 10 (o .w) (w .0);
-      a = at-most 1 400 (o .a) (a .0);
-      b = at-most 1 400 (o .b) (b .0);
-      default = at-most 1 99 (o .default) (s .0);
-      resort = at-most 1 99 (o .resort) (l .0);
+      w = within 0 10 (o .w) (w .0) .1;
+      a = within 1 400 (o .a) (a .0) .1;
+      b = within 1 400 (o .b) (b .0) .1;
+      default = within 1 99 (o .default) (s .0) .1;
+      resort = within 1 99 (o .resort) (l .0) .1;
       day = ltb-false lastDay (o .day) (d .0);
     }

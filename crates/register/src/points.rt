@@ -1,8 +1,10 @@
 // All points of the register at once: brought up to a day, and a supplier's failure.
 use dates::LAST_DAY;
+use point_checks::view_of;
 use point_effects::catch_up;
-use point_effects::failed;
-use point_effects::failure_fills;
+use point_effects::fail;
+use point_effects::fills;
+use point_effects::note;
 use rules::Fields;
 use rules::History;
 use rules::Meter;
@@ -18,8 +20,8 @@ ghost use mathlib.Core.Path.{_≡_};
 ghost use mathlib.Core.List.{map};
 ghost use Rattle.rules.specs.Rejections.{anyPoint};
 ghost use Rattle.rules.specs.Register.{blankPoint, pointAt};
-ghost use Rattle.point_effects.specs.Turn.{caughtUp, failureFills, failedBy};
-ghost use Rattle.register.specs.Calls.{advancedTo, pointOn};
+ghost use Rattle.point_effects.specs.Between.{caughtUp};
+ghost use Rattle.register.specs.Calls.{broughtUp, pointOn, failureFills, failedOn};
 
 // A point that was never enrolled.
 pub(crate) fn blank_point() -> Point
@@ -67,27 +69,29 @@ fn all_caught_up(set: Settings, t: u32, ps: [Point; 32]) -> [Point; 32]
 }
 
 // Every point after a failure of s.
-pub(crate) fn all_failed(set: Settings, t: u32, s: u8, ps: [Point; 32]) -> [Point; 32]
-    ensures { λ r. ⌜ r ≡ map (failedBy set t s) ps ⌝ }
+pub(crate) fn all_failed(set: Settings, t: u32, s: u64, ps: [Point; 32]) -> [Point; 32]
+    ensures { λ r. ⌜ r ≡ map (failedOn set t s) ps ⌝ }
 {
     let mut out = ps;
     let mut n: usize = 0;
     while n < 32 {
         let g = out[n];
-        out[n] = failed(set, t, s, g);
+        let f = g.fields;
+        let h = g.history;
+        out[n] = note(t, fail(set, t, s, f), h);
         n += 1;
     }
     out
 }
 
 // A failure of s fills one of the points.
-pub(crate) fn any_filled(set: Settings, t: u32, s: u8, ps: [Point; 32]) -> bool
-    ensures { λ r. ⌜ r ≡ anyPoint 1 32 (λ p. failureFills set t s (pointAt p ps)) ⌝ }
+pub(crate) fn any_filled(t: u64, s: u64, ps: [Point; 32]) -> bool
+    ensures { λ r. ⌜ ((S : Settings) → r ≡ anyPoint 1 32 (λ p. failureFills S t s (pointAt p ps))) ⌝ }
 {
     let mut k: usize = 0;
     while k < 32 {
         let g = ps[k];
-        if failure_fills(set, t, s, g) {
+        if fills(s, view_of(t, g)) {
             return true;
         }
         k += 1;
@@ -96,8 +100,8 @@ pub(crate) fn any_filled(set: Settings, t: u32, s: u8, ps: [Point; 32]) -> bool
 }
 
 // The register brought up to a day: no work where it is there already.
-pub(crate) fn advance(today: u64, r: Register) -> Register
-    ensures { λ x. ⌜ x ≡ advancedTo today r ⌝ }
+pub fn brought_up(today: u64, r: Register) -> Register
+    ensures { λ x. ⌜ x ≡ broughtUp today r ⌝ }
 {
     if today > LAST_DAY as u64 {
         return r;

@@ -34,18 +34,17 @@ effects = 0
 
 unfoldable pub volumes : ℕ
 unfolding Volumes.fullTurn Volumes.unitOf Volumes.advanceOf Volumes.spanTo Volumes.upTo Volumes.share
-    Volumes.dayVolume Volumes.volume Volumes.registered Volumes.spansOf Volumes.spans
+    Volumes.given Volumes.dayVolume Volumes.volume Volumes.registered
 volumes = 0
 
 unfoldable pub rejections : ℕ
-unfolding Rejections.firstOf Rejections.outOfRangeAt Rejections.outOfRange Rejections.offCalendarAt
-    Rejections.offCalendar Rejections.anyPoint Rejections.rowsAt Rejections.rows Rejections.acceptedAt
-    Rejections.accepted Rejections.answerTo Rejections.shown Rejections.answer Rejections.openingAnswer
+unfolding Rejections.firstOf Rejections.anyPoint Rejections.rowsAt Rejections.rows Rejections.accepted
+    Rejections.answerTo Rejections.shown Rejections.answer Rejections.openingAnswer
 rejections = 0
 
 unfoldable pub register : ℕ
 unfolding Register.startsOn Register.replaced Register.appended Register.named Register.expiryBy Register.endsBefore
-    Register.dueBy Register.happened Register.nextEvent Register.catchUp Register.sharesBefore Register.bookedPeriod
+    Register.dueBy Register.happened Register.nextEvent Register.catchUp Register.bookedPeriod
     Register.bookedSlots Register.booked Register.advanced Register.says Register.acted Register.failedPoint
     Register.done Register.applied Register.answers Register.after Register.opened
 register = 0
@@ -56,7 +55,7 @@ questions = 0
 
 unfoldable pub dayBook : ℕ
 unfolding DayBook.newDay DayBook.goOn DayBook.says DayBook.next DayBook.answers DayBook.after DayBook.opened
-    DayBook.readings DayBook.enrolsAt DayBook.enrols DayBook.enrolments
+    DayBook.readings DayBook.enrolments
 dayBook = 0
 
 unfoldable pub periods : ℕ

@@ -11,9 +11,8 @@ use Rattle.rules.specs.declared.{Point.Point, Register.Register, Pending
 use Rattle.rules.specs.declared.{PointAction.PointAction}
 use Rattle.rules.specs.Fields.{withPending}
 use Rattle.rules.specs.Effects.{effectiveDay, effectOf}
-use Rattle.rules.specs.Volumes.{spansOf}
 use Rattle.rules.specs.Answers.{isAccepted}
-use Rattle.rules.specs.Rejections.{firstOf, outOfRange, offCalendar, rows, accepted, answerTo, shown, answer}
+use Rattle.rules.specs.Rejections.{firstOf, rows, accepted, answerTo, shown, answer}
 use Rattle.rules.specs.Register.{noPoint, pointAt, view, advanced, says, acted, done, applied}
 use Rattle.rules.specs.Scenes.{on}
 use Rattle.rules.specs.Questions.{holderAnswer, periodAnswer, advanceAnswer}
@@ -51,19 +50,19 @@ stored-unseen : (p : ℕ) (q : Pending) (ps : List Point)
 stored-unseen p q ps = map-set-same notAsked ps (p - 1) _ noPoint refl
 
 request-done : (r : Register) (t p s k d : ℕ) → withoutPending (done t (Action.At p (PointAction.Request s k d)) r) ≡ withoutPending r
-unfolding withoutPending done acted effectOf spansOf
-request-done r t p s k d = rw (stored-unseen p (Pending.Request s (effectiveDay t d)) (r .points))
+unfolding withoutPending done acted effectOf
+request-done r t p s k d = rw (stored-unseen p (Pending.Request s (effectiveDay (r .settings) t d)) (r .points))
 
 cancel-done : (r : Register) (t p s : ℕ) → withoutPending (done t (Action.At p (PointAction.Cancel s)) r) ≡ withoutPending r
-unfolding withoutPending done acted effectOf spansOf
+unfolding withoutPending done acted effectOf
 cancel-done r t p s = rw (stored-unseen p Pending.Nothing (r .points))
 
 -- Where a call on a day is accepted, so is the day alone.
 day-accepted : (r : Register) (t : ℕ) (a : Action) → isAccepted (says r (on t a)) ≡ true → isAccepted (says r (on t Action.Day)) ≡ true
-unfolding says answer answerTo firstOf outOfRange offCalendar rows accepted
+unfolding says answer answerTo firstOf rows accepted
 day-accepted r t a ok =
     let w = passed (r .settings) (r .day) (r .contracts) t a (shown (λ p. view t (pointAt p (advanced t r .points)))) ok in
-    rw (le-ltb lastDay t (w .calendar), le-ltb t (r .day) (w .on))
+    rw (le-ltb lastDay t (w .0), le-ltb t (r .day) (w .1))
 
 -- A call that would change requests only changes nothing else that the day alone does not change.
 applied-unseen : (r : Register) (t : ℕ) (a : Action) → withoutPending (done t a (advanced t r)) ≡ withoutPending (advanced t r)

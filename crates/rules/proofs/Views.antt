@@ -1,7 +1,7 @@
 -- What an answer looks at, and what an accepted call has passed.
 use mathlib.Core.Path.{_≡_, refl, fun-ext}
 use mathlib.Core.Bool.{Bool, true, false, cond, _||_}
-use mathlib.Core.List.{List}
+use mathlib.Core.List.{List, _∷_}
 use Prim.Native.Nat.{ℕ, _≤_}
 use lib.Dec.{ltb}
 use borrow.Author.Tests.{ltb-false, le-ltb}
@@ -9,7 +9,8 @@ use Rattle.dates.specs.Dates.{lastDay}
 use Rattle.rules.specs.declared.{Settings.Settings, Call.Call, Action.Action, PointAction.PointAction}
 use Rattle.rules.specs.Answers.{isAccepted}
 use Rattle.rules.specs.declared.{View.View}
-use Rattle.rules.specs.Rejections.{blankView, firstOf, notPoint, outOfRange, rowsAt, rows, acceptedAt, accepted, answerTo, shown, answer}
+use Rattle.rules.specs.declared.{Answer.Answer}
+use Rattle.rules.specs.Rejections.{Row, _⇒_, blankView, firstOf, notPoint, isPast, runsBack, rowsAt, rows, accepted, answerTo, shown, answer}
 use Rattle.rules.proofs.Accept.{pass, neither}
 
 -- The checks look at points 1 to 32 only.
@@ -32,62 +33,103 @@ unfolding answer
 answer-ext S day u c v w h = rw (fun-ext (shown-ext v w h))
 
 -- A call off the calendar, or dated before the register's day, is refused whatever the points are.
-pub answer-off : (S : Settings) (day : ℕ) (u : List Bool) (t : ℕ) (a : Action) (v w : ℕ → View) → ltb lastDay t ≡ true
-    → answerTo S day u t a v ≡ answerTo S day u t a w
-unfolding answerTo firstOf
-answer-off S day u t a v w q = rw q
+module _ (S : Settings) (day : ℕ) (u : List Bool) (t : ℕ) (v w : ℕ → View) where
+  pub answer-off : (a : Action) → ltb lastDay t ≡ true → answerTo S day u t a v ≡ answerTo S day u t a w
+  unfolding answerTo firstOf rows rowsAt
+  answer-off (Action.Contract s) q = rw q
+  answer-off (Action.Failure s) q = rw q
+  answer-off (Action.At p (PointAction.Enrol b a x)) q = rw q
+  answer-off (Action.At p (PointAction.IntoService s k)) q = rw q
+  answer-off (Action.At p (PointAction.DefaultSupply k)) q = rw q
+  answer-off (Action.At p (PointAction.Request s k r)) q = rw q
+  answer-off (Action.At p (PointAction.Cancel s)) q = rw q
+  answer-off (Action.At p (PointAction.Reading d x z)) q = rw q
+  answer-off (Action.At p (PointAction.MeterChange x z b a y)) q = rw q
+  answer-off (Action.At p PointAction.OutOfService) q = rw q
+  answer-off (Action.At p (PointAction.Suspend m)) q = rw q
+  answer-off Action.Day q = rw q
 
-pub answer-back : (S : Settings) (day : ℕ) (u : List Bool) (t : ℕ) (a : Action) (v w : ℕ → View) → ltb t day ≡ true
-    → answerTo S day u t a v ≡ answerTo S day u t a w
-unfolding answerTo firstOf
-answer-back S day u t a v w q = rw q
+  pub answer-back : (a : Action) → ltb t day ≡ true → answerTo S day u t a v ≡ answerTo S day u t a w
+  unfolding answerTo firstOf rows rowsAt
+  answer-back (Action.Contract s) q = rw q
+  answer-back (Action.Failure s) q = rw q
+  answer-back (Action.At p (PointAction.Enrol b a x)) q = rw q
+  answer-back (Action.At p (PointAction.IntoService s k)) q = rw q
+  answer-back (Action.At p (PointAction.DefaultSupply k)) q = rw q
+  answer-back (Action.At p (PointAction.Request s k r)) q = rw q
+  answer-back (Action.At p (PointAction.Cancel s)) q = rw q
+  answer-back (Action.At p (PointAction.Reading d x z)) q = rw q
+  answer-back (Action.At p (PointAction.MeterChange x z b a y)) q = rw q
+  answer-back (Action.At p PointAction.OutOfService) q = rw q
+  answer-back (Action.At p (PointAction.Suspend m)) q = rw q
+  answer-back Action.Day q = rw q
 
 -- A call that names a point looks at that point only.
 pub answer-at : (S : Settings) (day : ℕ) (u : List Bool) (t p : ℕ) (a : PointAction) (v w : ℕ → View) → v p ≡ w p
     → answerTo S day u t (Action.At p a) v ≡ answerTo S day u t (Action.At p a) w
-unfolding answerTo rows
+unfolding answerTo rows accepted
 answer-at S day u t p a v w q = rw q
 
--- What an accepted call has passed.
-pub record Passed (S : Settings) (day : ℕ) (u : List Bool) (t : ℕ) (a : Action) (v : ℕ → View) : Type 0 where
+-- What an accepted call has passed with rows 20 and 21: rs are the rows that come after them.
+pub record Passed (day t : ℕ) (rs : List Row) (a : Answer) : Type 0 where
   pub calendar : t ≤ lastDay
   pub on : day ≤ t
-  pub ranges : outOfRange a ≡ false
-  pub rest : isAccepted (firstOf (rows S u t a v) (accepted t a)) ≡ true
+  pub rest : isAccepted (firstOf rs a) ≡ true
 
-pub passed : (S : Settings) (day : ℕ) (u : List Bool) (t : ℕ) (a : Action) (v : ℕ → View) → isAccepted (answerTo S day u t a v) ≡ true
-    → Passed S day u t a v
-unfolding answerTo
-passed S day u t a v ok =
-    let b = pass _ _ _ _ ok in
-    let c = pass _ _ _ _ (b .1) in
-    let d = pass _ _ _ _ (c .1) in
-    record {
-      calendar = ltb-false lastDay t (neither (ltb lastDay t) _ (c .0) .0);
-      on = ltb-false t day (d .0);
-      ranges = b .0;
-      rest = d .1;
-    }
+pub dated : (day t : ℕ) (rs : List Row) (a : Answer) → isAccepted (firstOf ((isPast t ⇒ 20) ∷ (runsBack day t ⇒ 21) ∷ rs) a) ≡ true
+    → Passed day t rs a
+dated day t rs a ok =
+    let k = pass (isPast t) 20 ((runsBack day t ⇒ 21) ∷ rs) a ok in
+    let l = pass (runsBack day t) 21 rs a (k .1) in
+    record { calendar = ltb-false lastDay t (k .0); on = ltb-false t day (l .0); rest = l .1 }
 
--- A call that names a point is accepted for points 1 to 32 only.
-pub names-point : (S : Settings) (u : List Bool) (t p : ℕ) (a : PointAction) (v : View)
-    → isAccepted (firstOf (rowsAt S u t p a v) (acceptedAt t a)) ≡ true → notPoint p ≡ false
-unfolding rowsAt
-names-point S u t p (PointAction.Enrol b a x) v ok = pass _ _ _ _ ok .0
-names-point S u t p (PointAction.IntoService s k) v ok = neither (notPoint p) _ (pass _ _ _ _ (pass _ _ _ _ ok .1) .0) .0
-names-point S u t p (PointAction.DefaultSupply k) v ok = neither (notPoint p) _ (pass _ _ _ _ ok .0) .0
-names-point S u t p (PointAction.Request s k r) v ok = neither (notPoint p) _ (pass _ _ _ _ (pass _ _ _ _ ok .1) .0) .0
-names-point S u t p (PointAction.Cancel s) v ok = neither (notPoint p) _ (pass _ _ _ _ ok .0) .0
-names-point S u t p (PointAction.Reading d x z) v ok = neither (notPoint p) _ (pass _ _ _ _ ok .0) .0
-names-point S u t p (PointAction.MeterChange x z b a y) v ok = neither (notPoint p) _ (pass _ _ _ _ ok .0) .0
-names-point S u t p PointAction.OutOfService v ok = neither (notPoint p) _ (pass _ _ _ _ ok .0) .0
-names-point S u t p (PointAction.Suspend m) v ok = neither (notPoint p) _ (pass _ _ _ _ ok .0) .0
+-- Where another day is given.
+pub dated-also : (day t : ℕ) (x : Bool) (rs : List Row) (a : Answer)
+    → isAccepted (firstOf ((isPast t || x ⇒ 20) ∷ (runsBack day t ⇒ 21) ∷ rs) a) ≡ true → (x ≡ false) × Passed day t rs a
+dated-also day t x rs a ok =
+    let k = pass (isPast t || x) 20 ((runsBack day t ⇒ 21) ∷ rs) a ok in
+    let l = pass (runsBack day t) 21 rs a (k .1) in
+    let n = neither (isPast t) x (k .0) in
+    (n .1, record { calendar = ltb-false lastDay t (n .0); on = ltb-false t day (l .0); rest = l .1 })
 
--- The point that an accepted call names is one of 1 to 32.
-pub accepted-point : (S : Settings) (day : ℕ) (u : List Bool) (t p : ℕ) (a : PointAction) (v : ℕ → View)
-    → isAccepted (answerTo S day u t (Action.At p a) v) ≡ true → (t ≤ lastDay) × (1 ≤ p) × (p ≤ 32)
-unfolding rows accepted
-accepted-point S day u t p a v ok =
-    let w = passed S day u t (Action.At p a) v ok in
-    let k = neither (ltb p 1) (ltb 32 p) (names-point S u t p a (v p) (w .rest)) in
-    (w .calendar, ltb-false p 1 (k .0), ltb-false 32 p (k .1))
+module _ (S : Settings) (day : ℕ) (u : List Bool) (t : ℕ) where
+  -- The day of an accepted call, and the point that it names.
+  pub passed-at : (p : ℕ) (a : PointAction) (v : View) (b : Answer) → isAccepted (firstOf (rowsAt S day u t p a v) b) ≡ true
+      → (t ≤ lastDay) × (day ≤ t) × (notPoint p ≡ false)
+  unfolding rowsAt
+  passed-at p (PointAction.Enrol b a x) v _ ok = let k = dated day t _ _ (pass _ _ _ _ ok .1) in (k .calendar, k .on, pass _ _ _ _ (k .rest) .0)
+  passed-at p (PointAction.IntoService s k) v _ ok =
+      let k = dated day t _ _ (pass _ _ _ _ ok .1) in
+      (k .calendar, k .on, neither (notPoint p) _ (pass _ _ _ _ (pass _ _ _ _ (k .rest) .1) .0) .0)
+  passed-at p (PointAction.DefaultSupply k) v _ ok =
+      let k = dated-also day t _ _ _ (pass _ _ _ _ ok .1) .1 in (k .calendar, k .on, neither (notPoint p) _ (pass _ _ _ _ (k .rest) .0) .0)
+  passed-at p (PointAction.Request s k r) v _ ok =
+      let k = dated-also day t _ _ _ (pass _ _ _ _ ok .1) .1 in
+      (k .calendar, k .on, neither (notPoint p) _ (pass _ _ _ _ (pass _ _ _ _ (k .rest) .1) .0) .0)
+  passed-at p (PointAction.Cancel s) v _ ok =
+      let k = dated day t _ _ (pass _ _ _ _ ok .1) in (k .calendar, k .on, neither (notPoint p) _ (pass _ _ _ _ (k .rest) .0) .0)
+  passed-at p (PointAction.Reading d x z) v _ ok =
+      let k = dated-also day t _ _ _ (pass _ _ _ _ ok .1) .1 in (k .calendar, k .on, neither (notPoint p) _ (pass _ _ _ _ (k .rest) .0) .0)
+  passed-at p (PointAction.MeterChange x z b a y) v _ ok =
+      let k = dated day t _ _ (pass _ _ _ _ ok .1) in (k .calendar, k .on, neither (notPoint p) _ (pass _ _ _ _ (k .rest) .0) .0)
+  passed-at p PointAction.OutOfService v _ ok =
+      let k = dated day t _ _ ok in (k .calendar, k .on, neither (notPoint p) _ (pass _ _ _ _ (k .rest) .0) .0)
+  passed-at p (PointAction.Suspend m) v _ ok =
+      let k = dated day t _ _ (pass _ _ _ _ ok .1) in (k .calendar, k .on, neither (notPoint p) _ (pass _ _ _ _ (k .rest) .0) .0)
+
+  -- The day of an accepted call lies in the calendar, and not before the register's.
+  pub passed : (a : Action) (v : ℕ → View) → isAccepted (answerTo S day u t a v) ≡ true → (t ≤ lastDay) × (day ≤ t)
+  unfolding answerTo rows
+  passed (Action.Contract s) v ok = let k = dated day t _ _ (pass _ _ _ _ ok .1) in (k .calendar, k .on)
+  passed (Action.Failure s) v ok = let k = dated-also day t _ _ _ (pass _ _ _ _ ok .1) .1 in (k .calendar, k .on)
+  passed (Action.At p a) v ok = let k = passed-at p a (v p) _ ok in (k .0, k .1)
+  passed Action.Day v ok = let k = dated day t _ _ ok in (k .calendar, k .on)
+
+  -- The point that an accepted call names is one of 1 to 32.
+  pub accepted-point : (p : ℕ) (a : PointAction) (v : ℕ → View) → isAccepted (answerTo S day u t (Action.At p a) v) ≡ true
+      → (t ≤ lastDay) × (1 ≤ p) × (p ≤ 32)
+  unfolding answerTo rows
+  accepted-point p a v ok =
+      let w = passed-at p a (v p) _ ok in
+      let k = neither (ltb p 1) (ltb 32 p) (w .2) in
+      (w .0, ltb-false p 1 (k .0), ltb-false 32 p (k .1))

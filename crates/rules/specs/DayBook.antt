@@ -10,15 +10,12 @@
 use mathlib.Core.Bool.{Bool, true, false, cond}
 use mathlib.Core.List.{List, [], _∷_, _++_}
 use Prim.Native.Nat.{ℕ, zero, suc, _-_}
-use lib.Dec.{eqb}
 use lib.ListN.{set}
 use Rattle.rules.specs.declared.{Fields.Fields, Settings.Settings, Span.Span, Opening.Opening, Call.Call}
-use Rattle.rules.specs.declared.{Action.Action, PointAction.PointAction, Answer.Answer}
+use Rattle.rules.specs.declared.{Action.Action, Answer.Answer, Effect.Effect, View.View}
 use Rattle.rules.specs.Fields.{blank}
-use Rattle.rules.specs.Effects.{Effect, keep, name, event, effect}
-use Rattle.rules.specs.Volumes.{spans}
+use Rattle.rules.specs.Effects.{fieldsOf, names, spansIn, enrols, event, effect}
 use Rattle.rules.specs.Answers.{isAccepted}
-use Rattle.rules.specs.declared.{View.View}
 use Rattle.rules.specs.Rejections.{answer}
 use Rattle.rules.specs.Opening.{settingsOf, firstContracts}
 
@@ -44,8 +41,8 @@ overwritten h (cell d k m ∷ cs) = cell d h true ∷ cs
 
 -- "Wherever an event or an accepted call names a holder, even the present one"
 abbrev pub written : Effect → List Cell → Page
-written (keep f) cs = record { fields = f; cells = cs }
-written (name f) cs = record { fields = f; cells = overwritten (f .supply .holder) cs }
+written e cs =
+    record { fields = fieldsOf e; cells = cond (names e) (overwritten (fieldsOf e .supply .holder) cs) cs }
 
 -- "On each new day the cell takes the holder, unmarked; then, per point:" the event of the day.
 unfoldable pub newDay : Settings → ℕ → Page → Page
@@ -121,34 +118,18 @@ opened o =
       page = λ p. record { fields = blank; cells = cell (o .day) 0 false ∷ [] };
     }
 
+-- What an accepted call does to point p, today.
+abbrev pub does : Book → Call → ℕ → Effect
+does b c p = effect (b .settings) (c .today) (c .action) p (upToDay (c .today) b .page p .fields)
+
 -- The readings of point p that the list's accepted calls make, in their order.
 unfoldable pub readings : Book → List Call → ℕ → List Span
 readings b [] p = []
-readings b (c ∷ cs) p =
-    cond (isAccepted (says b c)) (spans (c .today) (c .action) p (upToDay (c .today) b .page p .fields)) []
-    ++ readings (next b c) cs p
+readings b (c ∷ cs) p = cond (isAccepted (says b c)) (spansIn (does b c p)) [] ++ readings (next b c) cs p
 
 -- "A point's enrolment is the day of its accepted call 3."
-unfoldable pub enrolsAt : PointAction → Bool
-enrolsAt (PointAction.Enrol b a x) = true
-enrolsAt (PointAction.IntoService s k) = false
-enrolsAt (PointAction.DefaultSupply k) = false
-enrolsAt (PointAction.Request s k r) = false
-enrolsAt (PointAction.Cancel s) = false
-enrolsAt (PointAction.Reading d x z) = false
-enrolsAt (PointAction.MeterChange x z b a y) = false
-enrolsAt PointAction.OutOfService = false
-enrolsAt (PointAction.Suspend m) = false
-
-unfoldable pub enrols : Action → ℕ → Bool
-enrols (Action.Contract s) p = false
-enrols (Action.Failure s) p = false
-enrols (Action.At q a) p = cond (eqb p q) (enrolsAt a) false
-enrols Action.Day p = false
-
--- The days of the accepted enrolments of point p.
 unfoldable pub enrolments : Book → List Call → ℕ → List ℕ
 enrolments b [] p = []
 enrolments b (c ∷ cs) p =
-    cond (isAccepted (says b c)) (cond (enrols (c .action) p) (c .today ∷ []) []) []
+    cond (isAccepted (says b c)) (cond (enrols (does b c p)) (c .today ∷ []) []) []
     ++ enrolments (next b c) cs p

@@ -16,14 +16,13 @@ use lib.ListN.{getD, set, replicate}
 use Rattle.rules.specs.declared.{Period.Period, History.History, Point.Point, Register.Register}
 use Rattle.rules.specs.declared.{Settings.Settings, SupplyKind.SupplyKind, Pending.Pending, Due.Due, Span.Span}
 use Rattle.rules.specs.declared.{Opening.Opening, Call.Call, Action.Action, PointAction.PointAction}
-use Rattle.rules.specs.declared.{Answer.Answer, Outcome.Outcome}
+use Rattle.rules.specs.declared.{Answer.Answer, Outcome.Outcome, Effect.Effect, View.View}
 use Rattle.rules.specs.declared.Pending.the-variants as pending
 use Rattle.rules.specs.declared.Due.the-variants as event
 use Rattle.rules.specs.Fields.{supply, withSupply, blank}
-use Rattle.rules.specs.Effects.{Effect, keep, name, effectOf, failed}
-use Rattle.rules.specs.Volumes.{upTo, spansOf}
+use Rattle.rules.specs.Effects.{fieldsOf, names, spansIn, effectOf, failed}
+use Rattle.rules.specs.Volumes.{given}
 use Rattle.rules.specs.Answers.{isAccepted}
-use Rattle.rules.specs.declared.{View.View}
 use Rattle.rules.specs.Rejections.{answer}
 use Rattle.rules.specs.Opening.{settingsOf, firstContracts}
 
@@ -56,9 +55,34 @@ appended d s h = cond (ltb (used h) 24) (history (used h + 1) (set (h .periods) 
 unfoldable pub named : ℕ → ℕ → History → History
 named d s h = cond (startsOn d h) (replaced d s h) (appended d s h)
 
+-- A period that ends before day e gets what the reading has given before e, less what it had given before the
+-- period's start.
+unfoldable pub bookedPeriod : (ℕ → ℕ) → ℕ → Period → Period
+bookedPeriod given e q = period (q .start) (q .holder) ((q .volume + (given e - given (q .start))) % 2 ^ 64)
+
+-- The first n slots, the newest first; done with the period that holds the reading's first day. e is where the n-th
+-- ends.
+unfoldable pub bookedSlots : (ℕ → ℕ) → ℕ → ℕ → ℕ → List Period → List Period
+bookedSlots given from e zero ps = ps
+bookedSlots given from e (suc n) ps =
+    cond (leb (getD ps n noPeriod .start) from)
+    (set ps n (bookedPeriod given e (getD ps n noPeriod)))
+    (bookedSlots given from (getD ps n noPeriod .start) n (set ps n (bookedPeriod given e (getD ps n noPeriod))))
+
+unfoldable pub booked : Span → History → History
+booked s h = history (h .count) (bookedSlots (given s) (s .from) (s .to) (used h) (h .periods))
+
+abbrev pub bookedAll : List Span → History → History
+bookedAll [] h = h
+bookedAll (s ∷ l) h = bookedAll l (booked s h)
+
+-- An effect on a day: its readings are booked, then its holder is named.
 abbrev pub entered : ℕ → Effect → History → Point
-entered d (keep f) h = record { fields = f; history = h }
-entered d (name f) h = record { fields = f; history = named d (f .supply .holder) h }
+entered d e h =
+    record {
+      fields = fieldsOf e;
+      history = cond (names e) (named d (fieldsOf e .supply .holder) (bookedAll (spansIn e) h)) (bookedAll (spansIn e) h);
+    }
 
 -- What ends a supply kind by day t.
 unfoldable pub expiryBy : Settings → ℕ → SupplyKind → Due
@@ -83,10 +107,10 @@ dueBy S t k (pending.Request s e) =
 
 unfoldable pub happened : Due → Point → Point
 happened event.Nothing g = g
-happened (event.Switch d h k) g = entered d (name (withSupply (g .fields) (supply h k pending.Nothing))) (g .history)
+happened (event.Switch d h k) g = entered d (Effect.Name (withSupply (g .fields) (supply h k pending.Nothing))) (g .history)
 happened (event.Fallback d h k) g =
-    entered d (name (withSupply (g .fields) (supply h k (g .fields .supply .pending)))) (g .history)
-happened (event.End d h k) g = entered d (name (withSupply (g .fields) (supply h k pending.Nothing))) (g .history)
+    entered d (Effect.Name (withSupply (g .fields) (supply h k (g .fields .supply .pending)))) (g .history)
+happened (event.End d h k) g = entered d (Effect.Name (withSupply (g .fields) (supply h k pending.Nothing))) (g .history)
 
 unfoldable pub nextEvent : Settings → ℕ → Point → Point
 nextEvent S t g = happened (dueBy S t (g .fields .supply .kind) (g .fields .supply .pending)) g
@@ -95,31 +119,6 @@ nextEvent S t g = happened (dueBy S t (g .fields .supply .kind) (g .fields .supp
 -- the most.
 unfoldable pub catchUp : Settings → ℕ → Point → Point
 catchUp S t g = nextEvent S t (nextEvent S t g)
-
--- What a reading gives to the days before day d: floor(V × k / D) at the days of the reading that lie before d.
-unfoldable pub sharesBefore : Span → ℕ → ℕ
-sharesBefore s d = upTo s (min (d - s .from) (s .to - s .from))
-
--- A period that ends before day e gets the difference of two floors, times U.
-unfoldable pub bookedPeriod : Span → ℕ → Period → Period
-bookedPeriod s e q =
-    period (q .start) (q .holder) ((q .volume + (sharesBefore s e - sharesBefore s (q .start)) * s .unit) % 2 ^ 64)
-
--- The first n slots, the newest first; done with the period that holds the reading's first day. e is where the n-th
--- ends.
-unfoldable pub bookedSlots : Span → ℕ → ℕ → List Period → List Period
-bookedSlots s e zero ps = ps
-bookedSlots s e (suc n) ps =
-    cond (leb (getD ps n noPeriod .start) (s .from))
-    (set ps n (bookedPeriod s e (getD ps n noPeriod)))
-    (bookedSlots s (getD ps n noPeriod .start) n (set ps n (bookedPeriod s e (getD ps n noPeriod))))
-
-unfoldable pub booked : Span → History → History
-booked s h = history (h .count) (bookedSlots s (s .to) (used h) (h .periods))
-
-abbrev pub bookedAll : List Span → History → History
-bookedAll [] h = h
-bookedAll (s ∷ l) h = bookedAll l (booked s h)
 
 abbrev pub view : ℕ → Point → View
 view t g = record { fields = g .fields; marks = used (g .history); marked = startsOn t (g .history) }
@@ -146,9 +145,9 @@ unfoldable pub says : Register → Call → Answer
 says r c =
     answer (r .settings) (r .day) (r .contracts) c (λ p. view (c .today) (pointAt p (advanced (c .today) r .points)))
 
--- A call that names a point, there: readings are booked, then the effect.
+-- A call that names a point, there.
 unfoldable pub acted : Settings → ℕ → PointAction → Point → Point
-acted S t a g = entered t (effectOf S t a (g .fields)) (bookedAll (spansOf t a (g .fields)) (g .history))
+acted S t a g = entered t (effectOf S t a (g .fields)) (g .history)
 
 -- A failure, at any point.
 unfoldable pub failedPoint : Settings → ℕ → ℕ → Point → Point

@@ -2,18 +2,19 @@
 -- gives. Definitions only.
 --
 -- Span        a reading from the day of the last one to its own: V and U with the two days
+-- given       what a reading has given before a day
 -- dayVolume   the volume of one gas day by one reading; `volume`: by all readings of a list
 -- registered  the registered advance: the sum of V × U
 use mathlib.Core.Bool.{cond, _&&_}
 use mathlib.Core.List.{List, [], _∷_}
 use Prim.Native.Nat.{ℕ, suc, _+_, _-_, _*_, _/_, _^_, min}
-use lib.Dec.{eqb, leb, ltb}
-use Rattle.rules.specs.declared.{Fields.Fields, Meter.Meter, Span.Span, Action.Action, PointAction.PointAction}
+use lib.Dec.{leb, ltb}
+use Rattle.rules.specs.declared.{Fields.Fields, Meter.Meter, Span.Span}
 
--- 10^w, "w their sum". No accepted meter has more than 8 + 3 wheels; past that the turn stays 10^11, so that it is
--- small for any value.
+-- 10^w, "w their sum". No accepted meter has more than 8 and 3 wheels; past that the turn stays as with 8 and 3, so
+-- that the turn times U is at most 10^11 for any value.
 unfoldable pub fullTurn : Meter → ℕ
-fullTurn m = 10 ^ min (m .before + m .after) 11
+fullTurn m = 10 ^ (min (m .before) 8 + min (m .after) 3)
 
 -- "U = 10^(3 − wheels after the comma) of the meter read"
 unfoldable pub unitOf : Meter → ℕ
@@ -41,6 +42,10 @@ upTo s k = s .advance * k / (s .to - s .from)
 unfoldable pub share : Span → ℕ → ℕ
 share s k = upTo s (suc k) - upTo s k
 
+-- What a reading has given before day d: floor(V × k / D) × U, with the k days of the reading that lie before d.
+unfoldable pub given : Span → ℕ → ℕ
+given s d = upTo s (min (d - s .from) (s .to - s .from)) * s .unit
+
 -- "Its volume is the share times U"; a reading gives the days before it and from it on nothing.
 unfoldable pub dayVolume : Span → ℕ → ℕ
 dayVolume s d = cond (leb (s .from) d && ltb d (s .to)) (share s (d - s .from) * s .unit) 0
@@ -53,22 +58,3 @@ volume (s ∷ l) d = dayVolume s d + volume l d
 unfoldable pub registered : List Span → ℕ
 registered [] = 0
 registered (s ∷ l) = s .advance * s .unit + registered l
-
--- The readings that an accepted call makes at the point that it names, whose fields are f: none or one.
-unfoldable pub spansOf : ℕ → PointAction → Fields → List Span
-spansOf t (PointAction.Enrol b a x) f = []
-spansOf t (PointAction.IntoService s k) f = []
-spansOf t (PointAction.DefaultSupply k) f = []
-spansOf t (PointAction.Request s k r) f = []
-spansOf t (PointAction.Cancel s) f = []
-spansOf t (PointAction.Reading d x z) f = spanTo f d x z ∷ []
-spansOf t (PointAction.MeterChange x z b a y) f = spanTo f t x z ∷ []
-spansOf t PointAction.OutOfService f = []
-spansOf t (PointAction.Suspend m) f = []
-
--- The same at point p.
-unfoldable pub spans : ℕ → Action → ℕ → Fields → List Span
-spans t (Action.Contract s) p f = []
-spans t (Action.Failure s) p f = []
-spans t (Action.At q a) p f = cond (eqb p q) (spansOf t a f) []
-spans t Action.Day p f = []

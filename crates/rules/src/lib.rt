@@ -196,6 +196,20 @@ pub struct Span {
     pub unit: u64,
 }
 
+// What an event or an accepted call does to a point: the fields after it, and what goes with them.
+pub enum Effect {
+    // No holder is named.
+    Keep(Fields),
+    // The fields' holder is named.
+    Name(Fields),
+    // The point is enrolled, and the fields' holder is named.
+    Enrol(Fields),
+    // A reading is booked.
+    Read(Span, Fields),
+    // A request waits for its day, which the answer carries.
+    Request(u32, Fields),
+}
+
 // The answers to questions; a question off its range is refused.
 pub enum HolderAnswer {
     Holder(u8),

@@ -1,24 +1,47 @@
 -- The rows of default supply, in order.
-use mathlib.Core.Path.{refl}
+use mathlib.Core.Path.{refl, _≡_}
+use Prim.Native.Nat.{_+_}
+use native.Mathlib.Omega.{arith}
 use borrow.Author.Needs.{needs}
+use Rattle.rules.specs.Effects.{effectOf}
+use Rattle.rules.specs.Rejections.{rowsAt}
+use Rattle.point_answers.specs.Between.{answerAt}
 use Rattle.point_answers.proofs.Folded.{through, allRefuse, folded}
 use Rattle.point_answers.proofs.rows.default_supply.Statement.{statement}
 use Rattle.point_answers.proofs.rows.default_supply.Tie as tie
 
 returns : tie.Need-returns
-unfolding through allRefuse
+unfolding through allRefuse answerAt rowsAt effectOf
 returns c =
-    let r24 = c .before .before in
-    let r2 = r24 .before .before in
+    let k1 = c .before in
+    let k2 = k1 .before in
+    let k4 = k2 .before .before in
+    let k5 = k4 .before in
+    let k6 = k5 .before in
+    let k9 = k6 .before .before .before in
+    let k10 = k9 .before in
+    let k11 = k10 .before in
+    let k12 = k11 .before in
+    let s = k12 .before .before .before .before .before .before .before .args .x in
+    let sum : s .today + (s .settings .a + s .settings .b) ≡ s .today + s .settings .a + s .settings .b = omega arith in
     rw (
-      c .row3 .ensures,
-      c .before .is-full .ensures,
-      r24 .row2 .ensures,
-      r2 .row .ensures,
-      r2 .before .not-enrolled .ensures,
-    ) (folded _ _ refl refl)
+      c .row6 .ensures,
+      k1 .is-full .ensures,
+      k2 .row5 .ensures,
+      k4 .row4 .ensures,
+      k5 .not-enrolled .ensures,
+      k6 .row3 .ensures,
+      k9 .row2 .ensures,
+      k10 .sum-past .ensures,
+      k11 .row .ensures,
+      k12 .outside .ensures,
+      sum,
+    )
+    (folded _ _ refl refl)
 
 pub default-supply-spec : {M : Type 1} → statement M
 default-supply-spec =
-    tie.close (tie.spec (λ c. search needs) (λ c. search needs) (λ c κs. search needs) (λ c κs. search needs) (λ c κs. search needs)
+    tie.close (tie.spec (λ c. search needs) (λ c. search needs) (λ c. search needs) (λ c κs. search needs)
+    (λ c κs. search needs) (λ c κs. search needs) (λ c κs. search needs) (λ c. search needs)
+    (λ c κs. search needs) (λ c κs. search needs) (λ c κs. search needs) (λ c κs. search needs)
     (λ c κs. search needs) (λ c κs. search needs) returns)

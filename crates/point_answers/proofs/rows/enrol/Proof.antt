@@ -1,24 +1,41 @@
 -- The rows of an enrolment, in order.
 use mathlib.Core.Path.{refl}
 use borrow.Author.Needs.{needs}
+use Rattle.rules.specs.Effects.{effectOf}
+use Rattle.rules.specs.Rejections.{rowsAt}
+use Rattle.point_answers.specs.Between.{answerAt}
 use Rattle.point_answers.proofs.Folded.{through, allRefuse, folded}
 use Rattle.point_answers.proofs.rows.enrol.Statement.{statement}
 use Rattle.point_answers.proofs.rows.enrol.Tie as tie
 
 returns : tie.Need-returns
-unfolding through allRefuse
+unfolding through allRefuse answerAt rowsAt effectOf
 returns c =
-    let r23 = c .before .before in
-    let r2 = r23 .before in
+    let k1 = c .before in
+    let k2 = k1 .before in
+    let k3 = k2 .before in
+    let k4 = k3 .before in
+    let k5 = k4 .before in
+    let k8 = k5 .before .before .before in
+    let k9 = k8 .before in
+    let k10 = k9 .before in
+    let k11 = k10 .before in
     rw (
-      c .row3 .ensures,
-      c .before .full-turn .ensures,
-      r23 .row2 .ensures,
-      r2 .row .ensures,
-      r2 .before .outside .ensures,
-    ) (folded _ _ refl refl)
+      c .row6 .ensures,
+      k1 .full-turn .ensures,
+      k2 .row5 .ensures,
+      k3 .row4 .ensures,
+      k4 .outside .ensures,
+      k5 .row3 .ensures,
+      k8 .row2 .ensures,
+      k9 .is-past .ensures,
+      k10 .row .ensures,
+      k11 .not-wheels .ensures,
+    )
+    (folded _ _ refl refl)
 
 pub enrol-spec : {M : Type 1} → statement M
 enrol-spec =
-    tie.close (tie.spec (λ c. search needs) (λ c. search needs) (λ c κs. search needs) (λ c κs. search needs) (λ c κs. search needs)
-    (λ c κs. search needs) (λ c κs. search needs) returns)
+    tie.close (tie.spec (λ c κs. search needs) (λ c κs. search needs) (λ c κs. search needs)
+    (λ c κs. search needs) (λ c. search needs) (λ c κs. search needs) (λ c κs. search needs)
+    (λ c κs. search needs) (λ c κs. search needs) (λ c κs. search needs) (λ c κs. search needs) returns)

@@ -1,24 +1,37 @@
--- The rows of out of service, in order.
+-- The rows of a point going out of service, in order.
 use mathlib.Core.Path.{refl}
 use borrow.Author.Needs.{needs}
+use Rattle.rules.specs.Effects.{effectOf}
+use Rattle.rules.specs.Rejections.{rowsAt}
+use Rattle.point_answers.specs.Between.{answerAt}
 use Rattle.point_answers.proofs.Folded.{through, allRefuse, folded}
 use Rattle.point_answers.proofs.rows.out_of_service.Statement.{statement}
 use Rattle.point_answers.proofs.rows.out_of_service.Tie as tie
 
 returns : tie.Need-returns
-unfolding through allRefuse
+unfolding through allRefuse answerAt rowsAt effectOf
 returns c =
-    let r6 = c .before .before in
-    let r2 = r6 .before .before in
+    let k1 = c .before in
+    let k2 = k1 .before in
+    let k4 = k2 .before .before in
+    let k5 = k4 .before in
+    let k6 = k5 .before in
+    let k9 = k6 .before .before .before in
+    let k10 = k9 .before in
     rw (
-      c .row3 .ensures,
-      c .before .is-full .ensures,
-      r6 .row2 .ensures,
-      r2 .row .ensures,
-      r2 .before .not-enrolled .ensures,
-    ) (folded _ _ refl refl)
+      c .row5 .ensures,
+      k1 .is-full .ensures,
+      k2 .row4 .ensures,
+      k4 .row3 .ensures,
+      k5 .not-enrolled .ensures,
+      k6 .row2 .ensures,
+      k9 .row .ensures,
+      k10 .is-past .ensures,
+    )
+    (folded _ _ refl refl)
 
 pub out-of-service-spec : {M : Type 1} → statement M
 out-of-service-spec =
-    tie.close (tie.spec (λ c κs. search needs) (λ c κs. search needs) (λ c κs. search needs) (λ c κs. search needs) (λ c κs. search needs)
-    returns)
+    tie.close (tie.spec (λ c κs. search needs) (λ c κs. search needs) (λ c. search needs) (λ c κs. search needs)
+    (λ c κs. search needs) (λ c κs. search needs) (λ c κs. search needs) (λ c κs. search needs)
+    (λ c κs. search needs) returns)

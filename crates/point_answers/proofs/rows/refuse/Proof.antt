@@ -1,6 +1,6 @@
 -- The first refusal stays.
 use borrow.Author.Needs.{needs}
-use Rattle.point_answers.specs.Rows.{after}
+use Rattle.point_answers.specs.Between.{after}
 use Rattle.point_answers.proofs.Folded.{passed-by}
 use Rattle.point_answers.proofs.rows.refuse.Statement.{statement}
 use Rattle.point_answers.proofs.rows.refuse.Tie as tie

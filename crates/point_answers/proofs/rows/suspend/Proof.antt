@@ -1,11 +1,35 @@
--- The row of a suspension.
+-- The rows of a suspension, in order.
 use mathlib.Core.Path.{refl}
 use borrow.Author.Needs.{needs}
+use Rattle.rules.specs.Effects.{effectOf}
+use Rattle.rules.specs.Rejections.{rowsAt}
+use Rattle.point_answers.specs.Between.{answerAt}
 use Rattle.point_answers.proofs.Folded.{through, allRefuse, folded}
 use Rattle.point_answers.proofs.rows.suspend.Statement.{statement}
 use Rattle.point_answers.proofs.rows.suspend.Tie as tie
 
+returns : tie.Need-returns
+unfolding through allRefuse answerAt rowsAt effectOf
+returns c =
+    let k1 = c .before in
+    let k2 = k1 .before in
+    let k5 = k2 .before .before .before in
+    let k6 = k5 .before in
+    let k7 = k6 .before in
+    let k8 = k7 .before in
+    rw (
+      c .row4 .ensures,
+      k1 .not-enrolled .ensures,
+      k2 .row3 .ensures,
+      k5 .row2 .ensures,
+      k6 .is-past .ensures,
+      k7 .row .ensures,
+      k8 .outside .ensures,
+    )
+    (folded _ _ refl refl)
+
 pub suspend-spec : {M : Type 1} → statement M
 suspend-spec =
-    tie.close (tie.spec (λ c κs. search needs) (λ c κs. search needs)
-    (λ c. unfold through allRefuse in rw (c .row .ensures, c .before .not-enrolled .ensures) (folded _ _ refl refl)))
+    tie.close (tie.spec (λ c κs. search needs) (λ c κs. search needs) (λ c κs. search needs)
+    (λ c κs. search needs) (λ c. search needs) (λ c κs. search needs) (λ c κs. search needs)
+    (λ c κs. search needs) returns)

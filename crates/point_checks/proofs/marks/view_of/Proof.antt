@@ -8,11 +8,11 @@ use Rattle.point_checks.proofs.marks.view_of.Tie as tie
 
 returns : tie.Need-returns
 unfolding startsOn
-returns c = rw (← (c .before .marks .ensures), c .if1 .taken)
+returns c = rw (← (c .before .period-count .ensures), c .if1 .taken)
 
 returns-2 : tie.Need-returns-2
 unfolding startsOn
-returns-2 c = let n = c .before .before .before .marks in rw (← (n .ensures), lt-ltb 0 (n .result) (omega arith))
+returns-2 c = let n = c .before .before .before .period-count in rw (← (n .ensures), lt-ltb 0 (n .result) (omega arith))
 
 pub view-of-spec : {M : Type 1} → statement M
 view-of-spec =

@@ -1,4 +1,4 @@
--- The requests of one supplier are dropped, others stay.
+-- The request that is left.
 use borrow.Author.Tests.{eq-eqb, ne-eqb}
 use borrow.Author.Needs.{needs}
 use Rattle.point_effects.proofs.effects.dropped.Statement.{statement}
@@ -6,6 +6,6 @@ use Rattle.point_effects.proofs.effects.dropped.Tie as tie
 
 pub dropped-spec : {M : Type 1} → statement M
 dropped-spec =
-    tie.close (tie.spec (λ c. search needs) (λ c. search needs) (λ c. rw (c .enum-told .given .1))
+    tie.close (tie.spec (λ c. search needs) (λ c. search needs) (λ c. search needs) (λ c. search needs)
     (λ c. rw (c .before .before .q .given .1, eq-eqb _ _ (c .if1 .taken)))
     (λ c. rw (c .before .before .q .given .1, ne-eqb _ _ (c .if1 .left))))

@@ -1,7 +1,7 @@
 -- Catching up: two events, on the calendar.
 use borrow.Author.Tests.{le-leb, lt-leb}
 use Rattle.rules.specs.Register.{catchUp}
-use Rattle.point_effects.specs.Turn.{caughtUp}
+use Rattle.point_effects.specs.Between.{caughtUp}
 use borrow.Author.Needs.{needs}
 use Rattle.point_effects.proofs.events.catch_up.Statement.{statement}
 use Rattle.point_effects.proofs.events.catch_up.Tie as tie

@@ -1,45 +1,58 @@
 -- The points are looked at in turn: what is left to look at decides.
 use mathlib.Core.Bool.{Bool}
-use Rattle.register.proofs.Search.{point-next}
 use mathlib.Core.Path.{_≡_, refl, sym, _∙_, ap}
 use Prim.Native.Nat.{ℕ, _≤_, _-_, _+_}
 use native.Mathlib.Omega.{arith}
+use Rattle.rules.specs.declared.{Settings.Settings}
 use Rattle.rules.specs.Rejections.{anyPoint}
 use Rattle.rules.specs.Register.{pointAt}
-use Rattle.point_effects.specs.Turn.{failureFills}
-use Rattle.register.proofs.Search.{any-found, any-passed, any-none}
+use Rattle.register.specs.Calls.{failureFills}
+use Rattle.register.proofs.Search.{point-next, any-found, any-passed, any-none}
 use borrow.Author.Needs.{needs}
 use Rattle.register.proofs.points.any_filled.Statement.{statement}
 use Rattle.register.proofs.points.any_filled.Tie as tie
 
 abbrev Inv-loop : tie.InvT-loop
-Inv-loop set t s ps i₀ i =
-    (i ≤ 32) × (anyPoint 1 32 (λ p. failureFills set t s (pointAt p ps)) ≡ anyPoint (i + 1) (32 - i) (λ p. failureFills set t s (pointAt p ps)))
+Inv-loop t s ps i₀ i =
+    (i ≤ 32) × ((S : Settings) → anyPoint 1 32 (λ p. failureFills S t s (pointAt p ps)) ≡ anyPoint (i + 1) (32 - i) (λ p. failureFills S t s (pointAt p ps)))
 
 abbrev μ-loop : tie.MeasureT-loop
-μ-loop set t s ps i₀ i = 32 - i
+μ-loop t s ps i₀ i = 32 - i
 
 returns : tie.Need-returns Inv-loop μ-loop
-returns c = let a = c .before .before .before .before .before .args in let i = c .before .before .before .before .loop .k in
-    let f : ℕ → Bool = λ p. failureFills (a .set) (a .t) (a .s) (pointAt p (a .t4)) in
-    sym (c .before .before .before .before .loop .inv .1 ∙ any-found f (i + 1) (32 - i) (omega arith)
-    (rw (point-next (a .t4) i) (sym (c .before .failure-fills .ensures) ∙ c .if1 .taken)))
+unfolding failureFills
+returns c = λ S.
+    let seen = c .before .before in
+    let l = seen .before .before .before in
+    let a = l .before .args in
+    let i = l .loop .k in
+    let f : ℕ → Bool = λ p. failureFills S (a .t) (a .s) (pointAt p (a .t3)) in
+    sym (l .loop .inv .1 S ∙ any-found f (i + 1) (32 - i) (omega arith)
+    (rw (point-next (a .t3) i) (rw (seen .view-of .ensures) at (sym (c .before .fills .ensures S (a .t))) ∙ c .if1 .taken)))
 
 loop-again : tie.Need-loop-again Inv-loop μ-loop
-loop-again c = let a = c .before .before .before .before .before .args in let i = c .before .before .before .before .loop .k in
-    let f : ℕ → Bool = λ p. failureFills (a .set) (a .t) (a .s) (pointAt p (a .t4)) in (
-      search needs,
-      c .before .before .before .before .loop .inv .1 ∙ any-passed f i (omega arith)
-          (rw (point-next (a .t4) i) (sym (c .before .failure-fills .ensures) ∙ c .if1 .left)),
-    )
+unfolding failureFills
+loop-again c = (
+  search needs,
+  λ S.
+      let seen = c .before .before in
+      let l = seen .before .before .before in
+      let a = l .before .args in
+      let i = l .loop .k in
+      let f : ℕ → Bool = λ p. failureFills S (a .t) (a .s) (pointAt p (a .t3)) in
+      l .loop .inv .1 S ∙ any-passed f i (omega arith)
+      (rw (point-next (a .t3) i) (rw (seen .view-of .ensures) at (sym (c .before .fills .ensures S (a .t))) ∙ c .if1 .left)),
+)
 
 returns-2 : tie.Need-returns-2 Inv-loop μ-loop
-returns-2 c = let a = c .before .before .args in let i = c .before .loop .k in
-    let f : ℕ → Bool = λ p. failureFills (a .set) (a .t) (a .s) (pointAt p (a .t4)) in
+returns-2 c = λ S.
+    let a = c .before .before .args in
+    let i = c .before .loop .k in
+    let f : ℕ → Bool = λ p. failureFills S (a .t) (a .s) (pointAt p (a .t3)) in
     let z : 32 - i ≡ 0 = omega arith in
-    sym (c .before .loop .inv .1 ∙ ap (λ (n : ℕ). anyPoint (i + 1) n f) z ∙ any-none f (i + 1))
+    sym (c .before .loop .inv .1 S ∙ ap (λ (n : ℕ). anyPoint (i + 1) n f) z ∙ any-none f (i + 1))
 
 pub any-filled-spec : {M : Type 1} → statement M
 any-filled-spec =
-    tie.close (tie.spec Inv-loop μ-loop (λ c. (search needs, refl)) (λ c. search needs) (λ c. search needs)
-    (λ c κs. search needs) returns (λ c. search needs) (λ c. search needs) loop-again returns-2)
+    tie.close (tie.spec Inv-loop μ-loop (λ c. (search needs, λ S. refl)) (λ c. search needs) (λ c. search needs)
+    (λ c κs. search needs) (λ c κs. search needs) returns (λ c. search needs) (λ c. search needs) loop-again returns-2)

@@ -1,0 +1,43 @@
+// The rows of the table for the calls that name no point, in the order of the numbers.
+use crate::rows::row;
+use point_checks::is_past;
+use point_checks::no_contract;
+use point_checks::or;
+use point_checks::outside;
+use point_checks::sum_past;
+use rules::Action;
+use rules::Answer;
+use rules::Settings;
+use rules::View;
+ghost use mathlib.Core.Path.{_≡_};
+ghost use mathlib.Core.Bool.{Bool};
+ghost use mathlib.Core.List.{List};
+ghost use Prim.Native.Nat.{ℕ};
+ghost use Rattle.rules.specs.Rejections.{firstOf, answerTo};
+ghost use Rattle.point_answers.specs.Between.{failureRows};
+
+pub fn contract_answer(day: u32, today: u64, s: u64) -> Answer
+    ensures { λ r. ⌜ ((S : Settings) (u : List Bool) (v : ℕ → View) → r ≡ answerTo S day u today (Action.Contract s) v) ⌝ }
+{
+    let a = row(Answer::Accepted, outside(1, 99, s), 22);
+    let a = row(a, is_past(today), 20);
+    row(a, today < day as u64, 21)
+}
+
+pub fn day_answer(day: u32, today: u64) -> Answer
+    ensures { λ r. ⌜ ((S : Settings) (u : List Bool) (v : ℕ → View) → r ≡ answerTo S day u today Action.Day v) ⌝ }
+{
+    let a = row(Answer::Accepted, is_past(today), 20);
+    row(a, today < day as u64, 21)
+}
+
+// The rows of a failure before number 30, which looks at every point.
+pub fn failure_rows(set: Settings, day: u32, contracts: [bool; 100], today: u64, s: u64) -> Answer
+    ensures { λ r. ⌜ r ≡ firstOf (failureRows set day contracts today s) Answer.Accepted ⌝ }
+{
+    let a = row(Answer::Accepted, outside(1, 99, s), 22);
+    let a = row(a, sum_past(today, set.b as u64), 20);
+    let a = row(a, today < day as u64, 21);
+    let a = row(a, no_contract(contracts, s), 1);
+    row(a, or(s == set.default as u64, s == set.resort as u64), 29)
+}

@@ -1,0 +1,6 @@
+pub mod Powers
+pub mod Given
+pub mod Slots
+pub mod Fairness
+pub mod Newest
+pub mod Readings

@@ -1,0 +1,24 @@
+-- The largest full turn and unit, and that a turn is at most 10^11 thousandths of a cubic metre, whatever the wheels.
+use Prim.Native.Nat.{ℕ, _+_, _-_, _*_, _^_, _≤_, min}
+use native.Mathlib.Omega.{arith}
+use native.Mathlib.Nat.{pow-le-pow-right}
+use lib.Pow.{pow-add}
+use Rattle.rules.specs.declared.{Meter.Meter}
+use Rattle.rules.specs.Volumes.{fullTurn, unitOf}
+
+power-up : (n k : ℕ) → n ≤ k → 10 ^ n ≤ 10 ^ k
+power-up n k h = pow-le-pow-right (omega arith) h
+
+pub turn-most : (m : Meter) → fullTurn m ≤ 10 ^ 11
+unfolding fullTurn
+turn-most m = power-up (min (m .before) 8 + min (m .after) 3) 11 (omega arith)
+
+pub unit-most : (m : Meter) → unitOf m ≤ 10 ^ 3
+unfolding unitOf
+unit-most m = power-up (3 - m .after) 3 (omega arith)
+
+pub turn-unit : (m : Meter) → fullTurn m * unitOf m ≤ 10 ^ 11
+unfolding fullTurn unitOf
+turn-unit m =
+    rw (← (pow-add 10 (min (m .before) 8 + min (m .after) 3) (3 - m .after)))
+    (power-up (min (m .before) 8 + min (m .after) 3 + (3 - m .after)) 11 (omega arith))

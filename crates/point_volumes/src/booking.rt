@@ -1,0 +1,106 @@
+// Booking: a period gets what a reading has given before its end, less what it had given before its start.
+use crate::reading::less;
+use point_periods::period_count;
+use rules::History;
+use rules::Period;
+use rules::Span;
+ghost use mathlib.Core.Path.{_≡_};
+ghost use Prim.Native.Nat.{_≤_};
+ghost use Rattle.rules.specs.Volumes.{given as Volumes·given};
+ghost use Rattle.rules.specs.Register.{bookedPeriod, bookedSlots};
+ghost use Rattle.point_volumes.specs.Between.{mostVolume, Fair, isFair, bookedIfFair, bookedNewest};
+
+// What a reading has given before a day.
+fn given(s: Span, day: u32) -> u64
+    requires { ⌜ Fair s ⌝ }
+    ensures { λ r. ⌜ (r ≡ Volumes·given s day) × (r ≤ mostVolume) ⌝ }
+{
+    let from = s.from;
+    let to = s.to;
+    if day <= from {
+        return 0;
+    }
+    if to <= day {
+        return s.advance * s.unit;
+    }
+    ((s.advance * ((day - from) as u64)) / ((to - from) as u64)) * s.unit
+}
+
+// A period that ends before day end gets its days' volumes.
+fn booked_period(s: Span, end: u32, q: Period) -> Period
+    requires { ⌜ Fair s ⌝ }
+    ensures { λ r. ⌜ r ≡ bookedPeriod (Volumes·given s) end q ⌝ }
+{
+    let upto_end = given(s, end);
+    let upto_start = given(s, q.start);
+    Period {
+        start: q.start,
+        holder: q.holder,
+        volume: std::num::wrapping_add_u64(q.volume, less(upto_end, upto_start)),
+    }
+}
+
+// The first n slots, the newest first, down to the period that holds the reading's first day.
+fn book_slots(s: Span, n: usize, ps: [Period; 24]) -> [Period; 24]
+    requires { ⌜ Fair s × (n ≤ 24) ⌝ }
+    ensures { λ r. ⌜ r ≡ bookedSlots (Volumes·given s) (s .from) (s .to) n ps ⌝ }
+{
+    let from = s.from;
+    let mut out = ps;
+    let mut end = s.to;
+    let mut i = n;
+    while 0 < i {
+        let q = out[i - 1];
+        out[i - 1] = booked_period(s, end, q);
+        if q.start <= from {
+            return out;
+        }
+        end = q.start;
+        i -= 1;
+    }
+    out
+}
+
+fn is_fair(s: Span) -> bool
+    ensures { λ r. ⌜ r ≡ isFair s ⌝ }
+{
+    if s.from >= s.to {
+        return false;
+    }
+    if s.to > dates::LAST_DAY {
+        return false;
+    }
+    if s.unit > 1000 {
+        return false;
+    }
+    if s.advance > 200000000000 {
+        return false;
+    }
+    s.advance * s.unit <= 200000000000
+}
+
+// A reading is booked over the periods.
+pub fn book(s: Span, h: History) -> History
+    ensures { λ r. ⌜ r ≡ bookedIfFair s h ⌝ }
+{
+    if !is_fair(s) {
+        return h;
+    }
+    let n = period_count(h);
+    let ps = h.periods;
+    let booked = book_slots(s, n, ps);
+    History {
+        count: h.count,
+        periods: booked,
+    }
+}
+
+// A reading whose days all lie in the newest period is booked on that period alone.
+pub fn book_newest(s: Span, q: Period) -> Period
+    ensures { λ r. ⌜ r ≡ bookedNewest s q ⌝ }
+{
+    if !is_fair(s) {
+        return q;
+    }
+    booked_period(s, s.to, q)
+}

@@ -16,10 +16,11 @@ ghost use Prim.Native.Nat.{ℕ};
 ghost use Rattle.rules.specs.Rejections.{firstOf, answerTo};
 ghost use Rattle.point_answers.specs.Between.{failureRows};
 
-pub fn contract_answer(day: u32, today: u64, s: u64) -> Answer
-    ensures { λ r. ⌜ ((S : Settings) (u : List Bool) (v : ℕ → View) → r ≡ answerTo S day u today (Action.Contract s) v) ⌝ }
+pub fn contract_answer(day: u32, today: u64, supplier: u64) -> Answer
+    ensures { λ r. ⌜ ((S : Settings) (u : List Bool) (v : ℕ → View)
+        → r ≡ answerTo S day u today (Action.Contract supplier) v) ⌝ }
 {
-    let a = row(Answer::Accepted, outside(1, 99, s), 22);
+    let a = row(Answer::Accepted, outside(1, 99, supplier), 22);
     let a = row(a, is_past(today), 20);
     row(a, today < day as u64, 21)
 }

@@ -7,6 +7,7 @@ use Rattle.rules.specs.Examples.{PExamples}
 use Rattle.rules.specs.RowExamples.{RowExamples}
 use Rattle.agreement.specs.Demand3.{DayBookAgrees}
 use Rattle.questions.specs.Asking.{Asking}
+use Rattle.questions.specs.Examples.{QuestionExamples}
 use Rattle.line_values.specs.OneText.{OneText}
 use Rattle.line_messages.specs.OneLine.{OneLine}
 use Rattle.input_lines.specs.Laws.{LinesAre}
@@ -31,6 +32,7 @@ pub record Demands : Type 0 where
   pub day-book-agrees : DayBookAgrees
   -- And so are its questions and its closing lines.
   pub questions : Asking
+  pub question-examples : QuestionExamples
   pub closing-lines : ListingByBook
   -- The programs: the lines of an input; what is handed on for them however the input is cut, which is the day
   -- book's; the desk that `ask` asks; and that handing in the rest again and again takes all of it.

@@ -1,4 +1,4 @@
--- A text that grows behind a position of a buffer, with a bound on its length.
+-- The lines of a point's periods and its total, with a bound on their length.
 use Prim.Native.Nat.{ℕ, _+_, _-_, _*_, _≤_, _<_, _^_}
 use mathlib.Core.Path.{_≡_, refl, sym, ap, _∙_}
 use mathlib.Core.Bool.{Bool, true, false, not}
@@ -8,49 +8,12 @@ use native.Mathlib.Numerals.{add-one}
 use lib.ListN.{length, getD, length-append}
 use Rattle.rules.specs.declared.{Period.Period, Point.Point}
 use Rattle.rules.specs.Register.{noPeriod, used}
-use Rattle.rules.specs.Questions.{sumOf}
-use Rattle.line_text.specs.Appending.{Appended}
-use Rattle.line_text.proofs.Appends.{put-append, put-none, appended, room-put, put-length}
+use Rattle.questions.specs.Questions.{sumOf}
+use Rattle.line_text.specs.Appending.{Appended, AppendedWithin}
+use Rattle.line_text.proofs.Within.{within, within-none, within-more, within-wider}
 use Rattle.line_answers.specs.Answers.{periodLine, totalLine}
 use Rattle.line_answers.proofs.LineTexts.{period-short, total-short}
-use Rattle.line_listing.specs.Listing.{AppendedWithin, periodLines, pointLines}
-
--- nothing is put yet
-pub within-none : (at : ℕ) (o : List ℕ) → at ≤ length o → AppendedWithin 0 at [] o o at
-within-none at o h =
-    record { text = appended at [] o o at (omega arith) (sym (put-none at o)) (omega arith); short = omega arith }
-
--- where there is room for all, one more text is put
-module _ (m k at : ℕ) (t u o o₁ o₂ : List ℕ) (e₁ e₂ : ℕ) where
-  pub within-more : AppendedWithin m at t o o₁ e₁ → Appended e₁ u o₁ o₂ e₂ → length u ≤ k → at + (m + k) ≤ length o →
-      AppendedWithin (m + k) at (t ++ u) o o₂ e₂
-  within-more w a s h =
-      let sum = length-append t u in
-      let short = w .short in
-      let front : at + length t ≤ length o = omega arith in
-      let p = room-put at t o o₁ e₁ (w .text) front in
-      let len : length o₁ ≡ length o = ap length (p .0) ∙ put-length at t o front in
-      let q = room-put e₁ u o₁ o₂ e₂ a (omega (arith, p .1)) in
-      record {
-        text = appended at (t ++ u) o o₂ e₂ (omega arith) (q .0 ∙ rw (p .0, p .1) (put-append at t u o front))
-            (omega (arith, p .1, q .1));
-        short = omega arith;
-      }
-
--- the buffer keeps its length
-pub within-length : (m at : ℕ) (t o o₁ : List ℕ) (e : ℕ) → AppendedWithin m at t o o₁ e → at + m ≤ length o → length
-    o₁ ≡ length o
-within-length m at t o o₁ e w h =
-    let short = w .short in
-    let front : at + length t ≤ length o = omega arith in
-    ap length (room-put at t o o₁ e (w .text) front .0) ∙ put-length at t o front
-
--- where the text ends
-pub within-end : (m at : ℕ) (t o o₁ : List ℕ) (e : ℕ) → AppendedWithin m at t o o₁ e → at + m ≤ length o → e ≤ at + m
-within-end m at t o o₁ e w h =
-    let short = w .short in
-    let front : at + length t ≤ length o = omega arith in
-    omega (arith, room-put at t o o₁ e (w .text) front .1)
+use Rattle.line_listing.specs.Listing.{periodLines, pointLines}
 
 -- one more period's line
 pub lines-next : (p i : ℕ) (ps : List Period) → periodLines p (i + 1) ps ≡ periodLines p i ps ++ periodLine p
@@ -75,21 +38,16 @@ total-within p v hp hv = total-short p v 2 20 (omega arith) (omega arith) (omega
 pub point-none : (at p : ℕ) (g : Point) (o : List ℕ) → at + 918 ≤ length o → g .fields .enrolled ≡ false →
     AppendedWithin 918 at (pointLines p g) o o at
 unfolding pointLines
-point-none at p g o h e = rw e (within-more 0 918 at [] [] o o o at at (within-none at o (omega arith))
-    (within-none at o (omega arith) .text) (omega arith) h)
+point-none at p g o h e = rw e (within-wider (within-none at o (omega arith)) (omega arith))
 
 -- an enrolled point: its periods, and then its total
-pub point-lines : (at p : ℕ) (g : Point) (n v : ℕ) (o o₁ o₂ : List ℕ) (e₁ e₂ : ℕ) → g .fields .enrolled ≡ true → p <
-    100 → v < 2 ^ 64 →
-    at + 918 ≤ length o → n ≡ used (g .history) → v ≡ sumOf (used (g .history)) (g .history .periods) →
-    AppendedWithin (37 * n) at (periodLines p n (g .history .periods)) o o₁ e₁ → Appended e₁ (totalLine p v) o₁ o₂ e₂
-    →
-    AppendedWithin 918 at (pointLines p g) o o₂ e₂
+pub point-lines : {at n v : ℕ} {o o₁ o₂ : List ℕ} {e₁ e₂ : ℕ} (p : ℕ) (g : Point) → g .fields .enrolled ≡ true → p < 100
+    → v < 2 ^ 64 → at + 918 ≤ length o → n ≡ used (g .history) → v ≡ sumOf (used (g .history)) (g .history .periods)
+    → AppendedWithin (37 * n) at (periodLines p n (g .history .periods)) o o₁ e₁ → Appended e₁ (totalLine p v) o₁ o₂ e₂
+    → AppendedWithin 918 at (pointLines p g) o o₂ e₂
 unfolding pointLines
-point-lines at p g n v o o₁ o₂ e₁ e₂ e hp hv h hn hs w t =
-    let all = within-more (37 * n) (918 - 37 * n) at (periodLines p n (g .history .periods)) (totalLine p v) o o₁ o₂
-    e₁ e₂ w t
-    (omega (arith, total-within p v hp hv)) (omega arith) in
+point-lines {n = n} {v = v} p g e hp hv h hn hs w t =
+    let all = within-more (37 * n) (918 - 37 * n) w (within t (omega (arith, total-within p v hp hv))) (omega arith) in
     let k : 37 * n + (918 - 37 * n) ≡ 918 = omega arith in
     rw (e, ← hs, ← hn) (rw k at all)
 

@@ -1,14 +1,14 @@
 -- 01, Message lines: "At the end come, per enrolled point, rising, its periods (point; start; holder; volume)
 -- and `total`; point; advance." The closing lines, and what a call of the writer puts of them. Definitions only.
-use Prim.Native.Nat.{ℕ, zero, suc, _+_, _-_, _/_, _≤_, min}
+use Prim.Native.Nat.{ℕ, zero, suc, _+_, _-_, _/_, min}
 use mathlib.Core.Path.{_≡_}
 use mathlib.Core.Bool.{cond}
 use mathlib.Core.List.{List, [], _∷_, _++_}
 use lib.ListN.{length, take, drop, getD}
 use Rattle.rules.specs.declared.{Period.Period, History.History, Point.Point, Register.Register}
 use Rattle.rules.specs.Register.{noPeriod, used}
-use Rattle.rules.specs.Questions.{sumOf}
-use Rattle.line_text.specs.Appending.{put, Appended}
+use Rattle.questions.specs.Questions.{sumOf}
+use Rattle.line_text.specs.Appending.{put}
 use Rattle.line_answers.specs.Answers.{periodLine, totalLine}
 use Rattle.line_listing.specs.declared.{Listed.Listed}
 
@@ -50,8 +50,3 @@ piece r from room = linesBehind from (taken from room) (r .points)
 pub record ListedFrom (r : Register) (from : ℕ) (before after : List ℕ) (x : Listed) : Type 0 where
   pub bytes : after ≡ put 0 (piece r from (length before)) before
   pub answer : x ≡ record { next = from + taken from (length before); written = length (piece r from (length before)) }
-
--- A text that is put, and is at most n bytes long.
-pub record AppendedWithin (n at : ℕ) (t before after : List ℕ) (next : ℕ) : Type 0 where
-  pub text : Appended at t before after next
-  pub short : length t ≤ n

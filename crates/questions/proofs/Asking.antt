@@ -11,15 +11,16 @@ use native.Mathlib.Nat.{not-suc-le-zero}
 use borrow.Author.Tests.{lt-ltb, le-ltb, le-leb, lt-leb, ne-eqb}
 use Rattle.dates.specs.Dates.{lastDay}
 use Rattle.rules.specs.declared.{Opening.Opening, Call.Call, Register.Register, Span.Span, Point.Point}
-use Rattle.rules.specs.declared.{HolderAnswer.HolderAnswer, PeriodAnswer.PeriodAnswer, AdvanceAnswer.AdvanceAnswer}
-use Rattle.rules.specs.declared.HolderAnswer.the-variants as holder
-use Rattle.rules.specs.declared.PeriodAnswer.the-variants as period
-use Rattle.rules.specs.declared.AdvanceAnswer.the-variants as advance
+use Rattle.questions.specs.declared.{HolderAnswer.HolderAnswer, PeriodAnswer.PeriodAnswer, AdvanceAnswer.AdvanceAnswer}
+use Rattle.questions.specs.declared.HolderAnswer.the-variants as holder
+use Rattle.questions.specs.declared.PeriodAnswer.the-variants as period
+use Rattle.questions.specs.declared.AdvanceAnswer.the-variants as advance
 use Rattle.rules.specs.Volumes.{volume, registered}
-use Rattle.rules.specs.Answers.{isAccepted, holderNumber, holderTold, periodNumber, periodTold, advanceNumber, advanceTold}
+use Rattle.rules.specs.Answers.{isAccepted}
+use Rattle.questions.specs.Questions.{holderNumber, holderTold, periodNumber, periodTold, advanceNumber, advanceTold}
 use Rattle.rules.specs.Rejections.{openingAnswer, notPoint}
 use Rattle.rules.specs.Register.{used, pointAt}
-use Rattle.rules.specs.Questions.{holderAnswer, periodAnswer, advanceAnswer}
+use Rattle.questions.specs.Questions.{holderAnswer, periodAnswer, advanceAnswer}
 use Rattle.rules.specs.DayBook.{opened, readings, enrolments, Page}
 use Rattle.rules.specs.Periods.{periodsOf, holderOn, book, register}
 use Rattle.agreement.specs.Demand3.{PointAgrees}
@@ -28,7 +29,7 @@ use Rattle.agreement.proofs.Slots.{listed, Sized, used-count, take-listed}
 use Rattle.agreement.proofs.Tied.{Tied, Since}
 use Rattle.agreement.proofs.Run.{run-agrees}
 use Rattle.agreement.proofs.Theorem.{day-book-agrees}
-use Rattle.rules.proofs.Seen.{pending-unseen, request-unseen}
+use Rattle.questions.proofs.Seen.{pending-unseen, request-unseen}
 use Rattle.questions.specs.ByBook.{
   periodsIn,
   nth,

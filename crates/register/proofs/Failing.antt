@@ -24,11 +24,10 @@ use Rattle.rules.specs.Rejections.{
   answerTo,
   answer,
 }
-use Rattle.rules.specs.Register.{view, pointAt, advanced, says, failedPoint}
+use Rattle.rules.specs.Register.{view, pointAt, advanced, says, failedPoint, on}
 use Rattle.rules.proofs.Accept.{neither}
 use Rattle.rules.proofs.Views.{shown-in}
 use Rattle.point_effects.specs.Turn.{failureFills, failedBy}
-use Rattle.register.specs.Calls.{call}
 use Rattle.register.specs.Failure.{FailureOn}
 
 any-ext : (n p : ℕ) (f g : ℕ → Bool) → ((q : ℕ) → p ≤ q → q < p + n → f q ≡ g q) → anyPoint p n f ≡ anyPoint p n g
@@ -54,7 +53,7 @@ module _ (t s : ℕ) (r : Register) (h : FailureOn t s r) where
   unfolding failureFills
   any-fills = any-ext 32 1 _ _ (λ q lo hi. rw (shown-in every q lo (omega arith)))
 
-  pub failure-says : says r (call t (Action.Failure s))
+  pub failure-says : says r (on t (Action.Failure s))
       ≡ firstOf ((eqb s (r .settings .default) || eqb s (r .settings .resort) ⇒ 29) ∷ (fills ⇒ 30) ∷ []) Answer.Accepted
   unfolding says answer answerTo outOfRange offCalendar rows accepted firstOf
   failure-says =

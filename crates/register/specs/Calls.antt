@@ -5,13 +5,10 @@ use lib.Dec.{leb}
 use Rattle.dates.specs.Dates.{lastDay}
 use Rattle.rules.specs.declared.{Point.Point, Register.Register, Call.Call, Action.Action, PointAction.PointAction}
 use Rattle.rules.specs.Rejections.{notPoint}
-use Rattle.rules.specs.Register.{blankPoint, pointAt, advanced}
-
-abbrev pub call : ℕ → Action → Call
-call t a = record { today = t; action = a }
+use Rattle.rules.specs.Register.{blankPoint, pointAt, advanced, on}
 
 abbrev pub callAt : ℕ → ℕ → PointAction → Call
-callAt t p a = call t (Action.At p a)
+callAt t p a = on t (Action.At p a)
 
 -- The register brought up to a day of the calendar; no call goes past its end.
 unfoldable pub advancedTo : ℕ → Register → Register

@@ -19,8 +19,8 @@ use rules::Outcome;
 use rules::PointAction;
 use rules::Register;
 ghost use mathlib.Core.Path.{_≡_};
-ghost use Rattle.rules.specs.Register.{applied};
-ghost use Rattle.register.specs.Calls.{call, callAt};
+ghost use Rattle.rules.specs.Register.{applied, on};
+ghost use Rattle.register.specs.Calls.{callAt};
 ghost use Rattle.register.specs.Failure.{FailureOn};
 
 fn refused(number: u8, r: Register) -> Outcome
@@ -42,7 +42,7 @@ fn accepted(r: Register) -> Outcome
 }
 
 fn sign_contract(r: Register, today: u64, s: u64) -> Outcome
-    ensures { λ x. ⌜ x ≡ applied r (call today (Action.Contract s)) ⌝ }
+    ensures { λ x. ⌜ x ≡ applied r (on today (Action.Contract s)) ⌝ }
 {
     if outside(1, 99, s) {
         return refused(22, r);
@@ -60,7 +60,7 @@ fn sign_contract(r: Register, today: u64, s: u64) -> Outcome
 }
 
 fn fail(r: Register, today: u64, s: u64) -> Outcome
-    ensures { λ x. ⌜ x ≡ applied r (call today (Action.Failure s)) ⌝ }
+    ensures { λ x. ⌜ x ≡ applied r (on today (Action.Failure s)) ⌝ }
 {
     let set = r.settings;
     if outside(1, 99, s) {
@@ -86,7 +86,7 @@ fn fail(r: Register, today: u64, s: u64) -> Outcome
 // The failure of a supplier under contract, the calendar and the register's day being in order.
 fn fail_under_contract(r: Register, t: u32, s: u8) -> Outcome
     requires { ⌜ FailureOn t s r ⌝ }
-    ensures { λ x. ⌜ x ≡ applied r (call t (Action.Failure s)) ⌝ }
+    ensures { λ x. ⌜ x ≡ applied r (on t (Action.Failure s)) ⌝ }
 {
     let set = r.settings;
     if s == set.default {
@@ -131,7 +131,7 @@ fn at(r: Register, today: u64, p: u64, a: PointAction) -> Outcome
 }
 
 fn new_day(r: Register, today: u64) -> Outcome
-    ensures { λ x. ⌜ x ≡ applied r (call today Action.Day) ⌝ }
+    ensures { λ x. ⌜ x ≡ applied r (on today Action.Day) ⌝ }
 {
     if today > LAST_DAY as u64 {
         return refused(20, r);

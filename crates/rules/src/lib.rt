@@ -195,19 +195,3 @@ pub struct Span {
     pub advance: u64,
     pub unit: u64,
 }
-
-// The answers to questions; a question off its range is refused.
-pub enum HolderAnswer {
-    Holder(u8),
-    OffRange,
-}
-
-pub enum PeriodAnswer {
-    Of(Period),
-    OffRange,
-}
-
-pub enum AdvanceAnswer {
-    Volume(u64),
-    OffRange,
-}

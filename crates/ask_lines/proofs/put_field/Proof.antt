@@ -10,8 +10,8 @@ returns c =
     let c₂ = c .before .before in
     let c₆ = c₂ .before .before .before .before in
     let c₉ = c₆ .before .before .before in
-    field-put (c₉ .args .at) _ _ _ _ _ (c₉ .args .v) (c₉ .args .end) (omega arith) (omega arith)
-    (c₆ .put-number .ensures) (c₂ .put-byte .ensures)
+    field-put (c₉ .args .v) (c₉ .args .end) (omega arith) (omega arith) (c₆ .put-number .ensures)
+    (c₂ .put-byte .ensures)
 
 pub put-field-spec : {M : Type 1} → statement M
 put-field-spec = tie.close (tie.spec (λ c κs. search needs) (λ c κs. search needs) (λ c. search needs) returns)

@@ -21,7 +21,7 @@ returns-2 c =
     let c₁₂ = c₁₀ .before .before in
     let c₁₆ = c₁₂ .before .before .before .before in
     let a = c₁₆ .args in
-    point-lines (a .at) (a .p) (a .g) (c₁₀ .marks .result) (c₄ .advance-in .result) (a .out .now) _ _ _ _
+    point-lines (a .p) (a .g)
     (not-off (a .g .fields .enrolled) (c₁₂ .if1 .left)) (omega arith) (omega arith) (omega arith)
     (c₁₀ .marks .ensures) (c₄ .advance-in .ensures) (c₇ .put-periods .ensures) (c₂ .put-total .ensures)
 

@@ -2,7 +2,7 @@
 use mathlib.Core.Path.{sym, _∙_}
 use borrow.Author.Tests.{lt-ltb, le-ltb}
 use Rattle.questions.proofs.Asked.{asked-in}
-use Rattle.rules.specs.Questions.{holderAnswer}
+use Rattle.questions.specs.Questions.{holderAnswer}
 use borrow.Author.Needs.{needs}
 use Rattle.questions.proofs.holder_of.Statement.{statement}
 use Rattle.questions.proofs.holder_of.Tie as tie

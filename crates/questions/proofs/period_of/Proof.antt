@@ -2,7 +2,7 @@
 use mathlib.Core.Path.{sym, _∙_}
 use native.Mathlib.Omega.{arith}
 use Rattle.questions.proofs.Asked.{asked-in, range-in}
-use Rattle.rules.specs.Questions.{periodAnswer}
+use Rattle.questions.specs.Questions.{periodAnswer}
 use borrow.Author.Needs.{needs}
 use Rattle.questions.proofs.period_of.Statement.{statement}
 use Rattle.questions.proofs.period_of.Tie as tie

@@ -1,8 +1,7 @@
 -- The lines that answer questions, each with its line feed: `ok;` and the values, or `refused;` and the number.
 -- Definitions only.
-use Prim.Native.Nat.{ℕ, _+_}
+use Prim.Native.Nat.{ℕ}
 use mathlib.Core.List.{List, [], _∷_, _++_}
-use lib.ListN.{length}
 use Rattle.rules.specs.declared.{Register.Register}
 use Rattle.questions.specs.declared.{HolderAnswer.HolderAnswer, PeriodAnswer.PeriodAnswer}
 use Rattle.questions.specs.declared.{AdvanceAnswer.AdvanceAnswer}
@@ -11,7 +10,6 @@ use Rattle.questions.specs.declared.PeriodAnswer.the-variants as period
 use Rattle.questions.specs.declared.AdvanceAnswer.the-variants as advance
 use Rattle.questions.specs.Questions.{holderAnswer, periodAnswer, advanceAnswer}
 use Rattle.questions.specs.Questions.{holderNumber, periodNumber, advanceNumber}
-use Rattle.line_text.specs.Appending.{AppendedWithin}
 use Rattle.line_text.specs.Ascii.{ascii}
 use Rattle.line_text.specs.Decimal.{decimal}
 use Rattle.line_text.specs.Days.{dayText}
@@ -59,7 +57,3 @@ unfoldable pub reply : Register → Question → List ℕ
 reply r (Question.Holder p d) = holderReply (holderAnswer r p d)
 reply r (Question.Period p n) = periodReply (periodAnswer r p n)
 reply r (Question.Advance p) = advanceReply (advanceAnswer r p)
-
--- A number has at most 20 digits.
-abbrev pub OnePut : ℕ → List ℕ → ℕ → ℕ → List ℕ → List ℕ → ℕ → Type 0
-OnePut at w v end before after next = AppendedWithin (length w + 21) at (one w v end) before after next

@@ -14,7 +14,7 @@ use rules::Register;
 ghost use Prim.Native.Nat.{_+_, _≤_};
 ghost use lib.ListN.{length};
 ghost use Rattle.line_text.specs.Appending.{Appended, AppendedWithin};
-ghost use Rattle.ask_lines.specs.Lines.{field, dateField, okOne, okPeriod, refusal, OnePut};
+ghost use Rattle.ask_lines.specs.Lines.{field, dateField, one, okOne, okPeriod, refusal};
 ghost use Rattle.ask_lines.specs.Lines.{holderReply, periodReply, advanceReply, reply};
 
 // The number of a question off its range.
@@ -98,10 +98,13 @@ fn put_ok_period(out: &mut [u8], at: usize, start: u64, holder: u64, volume: u64
     put_field(out, volume_at, volume, b'\n')
 }
 
-// A word, and a number with the byte behind it.
+// A word, and a number, which has at most 20 digits, with the byte behind it.
 fn put_one(out: &mut [u8], at: usize, word: &[u8], v: u64, end: u8) -> usize
     requires { ⌜ at + (length (now word) + 21) ≤ length (now out) ⌝ }
-    ensures { λ x. ⌜ OnePut at (now (word .entry)) v end (now (out .entry)) (now (out .exit)) x ⌝ }
+    ensures { λ x. ⌜
+        AppendedWithin (length (now (word .entry)) + 21) at (one (now (word .entry)) v end) (now (out .entry))
+        (now (out .exit)) x
+        ⌝ }
 {
     let next = put_word(out, at, word);
     put_field(out, next, v, end)

@@ -19,9 +19,11 @@ use Rattle.input_whole.specs.Examples.{TranscriptExamples}
 pub record Demands : Type 0 where
   -- The calendar: days and dates, one to one.
   pub days-and-dates : OneToOne
-  -- The rules beside document 01: its dated examples; for each number a case where it is given and one just beside.
+  -- The rules beside document 01: its dated examples; for each number a case where it is given and one just beside;
+  -- the questions.
   pub dated-examples : PExamples
   pub row-examples : RowExamples
+  pub question-examples : QuestionExamples
   -- Demand 1: every answer is accepted or one number of the table, number 8 with its day.
   pub answers-tabled : EveryAnswerTabled
   -- Demand 2: numbers and dates have one text each; each call and each opening has exactly one line, which reads as
@@ -32,7 +34,6 @@ pub record Demands : Type 0 where
   pub day-book-agrees : DayBookAgrees
   -- And so are its questions and its closing lines.
   pub questions : Asking
-  pub question-examples : QuestionExamples
   pub closing-lines : ListingByBook
   -- The programs: the lines of an input; what is handed on for them however the input is cut, which is the day
   -- book's; the desk that `ask` asks; and that handing in the rest again and again takes all of it.

@@ -7,7 +7,8 @@ use rules::Register;
 ghost use mathlib.Core.Path.{_≡_};
 ghost use Prim.Native.Nat.{_≤_};
 ghost use Rattle.rules.specs.Register.{used, pointAt};
-ghost use Rattle.questions.specs.Questions.{unasked, holderAmong, holderAnswer, periodAnswer, sumOf, advanceAnswer};
+ghost use Rattle.questions.specs.Questions.{unasked, holderAmong, holderAnswer, periodAnswer, sumOf};
+ghost use Rattle.questions.specs.Questions.{advanceAnswer};
 
 // The answers to questions; a question off its range is refused.
 pub enum HolderAnswer {
@@ -26,7 +27,7 @@ pub enum AdvanceAnswer {
 }
 
 // No point, or one that is not enrolled.
-pub fn is_unasked(r: Register, p: u64) -> bool
+fn is_unasked(r: Register, p: u64) -> bool
     ensures { λ x. ⌜ x ≡ unasked r p ⌝ }
 {
     if outside(1, 32, p) {

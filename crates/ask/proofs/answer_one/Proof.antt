@@ -2,7 +2,6 @@
 use mathlib.Core.Path.{sym}
 use lib.Seq.{length-take-le}
 use native.Mathlib.Omega.{arith}
-use Rattle.ask_lines.specs.Lines.{reply}
 use Rattle.line_text.proofs.Within.{appended-within}
 use borrow.Author.Needs.{needs}
 use Rattle.ask.proofs.answer_one.Statement.{statement}

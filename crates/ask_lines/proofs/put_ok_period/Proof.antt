@@ -6,9 +6,6 @@ use borrow.Author.Needs.{needs}
 use Rattle.ask_lines.proofs.put_ok_period.Statement.{statement}
 use Rattle.ask_lines.proofs.put_ok_period.Tie as tie
 
-put-date-requires : tie.Need-put-date-requires
-put-date-requires c κs = room-left {m = 3} 9 (within (c .before .before .before .put-word .ensures) (omega arith)) (omega arith)
-
 put-field-requires : tie.Need-put-field-requires
 put-field-requires c κs =
     let c₃ = c .before .before .before in
@@ -37,5 +34,6 @@ returns c =
 
 pub put-ok-period-spec : {M : Type 1} → statement M
 put-ok-period-spec =
-    tie.close (tie.spec (λ c. search needs) (λ c κs. search needs) put-date-requires put-field-requires
-    put-field-requires-2 (λ c. search needs) returns)
+    tie.close (tie.spec (λ c. search needs) (λ c κs. search needs)
+    (λ c κs. room-left {m = 3} 9 (within (c .before .before .before .put-word .ensures) (omega arith)) (omega arith))
+    put-field-requires put-field-requires-2 (λ c. search needs) returns)

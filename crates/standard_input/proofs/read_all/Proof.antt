@@ -41,6 +41,5 @@ read-all-spec =
     (λ c. search needs) (λ c κs. search needs) (λ c. search needs) (λ c. search needs) (λ c κs. search needs)
     (λ c. search needs) (λ c. search needs) (λ c. search needs) (λ c. search needs) (λ c. search needs)
     (λ c. search needs) (λ c κs. search needs) array-share-prefix-out
-    (λ c. sym (length-take-le _ _ (array-share-prefix-out (c .before)))) (λ c κs. search needs)
-    (λ c κs. search needs) (λ c. search needs) add-from (λ c. search needs) loop-again-2 (λ c κs. search needs)
-    (λ c. search needs))
+    (λ c. sym (length-take-le _ _ (array-share-prefix-out (c .before)))) (λ c κs. search needs) (λ c κs. search needs)
+    (λ c. search needs) add-from (λ c. search needs) loop-again-2 (λ c κs. search needs) (λ c. search needs))

@@ -5,13 +5,9 @@ use borrow.Author.Needs.{needs}
 use Rattle.ask.proofs.every.asked.Statement.{statement}
 use Rattle.ask.proofs.every.asked.Tie as tie
 
-sub-if2 : tie.Need-sub-if2
-sub-if2 c = omega (arith, appended-within (c .before .before .put-reply .ensures) (omega arith))
-
-flushed-requires : tie.Need-flushed-requires
-flushed-requires c κs = appended-within (c .before .before .before .before .put-reply .ensures) (omega arith)
-
 pub asked-spec : {M : Type 1} → statement M
 asked-spec =
-    tie.close (tie.spec (λ c. search needs) (λ c κs. search needs) (λ c κs. search needs) sub-if2 flushed-requires
+    tie.close (tie.spec (λ c. search needs) (λ c κs. search needs) (λ c κs. search needs)
+    (λ c. omega (arith, appended-within (c .before .before .put-reply .ensures) (omega arith)))
+    (λ c κs. appended-within (c .before .before .before .before .put-reply .ensures) (omega arith))
     (λ c. search needs) (λ c. search needs) (λ c. search needs) (λ c. search needs))

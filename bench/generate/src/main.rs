@@ -1,4 +1,9 @@
-//! A long seeded input: daily readings of 32 points over decades, with some of every other line among them.
+//! A long seeded input of one of four kinds: `readings` (daily readings of 32 points over decades, with some of every
+//! other line among them), `mixed`, `late` and `failures`.
+
+mod failures;
+mod late;
+mod mixed;
 
 use std::io::{self, BufWriter, Write};
 use std::process::ExitCode;
@@ -49,12 +54,24 @@ impl Meter {
 
 fn main() -> ExitCode {
     let words: Vec<String> = std::env::args().skip(1).collect();
-    let numbers: Vec<u64> = words.iter().filter_map(|word| word.parse().ok()).collect();
-    let [lines, seed] = numbers[..] else {
-        eprintln!("usage: generate LINES SEED");
+    let number = |place: usize| words.get(place).and_then(|word| word.parse::<u64>().ok());
+    let (Some(lines), Some(seed)) = (number(0), number(1)) else {
+        eprintln!("usage: generate LINES SEED [readings | mixed | late | failures]");
         return ExitCode::FAILURE;
     };
-    let written = write(lines, Random { state: seed }, BufWriter::with_capacity(1 << 16, io::stdout().lock()));
+    let kind = words.get(2).map_or("readings", String::as_str);
+    let random = Random { state: seed };
+    let output = BufWriter::with_capacity(1 << 16, io::stdout().lock());
+    let written = match kind {
+        "readings" => readings(lines, random, output),
+        "mixed" => mixed::write(lines, random, output),
+        "late" => late::write(lines, random, output),
+        "failures" => failures::write(lines, output),
+        _ => {
+            eprintln!("no kind {kind}: readings, mixed, late or failures");
+            return ExitCode::FAILURE;
+        }
+    };
     if written.is_ok() {
         ExitCode::SUCCESS
     } else {
@@ -62,7 +79,7 @@ fn main() -> ExitCode {
     }
 }
 
-fn write(lines: u64, mut random: Random, mut output: impl Write) -> io::Result<()> {
+fn readings(lines: u64, mut random: Random, mut output: impl Write) -> io::Result<()> {
     let mut meters: Vec<Meter> = (0..POINTS).map(|_| Meter::new(&mut random)).collect();
     let mut dates = dates();
     let mut date = dates.next().unwrap_or_default();

@@ -3,11 +3,11 @@ use mathlib.Core.Path.{refl}
 use Rattle.dates.specs.Dates.{leapRow, monthLength, next, dateOf}
 use Rattle.dates.specs.Numbers.{dateAnswer}
 use Rattle.line_text.specs.Decimal.{spell, fixed}
-use Rattle.ask_lines.specs.Lines.{holderReply, periodReply, advanceReply, head}
+use Rattle.ask_lines.specs.Lines.{holderReply, periodReply, advanceReply}
 use Rattle.ask_lines.specs.Examples.{LinesExamples}
 
 pub lines-examples : LinesExamples
-unfolding leapRow monthLength next dateOf dateAnswer spell fixed holderReply periodReply advanceReply head
+unfolding leapRow monthLength next dateOf dateAnswer spell fixed holderReply periodReply advanceReply
 lines-examples =
     record {
       holder-5 = refl;
@@ -17,7 +17,4 @@ lines-examples =
       period-refused = refl;
       advance-20000 = refl;
       advance-refused = refl;
-      holder-head = refl;
-      period-head = refl;
-      advance-head = refl;
     }

@@ -2,12 +2,11 @@
 use Prim.Native.Nat.{ℕ}
 use mathlib.Core.Path.{_≡_}
 use mathlib.Core.List.{List, [], _∷_, _++_}
-use Rattle.rules.specs.declared.HolderAnswer.the-variants as holder
-use Rattle.rules.specs.declared.PeriodAnswer.the-variants as period
-use Rattle.rules.specs.declared.AdvanceAnswer.the-variants as advance
+use Rattle.questions.specs.declared.HolderAnswer.the-variants as holder
+use Rattle.questions.specs.declared.PeriodAnswer.the-variants as period
+use Rattle.questions.specs.declared.AdvanceAnswer.the-variants as advance
 use Rattle.line_text.specs.Ascii.{ascii}
-use Rattle.ask_words.specs.declared.{Question.Question}
-use Rattle.ask_lines.specs.Lines.{holderReply, periodReply, advanceReply, head}
+use Rattle.ask_lines.specs.Lines.{holderReply, periodReply, advanceReply}
 
 abbrev pub ended : List ℕ → List ℕ
 ended l = l ++ (10 ∷ [])
@@ -23,6 +22,3 @@ pub record LinesExamples : Type 0 where
   pub period-refused : periodReply period.OffRange ≡ ended (ascii "refused;22")
   pub advance-20000 : advanceReply (advance.Volume 20000) ≡ ended (ascii "ok;20000")
   pub advance-refused : advanceReply advance.OffRange ≡ ended (ascii "refused;22")
-  pub holder-head : head (Question.Holder 1 7674) ≡ ascii "holder;1;7674;"
-  pub period-head : head (Question.Period 33 0) ≡ ascii "period;33;0;"
-  pub advance-head : head (Question.Advance 0) ≡ ascii "advance;0;"

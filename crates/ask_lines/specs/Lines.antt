@@ -1,19 +1,18 @@
--- The lines that answer questions, each with its line feed: `ok;` and the values, or `refused;` and the number; alone,
--- or behind the question. Definitions only.
-use Prim.Native.Nat.{ℕ, _+_}
+-- The lines that answer questions, each with its line feed: `ok;` and the values, or `refused;` and the number.
+-- Definitions only.
+use Prim.Native.Nat.{ℕ}
 use mathlib.Core.List.{List, [], _∷_, _++_}
-use lib.ListN.{length}
-use Rattle.rules.specs.declared.{Register.Register, HolderAnswer.HolderAnswer, PeriodAnswer.PeriodAnswer}
-use Rattle.rules.specs.declared.{AdvanceAnswer.AdvanceAnswer}
-use Rattle.rules.specs.declared.HolderAnswer.the-variants as holder
-use Rattle.rules.specs.declared.PeriodAnswer.the-variants as period
-use Rattle.rules.specs.declared.AdvanceAnswer.the-variants as advance
-use Rattle.rules.specs.Questions.{holderAnswer, periodAnswer, advanceAnswer}
-use Rattle.rules.specs.Answers.{holderNumber, periodNumber, advanceNumber}
+use Rattle.rules.specs.declared.{Register.Register}
+use Rattle.questions.specs.declared.{HolderAnswer.HolderAnswer, PeriodAnswer.PeriodAnswer}
+use Rattle.questions.specs.declared.{AdvanceAnswer.AdvanceAnswer}
+use Rattle.questions.specs.declared.HolderAnswer.the-variants as holder
+use Rattle.questions.specs.declared.PeriodAnswer.the-variants as period
+use Rattle.questions.specs.declared.AdvanceAnswer.the-variants as advance
+use Rattle.questions.specs.Questions.{holderAnswer, periodAnswer, advanceAnswer}
+use Rattle.questions.specs.Questions.{holderNumber, periodNumber, advanceNumber}
 use Rattle.line_text.specs.Ascii.{ascii}
 use Rattle.line_text.specs.Decimal.{decimal}
 use Rattle.line_text.specs.Days.{dayText}
-use Rattle.line_listing.specs.Listing.{AppendedWithin}
 use Rattle.ask_words.specs.declared.{Question.Question}
 
 -- A number and the byte behind it; 59 is `;`, 10 a line feed.
@@ -27,9 +26,6 @@ dateField d end = dayText d (end ∷ [])
 
 abbrev pub one : List ℕ → ℕ → ℕ → List ℕ
 one w v end = w ++ field v end
-
-abbrev pub two : List ℕ → ℕ → ℕ → List ℕ
-two w a b = w ++ (field a 59 ++ field b 59)
 
 -- `ok;` and the value.
 abbrev pub okOne : ℕ → List ℕ
@@ -61,19 +57,3 @@ unfoldable pub reply : Register → Question → List ℕ
 reply r (Question.Holder p d) = holderReply (holderAnswer r p d)
 reply r (Question.Period p n) = periodReply (periodAnswer r p n)
 reply r (Question.Advance p) = advanceReply (advanceAnswer r p)
-
--- The question in front of its answer: `holder;P;DAY;`, `period;P;N;`, `advance;P;`, the day by its number.
-unfoldable pub head : Question → List ℕ
-head (Question.Holder p d) = two (ascii "holder;") p d
-head (Question.Period p n) = two (ascii "period;") p n
-head (Question.Advance p) = one (ascii "advance;") p 59
-
-unfoldable pub line : Register → Question → List ℕ
-line r q = head q ++ reply r q
-
--- A number has at most 20 digits.
-abbrev pub OnePut : ℕ → List ℕ → ℕ → ℕ → List ℕ → List ℕ → ℕ → Type 0
-OnePut at w v end before after next = AppendedWithin (length w + 21) at (one w v end) before after next
-
-abbrev pub TwoPut : ℕ → List ℕ → ℕ → ℕ → List ℕ → List ℕ → ℕ → Type 0
-TwoPut at w a b before after next = AppendedWithin (length w + 42) at (two w a b) before after next

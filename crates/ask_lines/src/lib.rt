@@ -4,19 +4,18 @@ use line_text::write::put_byte;
 use line_text::write::put_day;
 use line_text::write::put_number;
 use line_text::write::put_word;
+use questions::AdvanceAnswer;
+use questions::HolderAnswer;
+use questions::PeriodAnswer;
 use questions::advance_of;
 use questions::holder_of;
 use questions::period_of;
-use rules::AdvanceAnswer;
-use rules::HolderAnswer;
-use rules::PeriodAnswer;
 use rules::Register;
 ghost use Prim.Native.Nat.{_+_, _≤_};
 ghost use lib.ListN.{length};
-ghost use Rattle.line_text.specs.Appending.{Appended};
-ghost use Rattle.line_listing.specs.Listing.{AppendedWithin};
-ghost use Rattle.ask_lines.specs.Lines.{field, dateField, okOne, okPeriod, refusal, OnePut, TwoPut};
-ghost use Rattle.ask_lines.specs.Lines.{holderReply, periodReply, advanceReply, reply, head, line};
+ghost use Rattle.line_text.specs.Appending.{Appended, AppendedWithin};
+ghost use Rattle.ask_lines.specs.Lines.{field, dateField, one, okOne, okPeriod, refusal};
+ghost use Rattle.ask_lines.specs.Lines.{holderReply, periodReply, advanceReply, reply};
 
 // The number of a question off its range.
 const OFF_RANGE: u64 = 22;
@@ -28,28 +27,6 @@ pub fn put_reply(out: &mut [u8], at: usize, r: Register, q: Question) -> usize
     let mut text = [0u8; 66];
     let end = put_answer(&mut text, 0, r, q);
     put_word(out, at, &text[..end])
-}
-
-// A question and its answer in one line.
-pub fn put_line(out: &mut [u8], at: usize, r: Register, q: Question) -> usize
-    ensures { λ x. ⌜ AppendedWithin 128 at (line r q) (now (out .entry)) (now (out .exit)) x ⌝ }
-{
-    let mut text = [0u8; 128];
-    let next = put_head(&mut text, 0, q);
-    let end = put_answer(&mut text, next, r, q);
-    put_word(out, at, &text[..end])
-}
-
-// The question, each number of it with its `;`.
-fn put_head(out: &mut [u8], at: usize, q: Question) -> usize
-    requires { ⌜ at + 62 ≤ length (now out) ⌝ }
-    ensures { λ x. ⌜ AppendedWithin 62 at (head q) (now (out .entry)) (now (out .exit)) x ⌝ }
-{
-    match q {
-        Question::Holder { point, day } => put_two(out, at, b"holder;", point, day),
-        Question::Period { point, number } => put_two(out, at, b"period;", point, number),
-        Question::Advance { point } => put_one(out, at, b"advance;", point, b';'),
-    }
 }
 
 // The answer to a question.
@@ -121,19 +98,13 @@ fn put_ok_period(out: &mut [u8], at: usize, start: u64, holder: u64, volume: u64
     put_field(out, volume_at, volume, b'\n')
 }
 
-// A word and two numbers, each with a `;`.
-fn put_two(out: &mut [u8], at: usize, word: &[u8], a: u64, b: u64) -> usize
-    requires { ⌜ at + (length (now word) + 42) ≤ length (now out) ⌝ }
-    ensures { λ x. ⌜ TwoPut at (now (word .entry)) a b (now (out .entry)) (now (out .exit)) x ⌝ }
-{
-    let second_at = put_one(out, at, word, a, b';');
-    put_field(out, second_at, b, b';')
-}
-
-// A word, and a number with the byte behind it.
+// A word, and a number, which has at most 20 digits, with the byte behind it.
 fn put_one(out: &mut [u8], at: usize, word: &[u8], v: u64, end: u8) -> usize
     requires { ⌜ at + (length (now word) + 21) ≤ length (now out) ⌝ }
-    ensures { λ x. ⌜ OnePut at (now (word .entry)) v end (now (out .entry)) (now (out .exit)) x ⌝ }
+    ensures { λ x. ⌜
+        AppendedWithin (length (now (word .entry)) + 21) at (one (now (word .entry)) v end) (now (out .entry))
+        (now (out .exit)) x
+        ⌝ }
 {
     let next = put_word(out, at, word);
     put_field(out, next, v, end)

@@ -2,9 +2,7 @@
 use Prim.Native.Nat.{ℕ}
 use mathlib.Core.Bool.{cond}
 use mathlib.Core.List.{List, [], _∷_, _++_}
-use lib.Dec.{eqb, ltb}
-use Rattle.line_values.specs.declared.{Field.Field}
-use Rattle.line_values.specs.declared.Field.the-variants as field
+use lib.Dec.{eqb}
 use Rattle.line_text.specs.Ascii.{ascii}
 use Rattle.line_values.specs.Words.{isSame}
 use Rattle.line_values.specs.Numbers.{Read, number, bad, numberOf}
@@ -16,11 +14,6 @@ abbrev pub valueOf : Read → Value
 valueOf (number n []) = Value.Is n
 valueOf (number n (c ∷ l)) = Value.Nothing
 valueOf bad = Value.Nothing
-
--- What the code read of a word of len bytes, and the position behind it: a value where nothing follows.
-abbrev pub wholeOf : ℕ → Field → Value
-wholeOf len (field.Value v next) = cond (ltb next len) Value.Nothing (Value.Is v)
-wholeOf len field.Bad = Value.Nothing
 
 -- P and N are decimal as in message lines, DATE is aaaammjj, a date of the calendar.
 unfoldable pub numberValue : List ℕ → Value

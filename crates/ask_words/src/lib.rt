@@ -6,7 +6,8 @@ use line_values::number_at;
 use line_values::same;
 ghost use mathlib.Core.Path.{_≡_};
 ghost use Rattle.line_text.specs.Appending.{Appended};
-ghost use Rattle.ask_words.specs.Asked.{wholeOf, numberValue, dateValue, holderAsked, periodAsked};
+ghost use Rattle.ask_words.specs.Asked.{numberValue, dateValue, holderAsked, periodAsked};
+ghost use Rattle.ask_words.specs.Between.Whole.{wholeOf};
 ghost use Rattle.ask_words.specs.Asked.{byOne, byTwo, byThree, askedBy, usage, unopened};
 
 // One of the three questions, with any numbers.

@@ -4,6 +4,7 @@ use Rattle.rules.proofs.Examples.{p-examples}
 use Rattle.rules.proofs.RowExamples.{row-examples}
 use Rattle.agreement.proofs.Theorem.{day-book-agrees}
 use Rattle.questions.proofs.Asking.{asking}
+use Rattle.questions.proofs.Examples.{question-examples}
 use Rattle.line_values.proofs.OneText.{one-text}
 use Rattle.line_messages.proofs.OneLine.{one-line}
 use Rattle.input_lines.proofs.LineLaws.{lines-are}
@@ -25,6 +26,7 @@ demands =
       one-line = one-line;
       day-book-agrees = day-book-agrees;
       questions = asking;
+      question-examples = question-examples;
       closing-lines = listing-by-book;
       lines = lines-are;
       transcript = transcript-served;

@@ -7,6 +7,7 @@ use Rattle.rules.specs.Examples.{PExamples}
 use Rattle.rules.specs.RowExamples.{RowExamples}
 use Rattle.agreement.specs.Demand3.{DayBookAgrees}
 use Rattle.questions.specs.Asking.{Asking}
+use Rattle.questions.specs.Examples.{QuestionExamples}
 use Rattle.line_values.specs.OneText.{OneText}
 use Rattle.line_messages.specs.OneLine.{OneLine}
 use Rattle.input_lines.specs.Laws.{LinesAre}
@@ -18,9 +19,11 @@ use Rattle.input_whole.specs.Examples.{TranscriptExamples}
 pub record Demands : Type 0 where
   -- The calendar: days and dates, one to one.
   pub days-and-dates : OneToOne
-  -- The rules beside document 01: its dated examples; for each number a case where it is given and one just beside.
+  -- The rules beside document 01: its dated examples; for each number a case where it is given and one just beside;
+  -- the questions.
   pub dated-examples : PExamples
   pub row-examples : RowExamples
+  pub question-examples : QuestionExamples
   -- Demand 1: every answer is accepted or one number of the table, number 8 with its day.
   pub answers-tabled : EveryAnswerTabled
   -- Demand 2: numbers and dates have one text each; each call and each opening has exactly one line, which reads as

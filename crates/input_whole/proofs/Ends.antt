@@ -10,7 +10,7 @@ use borrow.Author.Tests.{eq-eqb, ne-eqb}
 use lib.ListN.{length, take}
 use Rattle.line_text.proofs.Appends.{put-none}
 use Rattle.line_listing.specs.declared.{Listed.Listed}
-use Rattle.line_listing.specs.Listing.{ListedFrom}
+use Rattle.line_listing.specs.Pinned.Pieces.{ListedFrom}
 use Rattle.input_desk.specs.declared.{Desk.Desk}
 use Rattle.input_pieces.specs.declared.{Session.Session}
 use Rattle.input_pieces.proofs.Within.{put-within}

@@ -3,6 +3,7 @@ use mathlib.Core.Path.{refl}
 use Rattle.dates.specs.Dates.{leapRow, monthLength, next, dateOf}
 use Rattle.dates.specs.Numbers.{monthStart, yearStart, dayNumber, isReal, dayAnswer, dateAnswer}
 use Rattle.rules.proofs.Computes.{machines}
+use Rattle.questions.specs.Questions.{sumOf}
 use Rattle.questions.specs.ByBook.{periodsIn, bookPeriods, bookAdvance}
 use Rattle.line_text.specs.Decimal.{spell, fixed}
 use Rattle.line_values.specs.Words.{isSame}
@@ -24,8 +25,8 @@ use Rattle.input_whole.specs.Transcript.{callsIn, storyOf, bookOutput}
 use Rattle.input_whole.specs.Examples.{TranscriptExamples}
 
 pub transcript-examples : TranscriptExamples
-unfolding leapRow monthLength next dateOf monthStart yearStart dayNumber isReal dayAnswer dateAnswer machines periodsIn bookPeriods
-    bookAdvance spell fixed isSame moreOf numberOf fixedOf dayIn fieldOf fieldsOf sortsFrom kindIn wordEnd readLine answerLine periodLine
+unfolding leapRow monthLength next dateOf monthStart yearStart dayNumber isReal dayAnswer dateAnswer machines sumOf periodsIn
+    bookPeriods bookAdvance spell fixed isSame moreOf numberOf fixedOf dayIn fieldOf fieldsOf sortsFrom kindIn wordEnd readLine answerLine periodLine
     totalLine periodLines pointLines listingFrom listing linesOfPeriods rising bookListing linesFrom linesOf partOf said afterLines transcript
     noRegister answerOf deskAfter startSession callsIn storyOf bookOutput
 transcript-examples =

@@ -12,9 +12,10 @@ use lib.Seq.{take-append-seam, take-all, drop-length}
 use Rattle.rules.specs.declared.{Register.Register}
 use Rattle.line_text.specs.Appending.{put}
 use Rattle.line_listing.specs.declared.{Listed.Listed}
-use Rattle.line_listing.specs.Listing.{listing, listingFrom, piece}
-use Rattle.line_listing.specs.Listing as L
-use Rattle.line_listing.specs.Pieces.{left}
+use Rattle.line_listing.specs.Listing.{listing, listingFrom}
+use Rattle.line_listing.specs.Pinned.Pieces.{piece}
+use Rattle.line_listing.specs.Pinned.Pieces as L
+use Rattle.line_listing.specs.Pinned.Pieces.{left}
 use Rattle.line_listing.proofs.Pieces.{pieces-join}
 use Rattle.input_lines.specs.declared.{Part.Part}
 use Rattle.input_lines.specs.Lines.{fitting, linesOf}

@@ -11,8 +11,9 @@ use Rattle.input_desk.specs.declared.{Desk.Desk}
 use Rattle.input_desk.specs.Desk.{desk}
 use Rattle.register.specs.Opens.{noRegister}
 use Rattle.line_listing.specs.declared.{Listed.Listed}
-use Rattle.line_listing.specs.Listing
-use Rattle.line_listing.specs.Listing.{listing, piece}
+use Rattle.line_listing.specs.Pinned.Pieces
+use Rattle.line_listing.specs.Listing.{listing}
+use Rattle.line_listing.specs.Pinned.Pieces.{piece}
 use Rattle.input_pieces.specs.declared.{Session.Session}
 
 -- Before any input: the register of a desk that is not ready is not looked at.
@@ -32,7 +33,7 @@ abbrev pub closingPiece : Desk → ℕ → ℕ → List ℕ
 closingPiece d from room = cond (d .ready) (piece (d .register) from room) []
 
 abbrev pub closedNext : Desk → ℕ → ℕ → ℕ
-closedNext d from room = cond (d .ready) (from + Listing.taken from room) 32
+closedNext d from room = cond (d .ready) (from + Pieces.taken from room) 32
 
 pub record ClosedFrom (d : Desk) (from : ℕ) (before after : List ℕ) (x : Listed) : Type 0 where
   pub bytes : after ≡ put 0 (closingPiece d from (length before)) before

@@ -10,10 +10,10 @@ use borrow.Author.Tests.{le-ltb}
 use lib.ListN.{length, take, getD}
 use lib.Seq.{take-suc}
 use Rattle.rules.specs.declared.{Period.Period, Point.Point, Register.Register, Opening.Opening, Call.Call}
-use Rattle.rules.specs.Answers.{isAccepted, advanceTold}
+use Rattle.rules.specs.Answers.{isAccepted}
 use Rattle.rules.specs.Rejections.{openingAnswer}
 use Rattle.rules.specs.Register.{noPeriod, noPoint, pointAt}
-use Rattle.rules.specs.Questions.{advanceAnswer}
+use Rattle.questions.specs.Questions.{advanceAnswer, advanceTold}
 use Rattle.rules.specs.Periods.{periodsOf, register}
 use Rattle.agreement.proofs.Slots.{Sized, used-count}
 use Rattle.agreement.proofs.Run.{run-agrees}

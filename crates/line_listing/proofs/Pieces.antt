@@ -7,8 +7,9 @@ use native.Mathlib.Nat.{add-zero}
 use lib.ListN.{length, take, drop}
 use lib.Seq.{drop-length, drop-drop}
 use Rattle.rules.specs.declared.{Point.Point, Register.Register}
-use Rattle.line_listing.specs.Listing.{pointLines, listingFrom, listing, taken, piece}
-use Rattle.line_listing.specs.Pieces.{pieces, reached, left, PiecesJoin}
+use Rattle.line_listing.specs.Listing.{pointLines, listingFrom, listing}
+use Rattle.line_listing.specs.Pinned.Pieces.{taken, piece}
+use Rattle.line_listing.specs.Pinned.Pieces.{pieces, reached, left, PiecesJoin}
 
 -- a listing is that of its first n points, and behind it that of the others
 pub listing-split : (p n : ℕ) (gs : List Point) → listingFrom p (take n gs) ++ listingFrom (p + n) (drop n gs) ≡

@@ -1,4 +1,4 @@
 pub mod Listing
-pub mod Pieces
 pub mod ByBook
+pub mod Pinned
 pub mod Examples

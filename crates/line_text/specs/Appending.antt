@@ -1,5 +1,5 @@
 -- Writing a text into a lent buffer from a position on. Definitions only.
-use Prim.Native.Nat.{ℕ, _+_}
+use Prim.Native.Nat.{ℕ, _+_, _≤_}
 use mathlib.Core.Path.{_≡_}
 use mathlib.Core.Bool.{Bool, cond}
 use mathlib.Core.List.{List, _++_}
@@ -19,3 +19,8 @@ hasRoom len at n = leb (at + n) len
 pub record Appended (at : ℕ) (t before after : List ℕ) (next : ℕ) : Type 0 where
   pub bytes : after ≡ cond (hasRoom (length before) at (length t)) (put at t before) before
   pub end : next ≡ cond (hasRoom (length before) at (length t)) (at + length t) at
+
+-- A text that is put, and is at most n bytes long.
+pub record AppendedWithin (n at : ℕ) (t before after : List ℕ) (next : ℕ) : Type 0 where
+  pub text : Appended at t before after next
+  pub short : length t ≤ n

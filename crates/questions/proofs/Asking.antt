@@ -1,46 +1,38 @@
 -- The questions after any list of calls. The statement is specs/Asking.antt.
 use mathlib.Core.Path.{_≡_, refl, _∙_, ap}
 use mathlib.Core.Bool.{Bool, true, false, cond, _&&_, _||_}
-use mathlib.Core.List.{List, [], _∷_, reverse}
-use mathlib.Core.Option.{none, some}
+use mathlib.Core.List.{List, [], _∷_}
+use mathlib.Core.Option.{Option, none, some}
 use Prim.Native.Nat.{ℕ, zero, suc, _-_, _^_, _≤_, _<_}
 use native.Mathlib.Omega.{arith}
 use native.Mathlib.Decide.{decLe}
 use lib.Dec.{eqb, leb}
+use lib.ListN.{length}
 use native.Mathlib.Nat.{not-suc-le-zero}
 use borrow.Author.Tests.{lt-ltb, le-ltb, le-leb, lt-leb, ne-eqb}
-use Rattle.dates.specs.Dates.{lastDay}
 use Rattle.rules.specs.declared.{Opening.Opening, Call.Call, Register.Register, Span.Span, Point.Point}
-use Rattle.rules.specs.declared.{HolderAnswer.HolderAnswer, PeriodAnswer.PeriodAnswer, AdvanceAnswer.AdvanceAnswer}
-use Rattle.rules.specs.declared.HolderAnswer.the-variants as holder
-use Rattle.rules.specs.declared.PeriodAnswer.the-variants as period
-use Rattle.rules.specs.declared.AdvanceAnswer.the-variants as advance
+use Rattle.questions.specs.declared.{HolderAnswer.HolderAnswer, PeriodAnswer.PeriodAnswer, AdvanceAnswer.AdvanceAnswer}
+use Rattle.questions.specs.declared.HolderAnswer.the-variants as holder
+use Rattle.questions.specs.declared.PeriodAnswer.the-variants as period
+use Rattle.questions.specs.declared.AdvanceAnswer.the-variants as advance
 use Rattle.rules.specs.Volumes.{volume, registered}
-use Rattle.rules.specs.Answers.{isAccepted, holderNumber, holderTold, periodNumber, periodTold, advanceNumber, advanceTold}
+use Rattle.rules.specs.Answers.{isAccepted}
+use Rattle.questions.specs.Questions.{holderNumber, holderTold, periodNumber, periodTold, advanceNumber, advanceTold}
 use Rattle.rules.specs.Rejections.{openingAnswer, notPoint}
 use Rattle.rules.specs.Register.{used, pointAt}
-use Rattle.rules.specs.Questions.{holderAnswer, periodAnswer, advanceAnswer}
+use Rattle.questions.specs.Questions.{unasked, holderAnswer, periodAnswer, advanceAnswer}
 use Rattle.rules.specs.DayBook.{opened, readings, enrolments, Page}
 use Rattle.rules.specs.Periods.{periodsOf, holderOn, book, register}
-use Rattle.agreement.specs.Demand3.{PointAgrees}
 use Rattle.agreement.proofs.Tally.{tally-desc, live-runs, Desc}
 use Rattle.agreement.proofs.Slots.{listed, Sized, used-count, take-listed}
 use Rattle.agreement.proofs.Tied.{Tied, Since}
 use Rattle.agreement.proofs.Run.{run-agrees}
 use Rattle.agreement.proofs.Theorem.{day-book-agrees}
-use Rattle.rules.proofs.Seen.{pending-unseen, request-unseen}
-use Rattle.questions.specs.ByBook.{
-  periodsIn,
-  nth,
-  askedNumber,
-  sinceEnrolment,
-  bookPeriods,
-  bookHolder,
-  bookPeriod,
-  bookAdvance,
-}
+use Rattle.questions.proofs.Seen.{pending-unseen, request-unseen}
+use Rattle.questions.specs.ByBook.{nth, askedNumber, sinceEnrolment, bookPeriods, bookHolder, bookPeriod, bookAdvance}
 use Rattle.questions.specs.Asking.{Asking}
-use Rattle.questions.proofs.Asked.{range-in}
+use Rattle.questions.proofs.Asked.{range-in, asked-in, not-on, not-off}
+use Rattle.rules.proofs.Accept.{neither}
 use Rattle.questions.proofs.Calendar.{run-day}
 use Rattle.questions.proofs.Covers.{Tells, among-covered, among-before, sum-exact}
 use Rattle.questions.proofs.ByBook.{periods-told, nth-in, nth-past}
@@ -58,159 +50,7 @@ advance-number : (a : AdvanceAnswer) → advanceNumber a ≡ askedNumber (advanc
 advance-number (advance.Volume v) = refl
 advance-number advance.OffRange = refl
 
--- A number outside 1 to 32.
-module _ (r : Register) (p : ℕ) (off : notPoint p ≡ true) where
-  holder-off : (d : ℕ) → holderAnswer r p d ≡ holder.OffRange
-  unfolding holderAnswer
-  holder-off d = rw off
-
-  period-off : (m : ℕ) → periodAnswer r p m ≡ period.OffRange
-  unfolding periodAnswer
-  period-off m = rw off
-
-  advance-off : advanceAnswer r p ≡ advance.OffRange
-  unfolding advanceAnswer
-  advance-off = rw off
-
--- One point of a register beside its page, on the register's day.
-module _ (r : Register) (l : List Span) (n : List ℕ) (g : Page) (p : ℕ) (lo : 1 ≤ p) (hi : p ≤ 32)
-    (h : Tied (r .day) l n g (pointAt p (r .points))) (cal : r .day ≤ lastDay) where
-  abbrev point : Point
-  point = pointAt p (r .points)
-
-  is-point : notPoint p ≡ false
-  is-point = rw (le-ltb p 1 lo, le-ltb 32 p hi)
-
-  used-all : used (point .history) ≡ point .history .count
-  used-all = used-count (point .history) (h .point .sized)
-
-  falling : Desc (suc (r .day)) (listed (point .history))
-  falling =
-      rw (h .point .told)
-      (tally-desc (volume l) (g .cells) (suc (r .day)) 0 (live-runs (r .day) (g .cells) (h .point .live)))
-
-  small : registered l < 2 ^ 64
-  small = let m = h .point .most in let d = h .fine .past in omega (arith, m, d)
-
-  -- what the day book says of a point that is not enrolled, and of one that is
-  module _ (out : point .fields .enrolled ≡ false) where
-    none-made : n ≡ []
-    none-made = h .point .born .outside (rw (h .point .same) out) .0
-
-    unlisted : periodsOf point ≡ []
-    unlisted =
-        take-listed (point .history) (h .point .sized) ∙ ap reverse (h .point .born .outside (rw (h .point .same) out) .1)
-
-    holder-unasked : (d : ℕ) → holderAnswer r p d ≡ holder.OffRange
-    unfolding holderAnswer
-    holder-unasked d = rw (is-point, out)
-
-    period-unasked : (m : ℕ) → periodAnswer r p m ≡ period.OffRange
-    unfolding periodAnswer
-    period-unasked m = rw (is-point, out)
-
-    advance-unasked : advanceAnswer r p ≡ advance.OffRange
-    unfolding advanceAnswer
-    advance-unasked = rw (is-point, out)
-
-  module _ (enrolled : point .fields .enrolled ≡ true) where
-    since : Since n (listed (point .history)) (g .fields .reading .day)
-    since = h .point .born .inside (rw (h .point .same) enrolled)
-
-    holder-asked : (d : ℕ) → PointAgrees (r .day) l n g point → since .enrolment ≤ d → d ≤ r .day
-        → Tells d (holderAnswer r p d) (holderOn d (g .cells))
-    unfolding holderAnswer
-    holder-asked d a le on =
-        rw (is-point, enrolled, le-ltb (r .day) d on, used-all)
-        (among-covered d (point .history .count) (point .history .periods) _
-        (omega (arith, h .point .sized .slots, h .point .sized .some)) (a .covered (since .enrolment) d (since .one) le on))
-
-    holder-before : (d : ℕ) → d < since .enrolment → d ≤ r .day → holderAnswer r p d ≡ holder.OffRange
-    unfolding holderAnswer
-    holder-before d lt on =
-        let o = since .start (suc (r .day)) in
-        rw (is-point, enrolled, le-ltb (r .day) d on, used-all)
-        (among-before d (point .history .count) (point .history .periods) (suc (r .day)) falling (omega (arith, o)))
-
-    holder-past : (d : ℕ) → r .day < d → holderAnswer r p d ≡ holder.OffRange
-    unfolding holderAnswer
-    holder-past d lt = rw (is-point, enrolled, lt-ltb (r .day) d lt)
-
-    advance-asked : advanceAnswer r p ≡ advance.Volume (registered l)
-    unfolding advanceAnswer
-    advance-asked =
-        rw (is-point, enrolled, used-all)
-        (ap advance.Volume
-        (sum-exact (point .history .count) (point .history .periods) (rw (h .point .sum) small) ∙ h .point .sum))
-
-    period-asked : (m : ℕ) → periodTold (periodAnswer r p m) ≡ cond (eqb m 0) none (nth (m - 1) (periodsOf point))
-    unfolding periodAnswer
-    period-asked zero = rw (is-point, enrolled)
-    period-asked (suc m) =
-        let k : suc m - 1 ≡ m = omega arith in
-        rw (is-point, enrolled, used-all, le-ltb (suc m) 1 (omega arith), ne-eqb (suc m) 0 (λ q. not-suc-le-zero {n = 0} (omega arith)), k)
-        (elim (decLe (suc m) (point .history .count)) [
-          | yes y ↦ rw (
-            le-ltb (point .history .count) (suc m) y,
-            nth-in m (point .history .count) (point .history .periods) y (omega (arith, h .point .sized .slots, h .point .sized .some)),
-          )
-          | no y ↦ rw (
-            lt-ltb (point .history .count) (suc m) (omega arith),
-            nth-past m (point .history .count) (point .history .periods) (omega arith),
-          )
-        ])
-
-  -- the three questions
-  module _ (a : PointAgrees (r .day) l n g point) where
-    holder-told : (d : ℕ) → holderTold (holderAnswer r p d)
-        ≡ cond (notPoint p) none (sinceEnrolment n (λ e. cond (leb e d && leb d (r .day)) (holderOn d (g .cells)) none))
-    holder-told d = rw is-point (go (point .fields .enrolled) refl)
-      where
-        go : (b : Bool) → point .fields .enrolled ≡ b → holderTold (holderAnswer r p d)
-            ≡ sinceEnrolment n (λ e. cond (leb e d && leb d (r .day)) (holderOn d (g .cells)) none)
-        go false z = rw (none-made z, holder-unasked z d)
-        go true y =
-            let e = since y .enrolment in
-            rw (since y .one)
-            (elim (decLe e d) [
-              | yes le ↦ (elim (decLe d (r .day)) [
-                | yes on ↦ rw (le-leb e d le, le-leb d (r .day) on) (holder-asked y d a le on .0)
-                | no on ↦ rw (le-leb e d le, lt-leb d (r .day) (omega arith), holder-past y d (omega arith))
-              ])
-              | no le ↦ rw (lt-leb e d (omega arith)) (ap holderTold (early y (omega arith)))
-            ])
-          where
-            early : (y : point .fields .enrolled ≡ true) → d < since y .enrolment → holderAnswer r p d ≡ holder.OffRange
-            early y lt =
-                elim (decLe d (r .day)) [
-                  | yes on ↦ holder-before y d lt on
-                  | no on ↦ holder-past y d (omega arith)
-                ]
-
-    period-told : (m : ℕ) → periodTold (periodAnswer r p m)
-        ≡ cond (notPoint p || eqb m 0) none (nth (m - 1) (periodsIn (volume l) (suc (r .day)) (g .cells) []))
-    unfolding nth
-    period-told m =
-        rw (is-point, ← (periods-told point (h .point .sized) (volume l) (g .cells) (h .point .told) (r .day) (h .point .live)))
-        (go (point .fields .enrolled) refl)
-      where
-        nothing : (b : Bool) → periodsOf point ≡ [] → none ≡ cond b none (nth (m - 1) (periodsOf point))
-        nothing true q = refl
-        nothing false q = rw q
-
-        go : (b : Bool) → point .fields .enrolled ≡ b
-            → periodTold (periodAnswer r p m) ≡ cond (eqb m 0) none (nth (m - 1) (periodsOf point))
-        go false z = rw (period-unasked z m) (nothing (eqb m 0) (unlisted z))
-        go true y = period-asked y m
-
-    advance-told : advanceTold (advanceAnswer r p) ≡ cond (notPoint p) none (sinceEnrolment n (λ e. some (registered l)))
-    advance-told = rw is-point (go (point .fields .enrolled) refl)
-      where
-        go : (b : Bool) → point .fields .enrolled ≡ b → advanceTold (advanceAnswer r p) ≡ sinceEnrolment n (λ e. some (registered l))
-        go false z = rw (none-made z, advance-unasked z)
-        go true y = rw (since y .one, advance-asked y)
-
--- Any number, after a list of calls.
+-- One point, after a list of calls.
 module _ (o : Opening) (ok : isAccepted (openingAnswer o) ≡ true) (calls : List Call) (p : ℕ) where
   abbrev r : Register
   r = register o calls
@@ -224,16 +64,16 @@ module _ (o : Opening) (ok : isAccepted (openingAnswer o) ≡ true) (calls : Lis
   abbrev g : Page
   g = book o calls .page p
 
+  abbrev point : Point
+  point = pointAt p (r .points)
+
   -- the register's day is the day book's
   same-day : book o calls .day ≡ r .day
   same-day = run-agrees o ok calls .day
 
   module _ (lo : 1 ≤ p) (hi : p ≤ 32) where
-    tied : Tied (r .day) l n g (pointAt p (r .points))
+    tied : Tied (r .day) l n g point
     tied = rw same-day at (run-agrees o ok calls .points p lo hi)
-
-    agrees : PointAgrees (r .day) l n g (pointAt p (r .points))
-    agrees = day-book-agrees o ok calls .points p lo hi
 
     pub point-sized : Sized (pointAt p (r .points) .history)
     point-sized = tied .point .sized
@@ -242,61 +82,150 @@ module _ (o : Opening) (ok : isAccepted (openingAnswer o) ≡ true) (calls : Lis
     pub periods-are : periodsOf (pointAt p (r .points)) ≡ bookPeriods o calls p
     unfolding bookPeriods
     periods-are =
-        let h = tied in
-        rw same-day (periods-told (pointAt p (r .points)) (h .point .sized) (volume l) (g .cells) (h .point .told) (r .day) (h .point .live))
+        let h = tied .point in
+        rw same-day (periods-told point (h .sized) (volume l) (g .cells) (h .told) (r .day) (h .live))
 
-  in-range : notPoint p ≡ false → (1 ≤ p) × (p ≤ 32)
-  in-range on = range-in 1 32 p on
+    unborn : unasked r p ≡ true → (n ≡ []) × (listed (point .history) ≡ [])
+    unborn off =
+        let h = tied .point in
+        h .born .outside (rw (h .same) (not-on _ (rw (le-ltb p 1 lo, le-ltb 32 p hi) at off)))
 
+  -- a point that may not be asked of: the day book has nothing to tell
+  module _ (off : unasked r p ≡ true) where
+    none-made : {A : Type 0} (f : ℕ → Option A) → cond (notPoint p) none (sinceEnrolment n f) ≡ none
+    none-made f = go (notPoint p) refl
+      where
+        go : (b : Bool) → notPoint p ≡ b → cond b none (sinceEnrolment n f) ≡ none
+        go true e = refl
+        go false e = let k = range-in 1 32 p e in rw (unborn (k .0) (k .1) off .0)
+
+    none-kept : (b : Bool) (m : ℕ) → cond (notPoint p || b) none (nth m (bookPeriods o calls p)) ≡ none
+    unfolding nth
+    none-kept b m = go (notPoint p) b refl
+      where
+        go : (a b : Bool) → notPoint p ≡ a → cond (a || b) none (nth m (bookPeriods o calls p)) ≡ none
+        go true b e = refl
+        go false true e = refl
+        go false false e =
+            let k = range-in 1 32 p e in
+            rw (← (periods-are (k .0) (k .1)), take-listed (point .history) (point-sized (k .0) (k .1)), unborn (k .0) (k .1) off .1)
+
+  -- a point that may be asked of
+  module _ (on : unasked r p ≡ false) where
+    is-point : notPoint p ≡ false
+    is-point = neither (notPoint p) _ on .0
+
+    here : (1 ≤ p) × (p ≤ 32)
+    here = asked-in r p on
+
+    h : Tied (r .day) l n g point
+    h = tied (here .0) (here .1)
+
+    since : Since n (listed (point .history)) (g .fields .reading .day)
+    since = h .point .born .inside (rw (h .point .same) (not-off _ (neither (notPoint p) _ on .1)))
+
+    used-all : used (point .history) ≡ point .history .count
+    used-all = used-count (point .history) (h .point .sized)
+
+    slots : point .history .count ≤ length (point .history .periods)
+    slots = omega (arith, h .point .sized .slots, h .point .sized .some)
+
+    falling : Desc (suc (r .day)) (listed (point .history))
+    falling =
+        rw (h .point .told)
+        (tally-desc (volume l) (g .cells) (suc (r .day)) 0 (live-runs (r .day) (g .cells) (h .point .live)))
+
+    holder-asked : (d : ℕ) → since .enrolment ≤ d → d ≤ r .day → Tells d (holderAnswer r p d) (holderOn d (g .cells))
+    unfolding holderAnswer
+    holder-asked d le due =
+        let a = day-book-agrees o ok calls .points p (here .0) (here .1) in
+        rw (on, le-ltb (r .day) d due, used-all)
+        (among-covered d (point .history .count) (point .history .periods) _ slots (a .covered (since .enrolment) d (since .one) le due))
+
+    holder-late : (d : ℕ) → r .day < d → holderAnswer r p d ≡ holder.OffRange
+    unfolding holderAnswer
+    holder-late d lt = rw (on, lt-ltb (r .day) d lt)
+
+    holder-early : (d : ℕ) → d < since .enrolment → holderAnswer r p d ≡ holder.OffRange
+    unfolding holderAnswer
+    holder-early d lt =
+        let o = since .start (suc (r .day)) in
+        elim (decLe d (r .day)) [
+          | yes due ↦ rw (on, le-ltb (r .day) d due, used-all)
+              (among-before d (point .history .count) (point .history .periods) (suc (r .day)) falling (omega (arith, o)))
+          | no late ↦ holder-late d (omega arith)
+        ]
+
+    advance-asked : advanceAnswer r p ≡ advance.Volume (registered l)
+    unfolding advanceAnswer
+    advance-asked =
+        let small : registered l < 2 ^ 64 = omega (arith, h .point .most, h .fine .past, run-day o ok calls) in
+        rw (on, used-all)
+        (ap advance.Volume
+        (sum-exact (point .history .count) (point .history .periods) (rw (h .point .sum) small) ∙ h .point .sum))
+
+    period-asked : (m : ℕ) → periodTold (periodAnswer r p m) ≡ cond (eqb m 0) none (nth (m - 1) (periodsOf point))
+    unfolding periodAnswer
+    period-asked zero = rw on
+    period-asked (suc m) =
+        let k : suc m - 1 ≡ m = omega arith in
+        rw (on, used-all, le-ltb (suc m) 1 (omega arith), ne-eqb (suc m) 0 (λ q. not-suc-le-zero {n = 0} (omega arith)), k)
+        (elim (decLe (suc m) (point .history .count)) [
+          | yes y ↦ rw (
+            le-ltb (point .history .count) (suc m) y,
+            nth-in m (point .history .count) (point .history .periods) y slots,
+          )
+          | no y ↦ rw (
+            lt-ltb (point .history .count) (suc m) (omega arith),
+            nth-past m (point .history .count) (point .history .periods) (omega arith),
+          )
+        ])
+
+  -- the three questions
   holder-is : (d : ℕ) → holderTold (holderAnswer r p d) ≡ bookHolder o calls p d
   unfolding bookHolder
-  holder-is d = rw same-day (go (notPoint p) refl)
+  holder-is d = rw same-day (go (unasked r p) refl)
     where
-      go : (b : Bool) → notPoint p ≡ b → holderTold (holderAnswer r p d)
+      go : (b : Bool) → unasked r p ≡ b → holderTold (holderAnswer r p d)
           ≡ cond (notPoint p) none (sinceEnrolment n (λ e. cond (leb e d && leb d (r .day)) (holderOn d (g .cells)) none))
-      go true off = rw (off, holder-off r p off d)
+      go true off =
+          rw (none-made off (λ e. cond (leb e d && leb d (r .day)) (holderOn d (g .cells)) none)) (unfold holderAnswer in rw off)
       go false on =
-          let k = in-range on in
-          holder-told r l n g p (k .0) (k .1) (tied (k .0) (k .1)) (run-day o ok calls) (agrees (k .0) (k .1)) d
+          let e = since on .enrolment in
+          rw (is-point on, since on .one)
+          (elim (decLe e d) [
+            | yes le ↦ (elim (decLe d (r .day)) [
+              | yes due ↦ rw (le-leb e d le, le-leb d (r .day) due) (holder-asked on d le due .0)
+              | no late ↦ rw (le-leb e d le, lt-leb d (r .day) (omega arith)) (ap holderTold (holder-late on d (omega arith)))
+            ])
+            | no le ↦ rw (lt-leb e d (omega arith)) (ap holderTold (holder-early on d (omega arith)))
+          ])
 
   period-is : (m : ℕ) → periodTold (periodAnswer r p m) ≡ bookPeriod o calls p m
-  unfolding bookPeriod bookPeriods
-  period-is m = rw same-day (go (notPoint p) refl)
+  unfolding bookPeriod
+  period-is m = go (unasked r p) refl
     where
-      go : (b : Bool) → notPoint p ≡ b → periodTold (periodAnswer r p m)
-          ≡ cond (notPoint p || eqb m 0) none (nth (m - 1) (periodsIn (volume l) (suc (r .day)) (g .cells) []))
-      go true off = rw (off, period-off r p off m)
-      go false on =
-          let k = in-range on in
-          period-told r l n g p (k .0) (k .1) (tied (k .0) (k .1)) (run-day o ok calls) (agrees (k .0) (k .1)) m
+      go : (b : Bool) → unasked r p ≡ b
+          → periodTold (periodAnswer r p m) ≡ cond (notPoint p || eqb m 0) none (nth (m - 1) (bookPeriods o calls p))
+      go true off = rw (none-kept off (eqb m 0) (m - 1)) (unfold periodAnswer in rw off)
+      go false on = rw (is-point on, ← (periods-are (here on .0) (here on .1))) (period-asked on m)
 
   pub advance-is : advanceTold (advanceAnswer r p) ≡ bookAdvance o calls p
   unfolding bookAdvance
-  advance-is = go (notPoint p) refl
+  advance-is = go (unasked r p) refl
     where
-      go : (b : Bool) → notPoint p ≡ b
+      go : (b : Bool) → unasked r p ≡ b
           → advanceTold (advanceAnswer r p) ≡ cond (notPoint p) none (sinceEnrolment n (λ e. some (registered l)))
-      go true off = rw (off, advance-off r p off)
-      go false on =
-          let k = in-range on in
-          advance-told r l n g p (k .0) (k .1) (tied (k .0) (k .1)) (run-day o ok calls) (agrees (k .0) (k .1))
+      go true off = rw (none-made off (λ e. some (registered l))) (unfold advanceAnswer in rw off)
+      go false on = rw (is-point on, since on .one) (ap advanceTold (advance-asked on))
 
   answered-on : (e d : ℕ) → 1 ≤ p → p ≤ 32 → n ≡ e ∷ [] → e ≤ d → d ≤ r .day → holderNumber (holderAnswer r p d) ≡ 0
-  answered-on e d lo hi q le on = go (pointAt p (r .points) .fields .enrolled) refl
+  answered-on e d lo hi q le due = go (unasked r p) refl
     where
-      h : Tied (r .day) l n g (pointAt p (r .points))
-      h = tied lo hi
-
-      cal : r .day ≤ lastDay
-      cal = run-day o ok calls
-
-      go : (b : Bool) → pointAt p (r .points) .fields .enrolled ≡ b → holderNumber (holderAnswer r p d) ≡ 0
-      go false z =
-          let w : _≡_ {A = ℕ} 0 1 = cc (none-made r l n g p lo hi h cal z, q) in absurd (omega arith)
-      go true y =
-          let s = since r l n g p lo hi h cal y in
-          let k : s .enrolment ≡ e = cc (s .one, q) in
-          holder-asked r l n g p lo hi h cal y d (agrees lo hi) (omega (arith, k)) on .1
+      go : (b : Bool) → unasked r p ≡ b → holderNumber (holderAnswer r p d) ≡ 0
+      go true off = let w : _≡_ {A = ℕ} 0 1 = cc (unborn lo hi off .0, q) in absurd (omega arith)
+      go false on =
+          let k : since on .enrolment ≡ e = cc (since on .one, q) in holder-asked on d (omega (arith, k)) due .1
 
 pub asking : Asking
 asking =

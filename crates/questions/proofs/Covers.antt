@@ -11,11 +11,12 @@ use lib.Dec.{leb}
 use lib.ListN.{length, getD, take}
 use lib.Seq.{take-suc, append-snoc}
 use borrow.Author.Tests.{le-leb, lt-leb, lt-ltb}
-use Rattle.rules.specs.declared.{Period.Period, HolderAnswer.HolderAnswer}
-use Rattle.rules.specs.declared.HolderAnswer.the-variants as holder
-use Rattle.rules.specs.Answers.{holderNumber, holderTold}
+use Rattle.rules.specs.declared.{Period.Period}
+use Rattle.questions.specs.declared.{HolderAnswer.HolderAnswer}
+use Rattle.questions.specs.declared.HolderAnswer.the-variants as holder
+use Rattle.questions.specs.Questions.{holderNumber, holderTold}
 use Rattle.rules.specs.Register.{noPeriod}
-use Rattle.rules.specs.Questions.{holderAmong, sumOf}
+use Rattle.questions.specs.Questions.{holderAmong, sumOf}
 use Rattle.rules.specs.Periods.{covering, isBeforeNext}
 use Rattle.agreement.proofs.Tally.{sumVolumes, oldest, Desc, desc-up, oldest-le}
 use Rattle.agreement.proofs.Slots.{recent}

@@ -4,3 +4,5 @@ pub mod Calendar
 pub mod Covers
 pub mod ByBook
 pub mod Walks
+pub mod Seen
+pub mod Examples

@@ -6,20 +6,14 @@ use mathlib.Core.Bool.{true}
 use mathlib.Core.List.{List, [], _∷_}
 use Prim.Native.Nat.{ℕ, _≤_}
 use Rattle.rules.specs.declared.{Opening.Opening, Call.Call}
-use Rattle.rules.specs.Answers.{
-  isAccepted,
-  holderNumber,
-  holderTold,
-  periodNumber,
-  periodTold,
-  advanceNumber,
-  advanceTold,
-}
+use Rattle.rules.specs.Answers.{isAccepted}
+use Rattle.questions.specs.Questions.{holderNumber, holderTold, periodNumber, periodTold}
+use Rattle.questions.specs.Questions.{advanceNumber, advanceTold}
 use Rattle.rules.specs.Rejections.{openingAnswer}
-use Rattle.rules.specs.Questions.{holderAnswer, periodAnswer, advanceAnswer}
+use Rattle.questions.specs.Questions.{holderAnswer, periodAnswer, advanceAnswer}
 use Rattle.rules.specs.DayBook.{opened, enrolments}
 use Rattle.rules.specs.Periods.{register}
-use Rattle.rules.specs.Seen.{PendingUnseen, RequestUnseen}
+use Rattle.questions.specs.Seen.{PendingUnseen, RequestUnseen}
 use Rattle.questions.specs.ByBook.{askedNumber, bookHolder, bookPeriod, bookAdvance}
 
 -- Every question after a list of calls, of any point, day and number: what it tells and its number are the day book's.

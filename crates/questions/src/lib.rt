@@ -1,19 +1,33 @@
 // The questions: they change nothing, and no pending request is seen through them.
 use point_checks::outside;
 use point_periods::marks;
-use rules::AdvanceAnswer;
 use rules::History;
-use rules::HolderAnswer;
 use rules::Period;
-use rules::PeriodAnswer;
 use rules::Register;
 ghost use mathlib.Core.Path.{_≡_};
 ghost use Prim.Native.Nat.{_≤_};
 ghost use Rattle.rules.specs.Register.{used, pointAt};
-ghost use Rattle.rules.specs.Questions.{unasked, holderAmong, holderAnswer, periodAnswer, sumOf, advanceAnswer};
+ghost use Rattle.questions.specs.Questions.{unasked, holderAmong, holderAnswer, periodAnswer, sumOf};
+ghost use Rattle.questions.specs.Questions.{advanceAnswer};
+
+// The answers to questions; a question off its range is refused.
+pub enum HolderAnswer {
+    Holder(u8),
+    OffRange,
+}
+
+pub enum PeriodAnswer {
+    Of(Period),
+    OffRange,
+}
+
+pub enum AdvanceAnswer {
+    Volume(u64),
+    OffRange,
+}
 
 // No point, or one that is not enrolled.
-pub fn is_unasked(r: Register, p: u64) -> bool
+fn is_unasked(r: Register, p: u64) -> bool
     ensures { λ x. ⌜ x ≡ unasked r p ⌝ }
 {
     if outside(1, 32, p) {

@@ -10,12 +10,12 @@ use Rattle.rules.specs.declared.{Point.Point, Register.Register, View.View, Set
 use Rattle.rules.specs.Answers.{isAccepted}
 use Rattle.rules.specs.Effects.{failed}
 use Rattle.rules.specs.Rejections.{_⇒_, firstOf, touches, isFull, anyPoint, shown, answer}
-use Rattle.rules.specs.Register.{view, pointAt, register, advanced, says, failedPoint, done, outcome, applied}
+use Rattle.rules.specs.Register.{view, pointAt, register, advanced, says, failedPoint, done, outcome, applied, on}
 use Rattle.rules.proofs.Views.{shown-in}
 use Rattle.point_answers.specs.Between.{after, failureRows}
 use Rattle.point_answers.proofs.Failures.{failure-answer, failure-fits}
 use Rattle.point_effects.proofs.Accepted.{failed-noted}
-use Rattle.register.specs.Calls.{call, broughtUp, failureFills, failedOn}
+use Rattle.register.specs.Calls.{broughtUp, failureFills, failedOn}
 use Rattle.register.proofs.AtPoint.{advanced-on, advanced-settings}
 
 any-ext : (n p : ℕ) (f g : ℕ → Bool) → ((q : ℕ) → p ≤ q → q < p + n → f q ≡ g q) → anyPoint p n f ≡ anyPoint p n g
@@ -44,11 +44,11 @@ module _ (t s : ℕ) (r : Register) where
   abbrev first : Answer
   first = firstOf (failureRows (r .settings) (r .day) (r .contracts) t s) Answer.Accepted
 
-  says-first : says r (call t (Action.Failure s)) ≡ after first (filled ⇒ 30)
+  says-first : says r (on t (Action.Failure s)) ≡ after first (filled ⇒ 30)
   unfolding says answer
   says-first = rw (failure-answer (r .settings) (r .day) (r .contracts) t s (shown every), any-fills)
 
-  pub failure-refused : (a : Answer) → a ≡ first → isAccepted a ≡ false → outcome a r ≡ applied r (call t (Action.Failure s))
+  pub failure-refused : (a : Answer) → a ≡ first → isAccepted a ≡ false → outcome a r ≡ applied r (on t (Action.Failure s))
   unfolding applied after
   failure-refused a e z = let w : isAccepted first ≡ false = rw e at z in rw (says-first, w, e, w)
 
@@ -66,12 +66,12 @@ module _ (t s : ℕ) (r : Register) where
       filled-is : b ≡ filled
       filled-is = k (r .settings) ∙ ap (λ (x : Register). anyPoint 1 32 (λ p. failureFills (r .settings) t s (pointAt p (x .points)))) up
 
-      pub failure-full : b ≡ true → outcome (Answer.Refused 30) r ≡ applied r (call t (Action.Failure s))
+      pub failure-full : b ≡ true → outcome (Answer.Refused 30) r ≡ applied r (on t (Action.Failure s))
       unfolding applied after
       failure-full y = let w : filled ≡ true = sym filled-is ∙ y in rw (says-first, ok, w)
 
       pub failure-done : b ≡ false → (ps : List Point) → ps ≡ map (failedOn (r .settings) t s) (n .points)
-          → outcome a (register (n .settings) (n .day) (set (n .contracts) s false) ps) ≡ applied r (call t (Action.Failure s))
+          → outcome a (register (n .settings) (n .day) (set (n .contracts) s false) ps) ≡ applied r (on t (Action.Failure s))
       unfolding applied after done
       failure-done y ps l =
           let w : filled ≡ false = sym filled-is ∙ y in

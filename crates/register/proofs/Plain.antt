@@ -8,25 +8,25 @@ use borrow.Author.Tests.{ltb-false}
 use Rattle.rules.specs.declared.{Action.Action, Answer.Answer, Register.Register, Settings.Settings, View.View}
 use Rattle.rules.specs.Answers.{isAccepted}
 use Rattle.rules.specs.Rejections.{rows, answerTo, shown, answer}
-use Rattle.rules.specs.Register.{view, pointAt, advanced, says, done, outcome, applied}
+use Rattle.rules.specs.Register.{view, pointAt, advanced, says, done, outcome, applied, on}
 use Rattle.rules.proofs.Accept.{pass, neither}
 use Rattle.rules.proofs.Views.{passed}
-use Rattle.register.specs.Calls.{call, broughtUp}
+use Rattle.register.specs.Calls.{broughtUp}
 use Rattle.register.proofs.AtPoint.{advanced-on}
 
 module _ (r : Register) (t : ℕ) (c : Action) (a : Answer) (e : (S : Settings) (u : List Bool) (v : ℕ → View) → a ≡ answerTo S (r .day) u t c v) where
   abbrev every : ℕ → View
   every = shown (λ q. view t (pointAt q (advanced t r .points)))
 
-  says-is : a ≡ says r (call t c)
+  says-is : a ≡ says r (on t c)
   unfolding says answer
   says-is = e (r .settings) (r .contracts) every
 
-  pub plain-refused : isAccepted a ≡ false → outcome a r ≡ applied r (call t c)
+  pub plain-refused : isAccepted a ≡ false → outcome a r ≡ applied r (on t c)
   unfolding applied
   plain-refused z = rw (← says-is, z)
 
-  pub plain-accepted : (n : Register) → n ≡ broughtUp t r → isAccepted a ≡ true → outcome a (done t c n) ≡ applied r (call t c)
+  pub plain-accepted : (n : Register) → n ≡ broughtUp t r → isAccepted a ≡ true → outcome a (done t c n) ≡ applied r (on t c)
   unfolding applied
   plain-accepted n m z =
       let ok : isAccepted (answerTo (r .settings) (r .day) (r .contracts) t c every) ≡ true = rw (← (e (r .settings) (r .contracts) every)) z in

@@ -7,14 +7,11 @@ use Rattle.rules.specs.declared.{Point.Point, Register.Register, Settings.Setti
 use Rattle.rules.specs.declared.{Action.Action, PointAction.PointAction}
 use Rattle.rules.specs.Effects.{failed}
 use Rattle.rules.specs.Rejections.{notPoint, touches, isFull}
-use Rattle.rules.specs.Register.{blankPoint, pointAt, advanced, view}
+use Rattle.rules.specs.Register.{blankPoint, pointAt, advanced, view, on}
 use Rattle.point_effects.specs.Between.{noted, failedBy}
 
-abbrev pub call : ℕ → Action → Call
-call t a = record { today = t; action = a }
-
 abbrev pub callAt : ℕ → ℕ → PointAction → Call
-callAt t p a = call t (Action.At p a)
+callAt t p a = on t (Action.At p a)
 
 -- The register brought up to a day of the calendar; no call goes past its end.
 unfoldable pub broughtUp : ℕ → Register → Register

@@ -22,8 +22,8 @@ use rules::Outcome;
 use rules::PointAction;
 use rules::Register;
 ghost use mathlib.Core.Path.{_≡_};
-ghost use Rattle.rules.specs.Register.{applied};
-ghost use Rattle.register.specs.Calls.{call, callAt};
+ghost use Rattle.rules.specs.Register.{applied, on};
+ghost use Rattle.register.specs.Calls.{callAt};
 
 fn outcome(answer: Answer, r: Register) -> Outcome
     ensures { λ x. ⌜ x ≡ record { answer = answer; register = r } ⌝ }
@@ -35,7 +35,7 @@ fn outcome(answer: Answer, r: Register) -> Outcome
 }
 
 fn contract(r: Register, today: u64, s: u64) -> Outcome
-    ensures { λ x. ⌜ x ≡ applied r (call today (Action.Contract s)) ⌝ }
+    ensures { λ x. ⌜ x ≡ applied r (on today (Action.Contract s)) ⌝ }
 {
     let answer = contract_answer(r.day, today, s);
     if !is_accepted(answer) {
@@ -49,7 +49,7 @@ fn contract(r: Register, today: u64, s: u64) -> Outcome
 
 // A failure: the points are looked at only where no row before number 30 applies.
 pub fn fail(r: Register, today: u64, s: u64) -> Outcome
-    ensures { λ x. ⌜ x ≡ applied r (call today (Action.Failure s)) ⌝ }
+    ensures { λ x. ⌜ x ≡ applied r (on today (Action.Failure s)) ⌝ }
 {
     let set = r.settings;
     let contracts = r.contracts;
@@ -89,7 +89,7 @@ fn at(r: Register, today: u64, p: u64, a: PointAction) -> Outcome
 }
 
 fn new_day(r: Register, today: u64) -> Outcome
-    ensures { λ x. ⌜ x ≡ applied r (call today Action.Day) ⌝ }
+    ensures { λ x. ⌜ x ≡ applied r (on today Action.Day) ⌝ }
 {
     let answer = day_answer(r.day, today);
     if is_accepted(answer) {

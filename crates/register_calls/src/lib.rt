@@ -19,8 +19,8 @@ pub use service::into_service;
 pub use service::out_of_service;
 pub use service::suspend;
 ghost use mathlib.Core.Path.{_≡_};
-ghost use Rattle.rules.specs.Register.{applied};
-ghost use Rattle.register.specs.Calls.{call, callAt};
+ghost use Rattle.rules.specs.Register.{applied, on};
+ghost use Rattle.register.specs.Calls.{callAt};
 
 pub(crate) fn apply_at(r: Register, today: u64, p: u64, a: PointAction) -> Outcome
     ensures { λ x. ⌜ x ≡ applied r (callAt today p a) ⌝ }
@@ -37,7 +37,7 @@ pub(crate) fn apply_at(r: Register, today: u64, p: u64, a: PointAction) -> Outco
 
 // 1. Supplier s is under contract.
 pub fn contract(r: Register, today: u64, s: u64) -> Outcome
-    ensures { λ x. ⌜ x ≡ applied r (call today (Action.Contract s)) ⌝ }
+    ensures { λ x. ⌜ x ≡ applied r (on today (Action.Contract s)) ⌝ }
 {
     let action = Action::Contract { supplier: s };
     apply(
@@ -51,7 +51,7 @@ pub fn contract(r: Register, today: u64, s: u64) -> Outcome
 
 // 2. Supplier s fails.
 pub fn failure(r: Register, today: u64, s: u64) -> Outcome
-    ensures { λ x. ⌜ x ≡ applied r (call today (Action.Failure s)) ⌝ }
+    ensures { λ x. ⌜ x ≡ applied r (on today (Action.Failure s)) ⌝ }
 {
     let action = Action::Failure { supplier: s };
     apply(
@@ -65,7 +65,7 @@ pub fn failure(r: Register, today: u64, s: u64) -> Outcome
 
 // 12. A new day.
 pub fn day(r: Register, today: u64) -> Outcome
-    ensures { λ x. ⌜ x ≡ applied r (call today Action.Day) ⌝ }
+    ensures { λ x. ⌜ x ≡ applied r (on today Action.Day) ⌝ }
 {
     apply(
         r,

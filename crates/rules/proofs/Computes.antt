@@ -12,7 +12,6 @@ use Rattle.rules.specs.Volumes
 use Rattle.rules.specs.Rejections
 use Rattle.rules.specs.Opening
 use Rattle.rules.specs.Register
-use Rattle.rules.specs.Questions
 use Rattle.rules.specs.DayBook
 use Rattle.rules.specs.Periods
 
@@ -49,10 +48,6 @@ unfolding Register.startsOn Register.replaced Register.appended Register.named R
     Register.done Register.applied Register.answers Register.after Register.opened
 register = 0
 
-unfoldable pub questions : ℕ
-unfolding Questions.holderAmong Questions.holderAnswer Questions.periodAnswer Questions.sumOf Questions.advanceAnswer
-questions = 0
-
 unfoldable pub dayBook : ℕ
 unfolding DayBook.newDay DayBook.goOn DayBook.says DayBook.next DayBook.answers DayBook.after DayBook.opened
     DayBook.readings DayBook.enrolments
@@ -64,7 +59,7 @@ periods = 0
 
 -- The two machines alone; and all, with the dates counted on from the first.
 unfoldable pub machines : ℕ
-unfolding effects volumes rejections register questions dayBook periods
+unfolding effects volumes rejections register dayBook periods
 machines = 0
 
 unfoldable pub computes : ℕ

@@ -5,4 +5,3 @@ pub mod Examples
 pub mod RowExamples
 pub mod Accept
 pub mod Views
-pub mod Seen

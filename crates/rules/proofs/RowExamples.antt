@@ -10,7 +10,6 @@ use Rattle.rules.specs.RowExamples.LastDays.{LastDayExamples}
 use Rattle.rules.specs.RowExamples.Readings.{ReadingExamples}
 use Rattle.rules.specs.RowExamples.Full.{FullExamples}
 use Rattle.rules.specs.RowExamples.Events.{EventExamples}
-use Rattle.rules.specs.RowExamples.Questions.{QuestionExamples}
 use Rattle.rules.specs.RowExamples.Varied.{VariedExamples}
 use Rattle.rules.specs.RowExamples.{RowExamples}
 use Rattle.rules.proofs.Computes.{machines, computes}
@@ -270,33 +269,6 @@ event-examples =
       checks-look-at-today = record { by-register = refl; by-book = refl };
     }
 
-question-examples : QuestionExamples
-unfolding computes
-question-examples =
-    record {
-      holder-before-enrolment = refl;
-      holder-on-enrolment = refl;
-      holder-on-14 = refl;
-      holder-on-15 = refl;
-      holder-on-registers-day = refl;
-      holder-after-registers-day = refl;
-      period-0 = refl;
-      period-1 = refl;
-      period-2 = refl;
-      period-3 = refl;
-      advance = refl;
-      advance-not-read = refl;
-      holder-of-0 = refl;
-      holder-of-33 = refl;
-      holder-not-enrolled = refl;
-      period-of-0 = refl;
-      period-of-33 = refl;
-      period-not-enrolled = refl;
-      advance-of-0 = refl;
-      advance-of-33 = refl;
-      advance-not-enrolled = refl;
-    }
-
 varied-examples : VariedExamples
 unfolding computes
 varied-examples =
@@ -349,6 +321,5 @@ row-examples =
       readings = reading-examples;
       full = full-examples;
       events = event-examples;
-      questions = question-examples;
       varied = varied-examples;
     }

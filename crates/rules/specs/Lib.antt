@@ -5,10 +5,8 @@ pub mod Answers
 pub mod Rejections
 pub mod Opening
 pub mod Register
-pub mod Questions
 pub mod DayBook
 pub mod Periods
 pub mod Scenes
 pub mod Examples
 pub mod RowExamples
-pub mod Seen

@@ -183,3 +183,7 @@ after r (c ∷ cs) = after (applied r c .register) cs
 -- A newly opened register: "the register's day (at first the first day)", no point enrolled.
 unfoldable pub opened : Opening → Register
 opened o = register (settingsOf o) (o .day) (firstContracts (settingsOf o)) (replicate 32 blankPoint)
+
+-- A call with its day.
+abbrev pub on : ℕ → Action → Call
+on t a = record { today = t; action = a }

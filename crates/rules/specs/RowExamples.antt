@@ -12,7 +12,6 @@ pub mod LastDays
 pub mod Readings
 pub mod Full
 pub mod Events
-pub mod Questions
 pub mod Varied
 use Rattle.rules.specs.RowExamples.Answers.{AnswerExamples}
 use Rattle.rules.specs.RowExamples.Openings.{OpeningExamples}
@@ -24,7 +23,6 @@ use Rattle.rules.specs.RowExamples.LastDays.{LastDayExamples}
 use Rattle.rules.specs.RowExamples.Readings.{ReadingExamples}
 use Rattle.rules.specs.RowExamples.Full.{FullExamples}
 use Rattle.rules.specs.RowExamples.Events.{EventExamples}
-use Rattle.rules.specs.RowExamples.Questions.{QuestionExamples}
 use Rattle.rules.specs.RowExamples.Varied.{VariedExamples}
 
 pub record RowExamples : Type 0 where
@@ -38,5 +36,4 @@ pub record RowExamples : Type 0 where
   pub readings : ReadingExamples
   pub full : FullExamples
   pub events : EventExamples
-  pub questions : QuestionExamples
   pub varied : VariedExamples

@@ -10,22 +10,18 @@ use mathlib.Core.Path.{_≡_}
 use mathlib.Core.List.{List, [], _∷_, map}
 use mathlib.Core.Option.{Option, some}
 use Prim.Native.Nat.{ℕ}
-use Rattle.rules.specs.declared.{Period.Period, Fields.Fields, Opening.Opening, Call.Call, Action.Action}
-use Rattle.rules.specs.declared.{Answer.Answer, AdvanceAnswer.AdvanceAnswer}
+use Rattle.rules.specs.declared.{Period.Period, Fields.Fields, Opening.Opening, Call.Call, Answer.Answer}
 use Rattle.rules.specs.Volumes.{volume, registered}
 use Rattle.rules.specs.Register
 use Rattle.rules.specs.Register.{pointAt}
-use Rattle.rules.specs.Questions.{advanceAnswer}
+pub use Rattle.rules.specs.Register.{on}
 use Rattle.rules.specs.DayBook
 use Rattle.rules.specs.DayBook.{Cell}
-use Rattle.rules.specs.Periods.{periodsOf, markedDays, holderOn, dailySums, book, register}
+use Rattle.rules.specs.Periods.{periodsOf, volumesOf, markedDays, holderOn, dailySums, total, book, register}
 
 -- First day, W, A, B, the default and the last-resort supplier: the fields of a line `set`, in its order.
 abbrev pub opening : ℕ → ℕ → ℕ → ℕ → ℕ → ℕ → Opening
 opening d w a b s l = record { day = d; w = w; a = a; b = b; default = s; resort = l }
-
-abbrev pub on : ℕ → Action → Call
-on t a = record { today = t; action = a }
 
 infix 70 _gives_
 pub data Line : Type 0 where
@@ -62,7 +58,7 @@ module _ (o : Opening) (ls : List Line) where
   -- the days' volumes that the list's readings give.
   pub record Shows (p : ℕ) (ps : List Period) (v : ℕ) : Type 0 where
     pub periods : periodsOf (pointAt p (register o (calls ls) .points)) ≡ ps
-    pub advance : advanceAnswer (register o (calls ls)) p ≡ AdvanceAnswer.Volume v
+    pub advance : total (volumesOf (pointAt p (register o (calls ls) .points))) ≡ v
     pub starts : markedDays (book o (calls ls) .page p .cells) [] ≡ startsIn ps
     pub holders : holdersOn (startsIn ps) (book o (calls ls) .page p .cells) ≡ map (λ (q : Period). some (q .holder)) ps
     pub volumes :

@@ -209,19 +209,3 @@ pub enum Effect {
     // A request waits for its day, which the answer carries.
     Request(u32, Fields),
 }
-
-// The answers to questions; a question off its range is refused.
-pub enum HolderAnswer {
-    Holder(u8),
-    OffRange,
-}
-
-pub enum PeriodAnswer {
-    Of(Period),
-    OffRange,
-}
-
-pub enum AdvanceAnswer {
-    Volume(u64),
-    OffRange,
-}

@@ -2,14 +2,13 @@
 use mathlib.Core.Path.{sym}
 use lib.Seq.{length-take-le}
 use native.Mathlib.Omega.{arith}
-use Rattle.ask_words.specs.Asked.{unopened}
-use Rattle.ask_lines.proofs.Writing.{appended-within}
+use Rattle.line_text.proofs.Within.{appended-within}
 use borrow.Author.Needs.{needs}
 use Rattle.ask.proofs.answer.Statement.{statement}
 use Rattle.ask.proofs.answer.Tie as tie
 
 array-share-prefix-out : tie.Need-array-share-prefix-out
-array-share-prefix-out c = appended-within 0 unopened _ _ _ (c .before .put-unopened .ensures) (omega arith)
+array-share-prefix-out c = appended-within (c .before .put-unopened .ensures) (omega arith)
 
 pub answer-spec : {M : Type 1} → statement M
 answer-spec =

@@ -2,16 +2,13 @@
 use mathlib.Core.Path.{sym}
 use lib.Seq.{length-take-le}
 use native.Mathlib.Omega.{arith}
-use Rattle.ask_lines.specs.Lines.{reply}
-use Rattle.ask_lines.proofs.Writing.{appended-within}
+use Rattle.line_text.proofs.Within.{appended-within}
 use borrow.Author.Needs.{needs}
 use Rattle.ask.proofs.answer_one.Statement.{statement}
 use Rattle.ask.proofs.answer_one.Tie as tie
 
 array-share-prefix-out : tie.Need-array-share-prefix-out
-array-share-prefix-out c =
-    let c₃ = c .before .before .before in
-    appended-within 0 (reply (c₃ .args .r) (c₃ .args .q)) _ _ _ (c .before .put-reply .ensures) (omega arith)
+array-share-prefix-out c = appended-within (c .before .put-reply .ensures) (omega arith)
 
 pub answer-one-spec : {M : Type 1} → statement M
 answer-one-spec =

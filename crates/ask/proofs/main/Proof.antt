@@ -2,17 +2,19 @@
 use mathlib.Core.Path.{sym}
 use lib.Seq.{length-take-le}
 use native.Mathlib.Omega.{arith}
-use Rattle.ask_words.specs.Asked.{usage}
-use Rattle.ask_lines.proofs.Writing.{appended-within}
+use Rattle.line_text.proofs.Within.{appended-within}
 use borrow.Author.Needs.{needs}
 use Rattle.ask.proofs.main.Statement.{statement}
 use Rattle.ask.proofs.main.Tie as tie
 
 array-share-prefix-out : tie.Need-array-share-prefix-out
-array-share-prefix-out c = appended-within 0 usage _ _ _ (c .before .put-usage .ensures) (omega arith)
+array-share-prefix-out c = appended-within (c .before .put-usage .ensures) (omega arith)
 
 pub main-spec : {M : Type 1} → statement M
 main-spec =
     tie.close (tie.spec (λ c κs. search needs) (λ c. search needs) (λ c. search needs) (λ c κs. search needs)
     array-share-prefix-out (λ c. sym (length-take-le _ _ (array-share-prefix-out (c .before)))) (λ c κs. search needs)
-    (λ c. search needs) (λ c κs. search needs) (λ c. search needs) (λ c κs. search needs) (λ c. search needs))
+    (λ c. search needs) (λ c κs. search needs) (λ c. search needs) (λ c κs. search needs) (λ c. search needs)
+    (λ c. search needs) (λ c κs. search needs) (λ c. search needs) (λ c. search needs) (λ c κs. search needs)
+    (λ c. search needs) (λ c. search needs) (λ c κs. search needs) (λ c. search needs) (λ c. search needs)
+    (λ c. search needs) (λ c. search needs))

@@ -4,32 +4,16 @@ use borrow.Author.Needs.{needs}
 use Rattle.ask_lines.proofs.put_answer.Statement.{statement}
 use Rattle.ask_lines.proofs.put_answer.Tie as tie
 
-returns : tie.Need-returns
-unfolding reply
-returns c =
-    let c₂ = c .before .before in
-    let c₃ = c₂ .before in
-    let c₆ = c₃ .before .before .before in
-    rw (c₆ .q .given .1) (rw (c₃ .holder-of .ensures) at (c₂ .put-holder .ensures))
-
-returns-2 : tie.Need-returns-2
-unfolding reply
-returns-2 c =
-    let c₂ = c .before .before in
-    let c₃ = c₂ .before in
-    let c₆ = c₃ .before .before .before in
-    rw (c₆ .q2 .given .1) (rw (c₃ .period-of .ensures) at (c₂ .put-period .ensures))
-
-returns-3 : tie.Need-returns-3
-unfolding reply
-returns-3 c =
-    let c₂ = c .before .before in
-    let c₃ = c₂ .before in
-    let c₆ = c₃ .before .before .before in
-    rw (c₆ .q3 .given .1) (rw (c₃ .advance-of .ensures) at (c₂ .put-advance .ensures))
-
 pub put-answer-spec : {M : Type 1} → statement M
 put-answer-spec =
     tie.close (tie.spec (λ c. search needs) (λ c κs. search needs) (λ c κs. search needs) (λ c. search needs)
     (λ c κs. search needs) (λ c κs. search needs) (λ c. search needs) (λ c κs. search needs) (λ c κs. search needs)
-    (λ c. search needs) returns (λ c. search needs) returns-2 (λ c. search needs) returns-3)
+    (λ c. search needs)
+    (λ c. let k = c .before .before in unfold reply in
+    rw (k .before .before .before .before .q .given .1) (rw (k .before .holder-of .ensures) at (k .put-holder .ensures)))
+    (λ c. search needs)
+    (λ c. let k = c .before .before in unfold reply in
+    rw (k .before .before .before .before .q2 .given .1) (rw (k .before .period-of .ensures) at (k .put-period .ensures)))
+    (λ c. search needs)
+    (λ c. let k = c .before .before in unfold reply in
+    rw (k .before .before .before .before .q3 .given .1) (rw (k .before .advance-of .ensures) at (k .put-advance .ensures))))

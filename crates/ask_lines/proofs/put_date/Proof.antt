@@ -1,17 +1,20 @@
 -- A day's date, and the byte behind it.
+use mathlib.Core.List.{[], _∷_}
 use native.Mathlib.Omega.{arith}
-use Rattle.ask_lines.proofs.Writing.{date-put}
+use Rattle.line_text.proofs.DayTexts.{day-append, day-length}
+use Rattle.line_text.proofs.Within.{within, within-more}
 use borrow.Author.Needs.{needs}
 use Rattle.ask_lines.proofs.put_date.Statement.{statement}
 use Rattle.ask_lines.proofs.put_date.Tie as tie
 
 returns : tie.Need-returns
 returns c =
-    let c₂ = c .before .before in
-    let c₆ = c₂ .before .before .before .before in
-    let c₉ = c₆ .before .before .before in
-    date-put (c₉ .args .at) _ _ _ _ _ (c₉ .args .day) (c₉ .args .end) (omega arith)
-    (c₆ .put-day .ensures) (c₂ .put-byte .ensures)
+    let k = c .before .before in
+    let d = k .before .before .before .before in
+    let a = d .before .before .before .args in
+    let eight = day-length (a .day) in
+    rw (day-append (a .day) (a .end ∷ []))
+    (within-more 8 1 (within (d .put-day .ensures) (omega arith)) (within (k .put-byte .ensures) (omega arith)) (omega arith))
 
 pub put-date-spec : {M : Type 1} → statement M
 put-date-spec = tie.close (tie.spec (λ c κs. search needs) (λ c κs. search needs) (λ c. search needs) returns)

@@ -4,21 +4,10 @@ use borrow.Author.Needs.{needs}
 use Rattle.ask_lines.proofs.put_holder.Statement.{statement}
 use Rattle.ask_lines.proofs.put_holder.Tie as tie
 
-returns : tie.Need-returns
-unfolding holderReply
-returns c =
-    let c₂ = c .before .before in
-    let c₅ = c₂ .before .before .before in
-    rw (c₅ .answer .given .1) (c₂ .put-ok .ensures)
-
-returns-2 : tie.Need-returns-2
-unfolding holderReply
-returns-2 c =
-    let c₂ = c .before .before in
-    let c₄ = c₂ .before .before in
-    rw (c₄ .enum-told .given .1) (c₂ .put-refusal .ensures)
-
 pub put-holder-spec : {M : Type 1} → statement M
 put-holder-spec =
     tie.close (tie.spec (λ c. search needs) (λ c. search needs) (λ c κs. search needs) (λ c. search needs)
-    (λ c κs. search needs) (λ c. search needs) returns (λ c. search needs) returns-2)
+    (λ c κs. search needs) (λ c. search needs)
+    (λ c. let k = c .before .before in unfold holderReply in rw (k .before .before .before .answer .given .1) (k .put-ok .ensures))
+    (λ c. search needs)
+    (λ c. let k = c .before .before in unfold holderReply in rw (k .before .before .enum-told .given .1) (k .put-refusal .ensures)))

@@ -1,38 +1,25 @@
 -- `ok;`, a period's start, its holder and its volume, one behind the other.
+use mathlib.Core.List.{append-assoc}
 use native.Mathlib.Omega.{arith}
-use Rattle.line_text.specs.Ascii.{ascii}
-use Rattle.ask_lines.proofs.Writing.{within, room-left, start-put, holder-put, period-put}
+use Rattle.line_text.proofs.Within.{within, within-more, within-wider, room-left}
 use borrow.Author.Needs.{needs}
 use Rattle.ask_lines.proofs.put_ok_period.Statement.{statement}
 use Rattle.ask_lines.proofs.put_ok_period.Tie as tie
-
-put-date-requires : tie.Need-put-date-requires
-put-date-requires c κs =
-    let c₃ = c .before .before .before in
-    let c₇ = c₃ .before .before .before .before in
-    let a = c₇ .args in
-    let word = within 3 (a .at) (ascii "ok;") _ _ _ (c₃ .put-word .ensures) (omega arith) in
-    room-left 3 9 (a .at) _ _ _ _ word (omega arith)
 
 put-field-requires : tie.Need-put-field-requires
 put-field-requires c κs =
     let c₃ = c .before .before .before in
     let c₇ = c₃ .before .before .before .before in
-    let c₁₁ = c₇ .before .before .before .before in
-    let a = c₁₁ .args in
-    let start = start-put (a .at) (a .start) _ _ _ _ _ (omega arith) (c₇ .put-word .ensures) (c₃ .put-date .ensures) in
-    room-left 12 21 (a .at) _ _ _ _ start (omega arith)
+    let start = within-more 3 9 (within (c₇ .put-word .ensures) (omega arith)) (c₃ .put-date .ensures) (omega arith) in
+    room-left 21 start (omega arith)
 
 put-field-requires-2 : tie.Need-put-field-requires-2
 put-field-requires-2 c κs =
     let c₃ = c .before .before .before in
     let c₇ = c₃ .before .before .before .before in
     let c₁₁ = c₇ .before .before .before .before in
-    let c₁₅ = c₁₁ .before .before .before .before in
-    let a = c₁₅ .args in
-    let holder = holder-put (a .at) (a .start) _ _ _ _ _ (omega arith) (c₁₁ .put-word .ensures)
-    (c₇ .put-date .ensures) (a .holder) _ _ (c₃ .put-field .ensures) in
-    room-left 33 21 (a .at) _ _ _ _ holder (omega arith)
+    let start = within-more 3 9 (within (c₁₁ .put-word .ensures) (omega arith)) (c₇ .put-date .ensures) (omega arith) in
+    room-left 21 (within-more 12 21 start (c₃ .put-field .ensures) (omega arith)) (omega arith)
 
 returns : tie.Need-returns
 returns c =
@@ -40,12 +27,13 @@ returns c =
     let c₆ = c₂ .before .before .before .before in
     let c₁₀ = c₆ .before .before .before .before in
     let c₁₄ = c₁₀ .before .before .before .before in
-    let c₁₈ = c₁₄ .before .before .before .before in
-    let a = c₁₈ .args in
-    period-put (a .at) (a .start) _ _ _ _ _ (omega arith) (c₁₄ .put-word .ensures) (c₁₀ .put-date .ensures)
-    (a .holder) _ _ (c₆ .put-field .ensures) (a .volume) _ _ (c₂ .put-field2 .ensures)
+    let start = within-more 3 9 (within (c₁₄ .put-word .ensures) (omega arith)) (c₁₀ .put-date .ensures) (omega arith) in
+    let holder = within-more 12 21 start (c₆ .put-field .ensures) (omega arith) in
+    let all = within-more 33 21 holder (c₂ .put-field2 .ensures) (omega arith) in
+    within-wider (simp append-assoc at all) (omega arith)
 
 pub put-ok-period-spec : {M : Type 1} → statement M
 put-ok-period-spec =
-    tie.close (tie.spec (λ c. search needs) (λ c κs. search needs) put-date-requires put-field-requires
-    put-field-requires-2 (λ c. search needs) returns)
+    tie.close (tie.spec (λ c. search needs) (λ c κs. search needs)
+    (λ c κs. room-left {m = 3} 9 (within (c .before .before .before .put-word .ensures) (omega arith)) (omega arith))
+    put-field-requires put-field-requires-2 (λ c. search needs) returns)

@@ -3,7 +3,8 @@ use mathlib.Core.Path.{ap, _∙_}
 use lib.ListN.{length}
 use Rattle.line_values.specs.Days.{dayIn}
 use Rattle.line_values.proofs.Places.{day-leaves}
-use Rattle.ask_words.specs.Asked.{wholeOf, dateValue}
+use Rattle.ask_words.specs.Asked.{dateValue}
+use Rattle.ask_words.specs.Between.Whole.{wholeOf}
 use Rattle.ask_words.proofs.Values.{whole-value}
 use borrow.Author.Needs.{needs}
 use Rattle.ask_words.proofs.date_value.Statement.{statement}

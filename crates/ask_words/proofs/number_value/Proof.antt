@@ -3,7 +3,8 @@ use mathlib.Core.Path.{ap, _∙_}
 use lib.ListN.{length}
 use Rattle.line_values.specs.Numbers.{numberOf}
 use Rattle.line_values.proofs.Places.{number-leaves}
-use Rattle.ask_words.specs.Asked.{wholeOf, numberValue}
+use Rattle.ask_words.specs.Asked.{numberValue}
+use Rattle.ask_words.specs.Between.Whole.{wholeOf}
 use Rattle.ask_words.proofs.Values.{whole-value}
 use borrow.Author.Needs.{needs}
 use Rattle.ask_words.proofs.number_value.Statement.{statement}

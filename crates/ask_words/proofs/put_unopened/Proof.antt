@@ -1,4 +1,4 @@
--- `question_words::put_unopened` meets its contract.
+-- The line, where it fits.
 use Rattle.ask_words.specs.Asked.{unopened}
 use borrow.Author.Needs.{needs}
 use Rattle.ask_words.proofs.put_unopened.Statement.{statement}

@@ -1,7 +1,6 @@
--- `listing::put_listing` meets its contract.
-use Prim.Native.Nat.{_*_}
+-- The points that fit, one behind the other.
 use native.Mathlib.Omega.{arith}
-use Rattle.line_listing.proofs.Growing.{within-length}
+use Rattle.line_text.proofs.Within.{within-length}
 use Rattle.line_listing.proofs.Rising.{listed}
 use borrow.Author.Needs.{needs}
 use Rattle.line_listing.proofs.put_listing.Statement.{statement}
@@ -11,8 +10,7 @@ same-length : tie.Need-same-length
 same-length c =
     let c₂ = c .before .before in
     let c₄ = c₂ .before .before in
-    within-length (c₄ .taken-from .result * 918) 0 _ _ _ _ (c₂ .put-points .ensures)
-    (omega (arith, c₄ .taken-from .ensures))
+    within-length (c₂ .put-points .ensures) (omega (arith, c₄ .taken-from .ensures))
 
 returns : tie.Need-returns
 returns c =

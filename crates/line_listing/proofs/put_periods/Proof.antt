@@ -1,12 +1,14 @@
 -- The lines of the periods passed so far stand behind the position.
 use borrow.Author.Needs.{needs}
+use Rattle.line_text.specs.Appending.{AppendedWithin}
 use Rattle.line_listing.proofs.put_periods.Statement.{statement}
 use Rattle.line_listing.proofs.put_periods.Tie as tie
 use Prim.Native.Nat.{_+_, _-_, _*_, _≤_}
 use mathlib.Core.Path.{_≡_}
 use native.Mathlib.Omega.{arith}
-use Rattle.line_listing.specs.Listing.{AppendedWithin, periodLines}
-use Rattle.line_listing.proofs.Growing.{within-none, within-more, within-length, lines-next, lines-none}
+use Rattle.line_listing.specs.Listing.{periodLines}
+use Rattle.line_text.proofs.Within.{within-none, within-more, within-length}
+use Rattle.line_listing.proofs.Growing.{lines-next, lines-none}
 
 abbrev Inv-loop : tie.InvT-loop
 Inv-loop out₀ at p n ps end₀ i₀ out end i = (i ≤ n) × AppendedWithin (37 * i) at (periodLines p i ps) out₀ out end
@@ -31,8 +33,7 @@ loop-again c =
     let k : 37 * (l .i + 1) ≡ 37 * l .i + 37 = omega arith in (
       omega arith,
       rw (k, lines-next (a .p) (l .i) (a .t5))
-          (within-more (37 * l .i) 37 (a .at) _ _ _ _ _ _ _ (l .inv .1) (c₂ .put-line .ensures .text)
-          (c₂ .put-line .ensures .short) (omega arith)),
+          (within-more (37 * l .i) 37 (l .inv .1) (c₂ .put-line .ensures) (omega arith)),
     )
 
 same-length : tie.Need-same-length Inv-loop μ-loop
@@ -40,7 +41,7 @@ same-length c =
     let c₃ = c .before .before .before in
     let a = c₃ .args in
     let l = c .before .loop in
-    within-length (37 * l .i) (a .at) (periodLines (a .p) (l .i) (a .t5)) _ _ _ (l .inv .1) (omega arith)
+    within-length (l .inv .1) (omega arith)
 
 returns : tie.Need-returns Inv-loop μ-loop
 returns c =

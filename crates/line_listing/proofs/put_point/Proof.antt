@@ -1,29 +1,36 @@
 -- The lines of one point: none, or its periods and then its total.
+use Prim.Native.Nat.{_+_, _-_, _*_}
+use mathlib.Core.Path.{_≡_}
+use native.Mathlib.Omega.{arith}
+use Rattle.questions.proofs.Asked.{not-on, not-off}
+use Rattle.line_text.proofs.Within.{within, within-none, within-more, within-wider}
+use Rattle.line_answers.proofs.LineTexts.{total-short}
+use Rattle.line_listing.specs.Listing.{pointLines}
 use borrow.Author.Needs.{needs}
 use Rattle.line_listing.proofs.put_point.Statement.{statement}
 use Rattle.line_listing.proofs.put_point.Tie as tie
-use native.Mathlib.Omega.{arith}
-use Rattle.line_listing.proofs.Growing.{point-none, point-lines}
-use Rattle.line_listing.proofs.Growing.{not-on, not-off}
 
 returns : tie.Need-returns
+unfolding pointLines
 returns c =
-    let c₄ = c .before .before .before .before in
-    point-none (c₄ .args .at) (c₄ .args .p) (c₄ .args .g) (c₄ .args .out .now) (omega arith)
-    (not-on (c₄ .args .g .fields .enrolled) (c .if1 .taken))
+    let a = c .before .before .before .before .args in
+    rw (not-on (a .g .fields .enrolled) (c .if1 .taken)) (within-wider (within-none (a .at) (a .out .now) (omega arith)) (omega arith))
 
 returns-2 : tie.Need-returns-2
+unfolding pointLines
 returns-2 c =
     let c₂ = c .before .before in
     let c₄ = c₂ .before .before in
     let c₇ = c₄ .before .before .before in
     let c₁₀ = c₇ .before .before .before in
     let c₁₂ = c₁₀ .before .before in
-    let c₁₆ = c₁₂ .before .before .before .before in
-    let a = c₁₆ .args in
-    point-lines (a .at) (a .p) (a .g) (c₁₀ .marks .result) (c₄ .advance-in .result) (a .out .now) _ _ _ _
-    (not-off (a .g .fields .enrolled) (c₁₂ .if1 .left)) (omega arith) (omega arith) (omega arith)
-    (c₁₀ .marks .ensures) (c₄ .advance-in .ensures) (c₇ .put-periods .ensures) (c₂ .put-total .ensures)
+    let a = c₁₂ .before .before .before .before .args in
+    let n = c₁₀ .marks .result in
+    let total = total-short (a .p) (c₄ .advance-in .result) 2 20 (omega arith) (omega arith) (omega arith) (omega arith) in
+    let all = within-more (37 * n) (918 - 37 * n) (c₇ .put-periods .ensures) (within (c₂ .put-total .ensures) (omega arith))
+    (omega arith) in
+    let k : 37 * n + (918 - 37 * n) ≡ 918 = omega arith in
+    rw (not-off (a .g .fields .enrolled) (c₁₂ .if1 .left), ← (c₄ .advance-in .ensures), ← (c₁₀ .marks .ensures)) (rw k at all)
 
 pub put-point-spec : {M : Type 1} → statement M
 put-point-spec =

@@ -5,8 +5,9 @@ use lib.ListN.{take, drop}
 use lib.Seq.{getD-drop}
 use native.Mathlib.Omega.{arith}
 use Rattle.rules.specs.Register.{noPoint}
-use Rattle.line_listing.specs.Listing.{AppendedWithin, listingFrom}
-use Rattle.line_listing.proofs.Growing.{within-none, within-more, within-length, within-end}
+use Rattle.line_text.specs.Appending.{AppendedWithin}
+use Rattle.line_listing.specs.Listing.{listingFrom}
+use Rattle.line_text.proofs.Within.{within-none, within-more, within-length, within-end}
 use Rattle.line_listing.proofs.Rising.{listing-none, listing-next}
 use borrow.Author.Needs.{needs}
 use Rattle.line_listing.proofs.put_points.Statement.{statement}
@@ -32,8 +33,8 @@ put-point-requires c κs =
     let c₅ = c₃ .before .before in
     let a = c₅ .args in
     let l = c₃ .loop in
-    let len = within-length (l .i * 918) 0 _ _ _ _ (l .inv .1) (omega arith) in
-    let end = within-end (l .i * 918) 0 _ _ _ _ (l .inv .1) (omega arith) in
+    let len = within-length (l .inv .1) (omega arith) in
+    let end = within-end (l .inv .1) (omega arith) in
     (omega arith, omega arith)
 
 loop-again : tie.Need-loop-again Inv-loop μ-loop
@@ -47,14 +48,13 @@ loop-again c =
     let p : a .from + 1 + l .i ≡ a .from + l .i + 1 = omega arith in (
       omega arith,
       rw (k, listing-next (a .from + 1) (l .i) (drop (a .from) (a .t2)), getD-drop (a .from) (a .t2) (l .i) noPoint, p)
-          (within-more (l .i * 918) 918 0 _ _ _ _ _ _ _ (l .inv .1) (c₂ .put-point .ensures .text)
-          (c₂ .put-point .ensures .short) (omega arith)),
+          (within-more (l .i * 918) 918 (l .inv .1) (c₂ .put-point .ensures) (omega arith)),
     )
 
 same-length : tie.Need-same-length Inv-loop μ-loop
 same-length c =
     let l = c .before .loop in
-    within-length (l .i * 918) 0 _ _ _ _ (l .inv .1) (omega arith)
+    within-length (l .inv .1) (omega arith)
 
 returns : tie.Need-returns Inv-loop μ-loop
 returns c =

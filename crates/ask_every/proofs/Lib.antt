@@ -1,4 +1,0 @@
-pub mod Indexing
-pub mod Handing
-pub mod Pieces
-pub mod Examples

@@ -1,3 +1,0 @@
-pub mod All
-pub mod Pieces
-pub mod Examples

@@ -1,0 +1,2 @@
+-- What a theorem of proofs/ pins.
+pub mod Pieces

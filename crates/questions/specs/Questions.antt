@@ -1,0 +1,76 @@
+-- Document 01, "Volumes": the questions, which change nothing. Definitions only.
+use mathlib.Core.Bool.{Bool, cond, not, _||_}
+use mathlib.Core.List.{List}
+use mathlib.Core.Option.{Option, none, some}
+use Prim.Native.Nat.{ℕ, zero, suc, _+_, _-_, _%_, _^_}
+use lib.Dec.{leb, ltb}
+use lib.ListN.{getD}
+use Rattle.rules.specs.declared.{Period.Period, History.History, Register.Register}
+use Rattle.rules.specs.Rejections.{notPoint, outside}
+use Rattle.rules.specs.Register.{noPeriod, used, pointAt}
+use Rattle.questions.specs.declared.{HolderAnswer.HolderAnswer, PeriodAnswer.PeriodAnswer}
+use Rattle.questions.specs.declared.{AdvanceAnswer.AdvanceAnswer}
+use Rattle.questions.specs.declared.HolderAnswer.the-variants as holder
+use Rattle.questions.specs.declared.PeriodAnswer.the-variants as period
+use Rattle.questions.specs.declared.AdvanceAnswer.the-variants as advance
+
+-- "A question off its range, or on a point not enrolled, gives 22."
+abbrev pub unasked : Register → ℕ → Bool
+unasked r p = notPoint p || not (pointAt p (r .points) .fields .enrolled)
+
+-- The holder of the last of the first n periods that starts by day d; none where d lies before them all.
+unfoldable pub holderAmong : ℕ → ℕ → List Period → HolderAnswer
+holderAmong d zero ps = holder.OffRange
+holderAmong d (suc n) ps =
+    cond (leb (getD ps n noPeriod .start) d) (holder.Holder (getD ps n noPeriod .holder)) (holderAmong d n ps)
+
+abbrev pub holderIn : ℕ → History → HolderAnswer
+holderIn d h = holderAmong d (used h) (h .periods)
+
+-- "holder of p on day d (enrolment to register's day)"
+unfoldable pub holderAnswer : Register → ℕ → ℕ → HolderAnswer
+holderAnswer r p d = cond (unasked r p || ltb (r .day) d) holder.OffRange (holderIn d (pointAt p (r .points) .history))
+
+-- "period n of p (start, holder, volume; n from 1 to their count)"
+abbrev pub periodIn : ℕ → History → PeriodAnswer
+periodIn n h = cond (outside 1 (used h) n) period.OffRange (period.Of (getD (h .periods) (n - 1) noPeriod))
+
+unfoldable pub periodAnswer : Register → ℕ → ℕ → PeriodAnswer
+periodAnswer r p n = cond (unasked r p) period.OffRange (periodIn n (pointAt p (r .points) .history))
+
+-- The volumes of the first n periods, added up; the sum wraps at 2^64, which no register that calls reach comes to.
+unfoldable pub sumOf : ℕ → List Period → ℕ
+sumOf zero ps = 0
+sumOf (suc n) ps = (sumOf n ps + getD ps n noPeriod .volume) % 2 ^ 64
+
+-- "advance of p"
+unfoldable pub advanceAnswer : Register → ℕ → AdvanceAnswer
+advanceAnswer r p =
+    cond (unasked r p) advance.OffRange
+    (advance.Volume (sumOf (used (pointAt p (r .points) .history)) (pointAt p (r .points) .history .periods)))
+
+-- "A question off its range, or on a point not enrolled, gives 22." The number, 0 where the
+-- question is answered, and what is told then: the holder; the period's start, holder and volume; the advance.
+abbrev pub holderNumber : HolderAnswer → ℕ
+holderNumber (holder.Holder h) = 0
+holderNumber holder.OffRange = 22
+
+abbrev pub holderTold : HolderAnswer → Option ℕ
+holderTold (holder.Holder h) = some h
+holderTold holder.OffRange = none
+
+abbrev pub periodNumber : PeriodAnswer → ℕ
+periodNumber (period.Of q) = 0
+periodNumber period.OffRange = 22
+
+abbrev pub periodTold : PeriodAnswer → Option Period
+periodTold (period.Of q) = some q
+periodTold period.OffRange = none
+
+abbrev pub advanceNumber : AdvanceAnswer → ℕ
+advanceNumber (advance.Volume v) = 0
+advanceNumber advance.OffRange = 22
+
+abbrev pub advanceTold : AdvanceAnswer → Option ℕ
+advanceTold (advance.Volume v) = some v
+advanceTold advance.OffRange = none

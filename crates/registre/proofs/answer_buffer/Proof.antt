@@ -1,9 +1,0 @@
--- The buffer has the length that its type says.
-use Prim.Native.Nat.{ℕ}
-use mathlib.Core.Path.{sym}
-use lib.ListN.{length-replicate}
-use Rattle.registre.proofs.answer_buffer.Statement.{statement}
-use Rattle.registre.proofs.answer_buffer.Tie as tie
-
-pub answer-buffer-spec : {M : Type 1} → statement M
-answer-buffer-spec = tie.close (tie.spec (λ c. sym (length-replicate {A = ℕ} 1572864 0)))

@@ -1,7 +1,7 @@
 // The closing lines of a register: for each enrolled point, rising, its periods and its total.
 use line_answers::put_period;
 use line_answers::put_total;
-use point_periods::marks;
+use point_periods::period_count;
 use questions::advance_in;
 use rules::Period;
 use rules::Point;
@@ -78,7 +78,7 @@ fn put_point(out: &mut [u8], at: usize, p: u64, g: Point) -> usize
         return at;
     }
     let h = g.history;
-    let n = marks(h);
+    let n = period_count(h);
     let ps = h.periods;
     let total_at = put_periods(out, at, p, n, ps);
     let total = advance_in(h);

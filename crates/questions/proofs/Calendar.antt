@@ -37,7 +37,7 @@ day-next r c le = go (isAccepted (says r c)) refl
         → cond b (done (c .today) (c .action) (advanced (c .today) r)) r .day ≤ lastDay
     go true ok =
         rw (done-day (c .today) (c .action) (advanced (c .today) r), advanced-day (c .today) r)
-        (passed (r .settings) (r .day) (r .contracts) (c .today) (c .action) _ ok .calendar)
+        (passed (r .settings) (r .day) (r .contracts) (c .today) (c .action) _ ok .0)
     go false q = le
 
 day-after : (cs : List Call) (r : Register) → r .day ≤ lastDay → after r cs .day ≤ lastDay

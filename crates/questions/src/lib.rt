@@ -1,6 +1,6 @@
 // The questions: they change nothing, and no pending request is seen through them.
 use point_checks::outside;
-use point_periods::marks;
+use point_periods::period_count;
 use rules::History;
 use rules::Period;
 use rules::Register;
@@ -76,7 +76,7 @@ pub fn holder_of(r: Register, p: u64, d: u64) -> HolderAnswer
     }
     let h = history_of(r, p);
     let ps = h.periods;
-    holder_among(d, marks(h), ps)
+    holder_among(d, period_count(h), ps)
 }
 
 // Period n of point p, the oldest first.
@@ -87,7 +87,7 @@ pub fn period_of(r: Register, p: u64, n: u64) -> PeriodAnswer
         return PeriodAnswer::OffRange;
     }
     let h = history_of(r, p);
-    if outside(1, marks(h) as u64, n) {
+    if outside(1, period_count(h) as u64, n) {
         return PeriodAnswer::OffRange;
     }
     let i = (n - 1) as usize;
@@ -115,7 +115,7 @@ pub fn advance_in(h: History) -> u64
     ensures { λ x. ⌜ x ≡ sumOf (used h) (h .periods) ⌝ }
 {
     let ps = h.periods;
-    sum_of(marks(h), ps)
+    sum_of(period_count(h), ps)
 }
 
 // The registered advance of point p.

@@ -25,12 +25,12 @@ returns-2 c =
     let c₁₀ = c₇ .before .before .before in
     let c₁₂ = c₁₀ .before .before in
     let a = c₁₂ .before .before .before .before .args in
-    let n = c₁₀ .marks .result in
+    let n = c₁₀ .period-count .result in
     let total = total-short (a .p) (c₄ .advance-in .result) 2 20 (omega arith) (omega arith) (omega arith) (omega arith) in
     let all = within-more (37 * n) (918 - 37 * n) (c₇ .put-periods .ensures) (within (c₂ .put-total .ensures) (omega arith))
     (omega arith) in
     let k : 37 * n + (918 - 37 * n) ≡ 918 = omega arith in
-    rw (not-off (a .g .fields .enrolled) (c₁₂ .if1 .left), ← (c₄ .advance-in .ensures), ← (c₁₀ .marks .ensures)) (rw k at all)
+    rw (not-off (a .g .fields .enrolled) (c₁₂ .if1 .left), ← (c₄ .advance-in .ensures), ← (c₁₀ .period-count .ensures)) (rw k at all)
 
 pub put-point-spec : {M : Type 1} → statement M
 put-point-spec =

@@ -22,6 +22,6 @@ holder-of-spec =
       k .if1 .left,
       le-ltb _ _ (j .before .if2 .left),
       ← (j .history-of .ensures),
-      ← (c .before .marks .ensures),
+      ← (c .before .period-count .ensures),
     )
     (c .holder-among .ensures)))

@@ -18,25 +18,25 @@ period-of-spec =
       ← (j .before .is-unasked .ensures),
       j .if1 .left,
       ← (k .before .history-of .ensures),
-      ← (k .marks .ensures),
+      ← (k .period-count .ensures),
       ← (c .before .outside .ensures),
       c .if2 .taken,
     ))
     (λ c. let k = c .before .before in
-    let i = range-in 1 (k .marks .result) (k .before .before .before .before .args .n) (sym (c .before .outside .ensures) ∙ c .if2 .left) in
-    omega (arith, i .0, i .1, k .marks .ensures))
+    let i = range-in 1 (k .period-count .result) (k .before .before .before .before .args .n) (sym (c .before .outside .ensures) ∙ c .if2 .left) in
+    omega (arith, i .0, i .1, k .period-count .ensures))
     (λ c. let k = c .before .before in
-    let i = range-in 1 (k .marks .result) (k .before .before .before .before .args .n) (sym (c .before .outside .ensures) ∙ c .if2 .left) in
-    omega (arith, i .0, i .1, k .marks .ensures))
+    let i = range-in 1 (k .period-count .result) (k .before .before .before .before .args .n) (sym (c .before .outside .ensures) ∙ c .if2 .left) in
+    omega (arith, i .0, i .1, k .period-count .ensures))
     (λ c. let k = c .before .before in
-    let i = range-in 1 (k .marks .result) (k .before .before .before .before .args .n) (sym (c .before .outside .ensures) ∙ c .if2 .left) in
-    omega (arith, i .0, i .1, k .marks .ensures))
+    let i = range-in 1 (k .period-count .result) (k .before .before .before .before .args .n) (sym (c .before .outside .ensures) ∙ c .if2 .left) in
+    omega (arith, i .0, i .1, k .period-count .ensures))
     (λ c. let k = c .before .before .before in let j = k .before .before in unfold periodAnswer in
     rw (
       ← (j .before .is-unasked .ensures),
       j .if1 .left,
       ← (k .before .history-of .ensures),
-      ← (k .marks .ensures),
+      ← (k .period-count .ensures),
       ← (c .before .before .outside .ensures),
       c .before .if2 .left,
     )))

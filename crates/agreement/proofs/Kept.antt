@@ -41,9 +41,8 @@ use Rattle.rules.specs.Rejections.{
 }
 use Rattle.rules.proofs.Views.{dated, dated-also}
 use Rattle.rules.proofs.Accept.{pass, neither}
-use Rattle.agreement.proofs.Jump.{PendingAhead}
+use Rattle.agreement.specs.Sound.{perDay, PendingAhead}
 use Rattle.agreement.proofs.Good.{
-  perDay,
   Wheels,
   Fine,
   Names,

@@ -55,18 +55,18 @@ pub record Agree (l : ℕ → List Span) (n : ℕ → List ℕ) (b : Book) (r : 
   pub points : (p : ℕ) → 1 ≤ p → p ≤ 32 → Tied (b .day) (l p) (n p) (b .page p) (pointAt p (r .points))
 
 -- The register after an accepted call, point by point.
-abbrev did : Settings → ℕ → Action → ℕ → Point → Point
+abbrev pub did : Settings → ℕ → Action → ℕ → Point → Point
 did S t c p g = entered t (effect S t c p (g .fields)) (g .history)
 
 module _ (r : Register) (count : length (r .points) ≡ 32) (t day : ℕ) (u : List Bool) (v : ℕ → View) where
-  done-count : (c : Action) → length (done t c r .points) ≡ 32
+  pub done-count : (c : Action) → length (done t c r .points) ≡ 32
   unfolding done
   done-count (Action.Contract s) = count
   done-count (Action.Failure s) = length-map (r .points) (failedPoint (r .settings) t s) ∙ count
   done-count (Action.At q a) = length-set (r .points) (q - 1) _ ∙ count
   done-count Action.Day = count
 
-  done-points : (c : Action) → isAccepted (answerTo (r .settings) day u t c v) ≡ true → (p : ℕ) → 1 ≤ p → p ≤ 32
+  pub done-points : (c : Action) → isAccepted (answerTo (r .settings) day u t c v) ≡ true → (p : ℕ) → 1 ≤ p → p ≤ 32
       → pointAt p (done t c r .points) ≡ did (r .settings) t c p (pointAt p (r .points))
   unfolding done effect failedPoint acted
   done-points (Action.Contract s) ok p lo hi = refl
@@ -91,7 +91,7 @@ module _ (r : Register) (count : length (r .points) ≡ 32) (t day : ℕ) (u : L
           getD-set-other (r .points) (q - 1) (p - 1) new noPoint (λ z. w (omega (arith, at .0, at .1)))
   done-points Action.Day ok p lo hi = refl
 
-  done-rest : (c : Action) → (done t c r .settings ≡ r .settings) × (done t c r .day ≡ r .day) × (done t c r .contracts ≡ signed c (r .contracts))
+  pub done-rest : (c : Action) → (done t c r .settings ≡ r .settings) × (done t c r .day ≡ r .day) × (done t c r .contracts ≡ signed c (r .contracts))
   unfolding done
   done-rest (Action.Contract s) = (refl, refl, refl)
   done-rest (Action.Failure s) = (refl, refl, refl)
@@ -99,7 +99,7 @@ module _ (r : Register) (count : length (r .points) ≡ 32) (t day : ℕ) (u : L
   done-rest Action.Day = (refl, refl, refl)
 
 -- The register brought up to a day.
-advanced-rest : (t : ℕ) (r : Register)
+pub advanced-rest : (t : ℕ) (r : Register)
     → (advanced t r .settings ≡ r .settings) × (advanced t r .day ≡ t) × (advanced t r .contracts ≡ r .contracts)
     × (length (advanced t r .points) ≡ length (r .points))
 unfolding advanced

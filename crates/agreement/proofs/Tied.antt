@@ -52,7 +52,8 @@ use Rattle.agreement.proofs.Slots.{
   bookedAll-listed,
   bookedAll-sized,
 }
-use Rattle.agreement.proofs.Good.{perDay, Fine, Keeps, Names, Enrols, Good}
+use Rattle.agreement.specs.Sound.{perDay}
+use Rattle.agreement.proofs.Good.{Fine, Keeps, Names, Enrols, Good}
 
 -- The oldest period starts on the one enrolment day, at or before the last reading.
 pub record Since (n : List ℕ) (ps : List Period) (d : ℕ) : Type 0 where

@@ -1,8 +1,8 @@
 -- The periods of a point by themselves: firm ones stay firm through an effect that is good.
 use mathlib.Core.Path.{_≡_, refl, sym, _∙_, ap}
 use mathlib.Core.Bool.{Bool, true, false, cond}
-use mathlib.Core.List.{List, [], _∷_}
-use Prim.Native.Nat.{ℕ, suc, _+_, _*_, _^_, _≤_, _<_}
+use mathlib.Core.List.{List, []}
+use Prim.Native.Nat.{ℕ, suc, _+_, _*_, _≤_, _<_}
 use native.Mathlib.Omega.{arith}
 use native.Mathlib.Nat.{le-trans}
 use lib.ListN.{length}
@@ -10,7 +10,7 @@ use Rattle.dates.specs.Dates.{lastDay}
 use Rattle.rules.specs.declared.{Fields.Fields, History.History, Period.Period, Point.Point, Span.Span, Effect.Effect}
 use Rattle.rules.specs.Effects.{fieldsOf, names, spansIn}
 use Rattle.rules.specs.Volumes.{registered}
-use Rattle.rules.specs.Rejections.{due, marksAfter}
+use Rattle.rules.specs.Rejections.{due}
 use Rattle.rules.specs.Register.{used, startsOn, named, entered, bookedAll, view}
 use Rattle.agreement.specs.Sound.{perDay}
 use Rattle.agreement.proofs.Shares.{All, all-map}

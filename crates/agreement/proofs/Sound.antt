@@ -1,8 +1,8 @@
 -- An opening gives a sound register, and every call keeps it sound.
 use mathlib.Core.Path.{_≡_, refl, sym, _∙_, ap, subst, subst₂}
 use mathlib.Core.Bool.{Bool, true, false, cond, false≢true}
-use mathlib.Core.List.{List, [], _∷_, map}
-use Prim.Native.Nat.{ℕ, zero, suc, _+_, _-_, _*_, _≤_, _<_}
+use mathlib.Core.List.{List, [], map}
+use Prim.Native.Nat.{ℕ, zero, suc, _+_, _-_, _≤_, _<_}
 use native.Mathlib.Omega.{arith}
 use lib.Dec.{eqb}
 use lib.ListN.{length, getD, getD-replicate}
@@ -18,15 +18,15 @@ use Rattle.rules.specs.Register.{noPeriod, noPoint, blankPoint, catchUp, entere
 use Rattle.rules.specs.Periods.{total}
 use Rattle.rules.proofs.Accept.{pass}
 use Rattle.rules.proofs.Views.{passed, shown-in}
-use Rattle.agreement.specs.Sound.{Ahead, Rising, SoundPoint, Sound, SoundRegisters}
-use Rattle.agreement.proofs.Tally.{sumVolumes, oldest, Desc, desc-up}
+use Rattle.agreement.specs.Sound.{Rising, SoundPoint, Sound, SoundRegisters}
+use Rattle.agreement.proofs.Tally.{oldest, Desc, desc-up}
 use Rattle.agreement.proofs.Slots.{recent, listed, Sized, used-count}
 use Rattle.agreement.proofs.Cover.{total-read}
 use Rattle.agreement.proofs.Good.{Fine, Good, event-good, event-unread}
 use Rattle.agreement.proofs.Jump.{onDay, daily, daily-catchUp}
 use Rattle.agreement.proofs.Days.{point-map}
 use Rattle.agreement.proofs.Kept.{enrolledBy, call-good}
-use Rattle.agreement.proofs.Firm.{Begun, Firm, firm-after, fine-entered}
+use Rattle.agreement.proofs.Firm.{Firm, firm-after, fine-entered}
 use Rattle.agreement.proofs.Step.{did, done-count, done-points, done-rest, advanced-rest}
 use Rattle.agreement.proofs.Run.{lasting}
 

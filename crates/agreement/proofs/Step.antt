@@ -16,30 +16,12 @@ use Rattle.rules.specs.Answers.{isAccepted}
 use Rattle.rules.specs.declared.{View.View}
 use Rattle.rules.specs.Rejections.{answerTo, shown, answer}
 use Rattle.rules.specs.Register
-use Rattle.rules.specs.Register.{
-  entered,
-  catchUp,
-  view,
-  register,
-  pointAt,
-  noPoint,
-  advanced,
-  acted,
-  failedPoint,
-  done,
-  applied,
-}
+use Rattle.rules.specs.Register.{entered, catchUp, view, register, pointAt, noPoint, advanced, acted, failedPoint}
+use Rattle.rules.specs.Register.{done, applied}
 use Rattle.rules.specs.DayBook
 use Rattle.rules.specs.DayBook.{Book, Page, upToDay, look, signed, written, next, does}
 use Rattle.agreement.proofs.Good.{Good}
-use Rattle.rules.proofs.Views.{
-  shown-in,
-  answer-ext,
-  answer-off,
-  answer-back,
-  passed,
-  accepted-point,
-}
+use Rattle.rules.proofs.Views.{shown-in, answer-ext, answer-off, answer-back, passed, accepted-point}
 use Rattle.agreement.proofs.Kept.{enrolledBy, call-good}
 use Rattle.agreement.proofs.Tied.{Tied, views-agree, effect-tied}
 use Rattle.agreement.proofs.Days.{gone-on, point-map, caught}

@@ -18,26 +18,9 @@ use Rattle.rules.specs.Rejections.{due, marksAfter}
 use Rattle.rules.specs.Register.{startsOn, named, entered, bookedAll, view}
 use Rattle.rules.specs.DayBook.{Cell, cell, Page, overwritten, written, countMarks, isMarked, look}
 use Rattle.agreement.proofs.Shares.{all-map, volume-append, registered-append, volume-after}
-use Rattle.agreement.proofs.Tally.{
-  begin,
-  beganOn,
-  bookTotals,
-  tally,
-  Live,
-  live-runs,
-  live-overwritten,
-  Held,
-  held-overwritten,
-  tally-length,
-  began,
-  begin-tally,
-  bookTotals-tally,
-  sumVolumes,
-  oldest,
-  tally-desc,
-  oldest-begin,
-  sum-begin,
-}
+use Rattle.agreement.proofs.Tally.{begin, beganOn, bookTotals, tally, Live, live-runs, live-overwritten, Held}
+use Rattle.agreement.proofs.Tally.{held-overwritten, tally-length, began, begin-tally, bookTotals-tally}
+use Rattle.agreement.proofs.Tally.{sumVolumes, oldest, tally-desc, oldest-begin, sum-begin}
 use Rattle.agreement.proofs.Slots.{listed, Sized, used-count, length-listed, starts-listed, named-listed, named-sized}
 use Rattle.agreement.specs.Sound.{perDay}
 use Rattle.agreement.proofs.Good.{Fine, Keeps, Names, Enrols, Good}

@@ -14,19 +14,8 @@ use lib.ListN.{take}
 use borrow.Author.Tests.{eq-eqb, ne-eqb, le-leb, lt-leb, lt-ltb, le-ltb}
 use Rattle.rules.specs.declared.{Period.Period, Point.Point}
 use Rattle.rules.specs.DayBook.{Cell, cell}
-use Rattle.rules.specs.Periods.{
-  periodsOf,
-  startsOf,
-  volumesOf,
-  markedDays,
-  holderOn,
-  isBeforeNext,
-  covering,
-  sumDays,
-  dayAfter,
-  dailySums,
-  total,
-}
+use Rattle.rules.specs.Periods.{periodsOf, startsOf, volumesOf, markedDays, holderOn, isBeforeNext, covering, sumDays}
+use Rattle.rules.specs.Periods.{dayAfter, dailySums, total}
 use Rattle.rules.specs.Register.{period}
 use Rattle.agreement.proofs.Tally.{tally, Runs, Live, Held, Desc, live-runs, tally-desc, sumVolumes, oldest}
 use Rattle.agreement.proofs.Slots.{listed, Sized, take-listed}

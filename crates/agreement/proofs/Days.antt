@@ -16,7 +16,8 @@ use Rattle.rules.specs.Volumes.{volume}
 use Rattle.rules.specs.Register.{entered, catchUp, register, pointAt, noPoint, advanced}
 use Rattle.rules.specs.DayBook.{cell, Page, Book, written, newDay, goOn, upToDay, look}
 use Rattle.agreement.proofs.Tally.{live-runs, dawn}
-use Rattle.agreement.proofs.Jump.{Ahead, onDay, daily, daily-catchUp}
+use Rattle.agreement.specs.Sound.{Ahead}
+use Rattle.agreement.proofs.Jump.{onDay, daily, daily-catchUp}
 use Rattle.agreement.proofs.Good.{Fine, event-good, event-unread}
 use Rattle.agreement.proofs.Tied.{Told, Tied, effect-tied}
 

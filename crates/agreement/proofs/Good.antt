@@ -17,11 +17,7 @@ use Rattle.rules.specs.Volumes.{registered}
 use Rattle.rules.specs.declared.{View.View}
 use Rattle.rules.specs.Rejections.{due, marksAfter}
 use Rattle.agreement.proofs.Shares.{All}
-use Rattle.agreement.proofs.Jump.{Ahead, KindAhead, PendingAhead}
-
--- No reading books more than this, and each takes a day.
-abbrev pub perDay : ℕ
-perDay = 100000000000
+use Rattle.agreement.specs.Sound.{perDay, Ahead, KindAhead, PendingAhead}
 
 -- An accepted meter.
 abbrev pub Wheels : Meter → Type 0

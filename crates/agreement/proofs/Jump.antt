@@ -12,22 +12,8 @@ use Rattle.rules.specs.declared.Due.the-variants as due
 use Rattle.rules.specs.Fields.{supply, fields}
 use Rattle.rules.specs.declared.{Effect.Effect}
 use Rattle.rules.specs.Effects.{fieldsOf, event, pendingEvent, deadlineEvent}
+use Rattle.agreement.specs.Sound.{KindAhead, PendingAhead, Ahead}
 use Rattle.rules.specs.Register.{entered, expiryBy, endsBefore, dueBy, happened, nextEvent, catchUp}
-
--- What is due lies after day t.
-abbrev pub KindAhead : ℕ → SupplyKind → Type 0
-KindAhead t SupplyKind.None = Unit {0}
-KindAhead t SupplyKind.Contract = Unit {0}
-KindAhead t (SupplyKind.Default d) = t < d
-KindAhead t (SupplyKind.LastResort d) = t < d
-
-abbrev pub PendingAhead : ℕ → Pending → Type 0
-PendingAhead t Pending.Nothing = Unit {0}
-PendingAhead t (Pending.Request s e) = t < e
-
-pub record Ahead (t : ℕ) (s : Supply) : Type 0 where
-  pub kind : KindAhead t (s .kind)
-  pub pending : PendingAhead t (s .pending)
 
 kind-back : {a b : ℕ} (k : SupplyKind) → a ≤ b → KindAhead b k → KindAhead a k
 kind-back SupplyKind.None h r = tt

@@ -16,44 +16,13 @@ use Rattle.rules.specs.Effects.{fieldsOf, names, spansIn, enrols, notice, effec
 use Rattle.rules.specs.Volumes.{fullTurn, unitOf, advanceOf, spanTo, registered}
 use Rattle.rules.specs.Answers.{isAccepted}
 use Rattle.rules.specs.declared.{View.View}
-use Rattle.rules.specs.Rejections.{
-  Row,
-  firstOf,
-  due,
-  pendingDue,
-  marksAfter,
-  isFull,
-  isBy,
-  touches,
-  anyPoint,
-  outside,
-  notPoint,
-  notMark,
-  notWheels,
-  notEnrolled,
-  outOfTime,
-  indexDisagrees,
-  lastResortNear,
-  rowsAt,
-  rows,
-  answerTo,
-  accepted,
-}
+use Rattle.rules.specs.Rejections.{Row, firstOf, due, pendingDue, marksAfter, isFull, isBy, touches, anyPoint}
+use Rattle.rules.specs.Rejections.{outside, notPoint, notMark, notWheels, notEnrolled, outOfTime, indexDisagrees}
+use Rattle.rules.specs.Rejections.{lastResortNear, rowsAt, rows, answerTo, accepted}
 use Rattle.rules.proofs.Views.{dated, dated-also}
 use Rattle.rules.proofs.Accept.{pass, neither}
-use Rattle.agreement.proofs.Jump.{PendingAhead}
-use Rattle.agreement.proofs.Good.{
-  perDay,
-  Wheels,
-  Fine,
-  Names,
-  Good,
-  marks-most,
-  not-blank,
-  unread,
-  unchanged,
-  naming,
-}
+use Rattle.agreement.specs.Sound.{perDay, PendingAhead}
+use Rattle.agreement.proofs.Good.{Wheels, Fine, Names, Good, marks-most, not-blank, unread, unchanged, naming}
 
 pass-near : (S : Settings) (t : ℕ) (k : SupplyKind) (rs : List Row) (a : Answer) → isAccepted (firstOf (lastResortNear S t k ∷ rs) a) ≡ true
     → isAccepted (firstOf rs a) ≡ true

@@ -4,9 +4,11 @@ pub mod Slots
 pub mod Jump
 pub mod Good
 pub mod Kept
+pub mod Firm
 pub mod Tied
 pub mod Days
 pub mod Step
 pub mod Run
 pub mod Cover
 pub mod Theorem
+pub mod Sound

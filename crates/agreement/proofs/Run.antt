@@ -23,7 +23,7 @@ use Rattle.agreement.proofs.Days.{gone-on}
 use Rattle.agreement.proofs.Step.{Agree, says-agree, readNow, enrolledNow, call-agree}
 
 -- An accepted opening has A and B at least 1.
-lasting : (o : Opening) → isAccepted (openingAnswer o) ≡ true → (0 < o .a) × (0 < o .b)
+pub lasting : (o : Opening) → isAccepted (openingAnswer o) ≡ true → (0 < o .a) × (0 < o .b)
 unfolding openingAnswer
 lasting o ok =
     let a = pass _ _ _ _ (pass _ _ _ _ ok .1) in

@@ -5,19 +5,8 @@ use mathlib.Core.List.{List, [], _∷_, _++_}
 use Prim.Native.Nat.{ℕ, suc, _+_, _-_, _*_, _/_, _≤_, _<_, min}
 use native.Mathlib.Omega.{arith}
 use native.Mathlib.Decide.{decLe, decLt}
-use native.Mathlib.Nat.{
-  le-div-iff-mul-le,
-  div-mul-le-self,
-  mul-le-mul-left,
-  mul-le-mul-right,
-  mul-div-left,
-  mul-comm,
-  mul-sub,
-  mul-zero,
-  zero-mul,
-  zero-div,
-  le-trans,
-}
+use native.Mathlib.Nat.{le-div-iff-mul-le, div-mul-le-self, mul-le-mul-left, mul-le-mul-right, mul-div-left, mul-comm}
+use native.Mathlib.Nat.{mul-sub, mul-zero, zero-mul, zero-div, le-trans}
 use borrow.Author.Tests.{lt-ltb, le-ltb, le-leb, lt-leb}
 use Rattle.rules.specs.declared.{Span.Span}
 use Rattle.rules.specs.Volumes.{upTo, share, given, dayVolume, volume, registered}

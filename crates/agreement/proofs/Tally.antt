@@ -8,7 +8,7 @@ use native.Mathlib.Omega.{arith}
 use native.Mathlib.Nat.{le-trans, zero-add, suc-add}
 use lib.Dec.{eqb}
 use lib.ListN.{length}
-use borrow.Author.Tests.{eq-eqb, ne-eqb, eqb-true}
+use borrow.Author.Tests.{eq-eqb, ne-eqb, eqb-true, eqb-false}
 use Rattle.rules.specs.declared.{Period.Period, Span.Span}
 use Rattle.rules.specs.Volumes.{given, dayVolume, volume, registered}
 use Rattle.rules.specs.Register.{period}
@@ -233,3 +233,41 @@ unfolding bookTotals
 oldest-bookTotals [] ps e end = refl
 oldest-bookTotals (s ∷ l) ps e end =
     oldest-bookTotals l (bookTotal (given s) end ps) e end ∙ oldest-bookTotal (given s) ps e end
+
+pub desc-bookTotals : (l : List Span) (ps : List Period) (e : ℕ) → Desc e ps → Desc e (bookTotals l e ps)
+unfolding bookTotals
+desc-bookTotals [] ps e r = r
+desc-bookTotals (s ∷ l) ps e r = desc-bookTotals l (bookTotal (given s) e ps) e (desc-bookTotal (given s) ps e e r)
+
+-- Booking moves no start, so a day is begun on as before, and there are as many periods.
+pub began-bookTotals : (l : List Span) (ps : List Period) (e t : ℕ) → beganOn t (bookTotals l e ps) ≡ beganOn t ps
+unfolding bookTotals bookTotal
+began-bookTotals [] ps e t = refl
+began-bookTotals (s ∷ l) [] e t = began-bookTotals l [] e t
+began-bookTotals (s ∷ l) (p ∷ ps) e t = began-bookTotals l _ e t
+
+length-bookTotal : (c : ℕ → ℕ) (ps : List Period) (e : ℕ) → length (bookTotal c e ps) ≡ length ps
+unfolding bookTotal
+length-bookTotal c [] e = refl
+length-bookTotal c (p ∷ ps) e = ap suc (length-bookTotal c ps (p .start))
+
+pub length-bookTotals : (l : List Span) (ps : List Period) (e : ℕ) → length (bookTotals l e ps) ≡ length ps
+unfolding bookTotals
+length-bookTotals [] ps e = refl
+length-bookTotals (s ∷ l) ps e = length-bookTotals l (bookTotal (given s) e ps) e ∙ length-bookTotal (given s) ps e
+
+pub desc-begin : (t h : ℕ) (ps : List Period) → Desc (suc t) ps → Desc (suc t) (begin t h ps)
+desc-begin t h [] r = (omega arith, tt)
+desc-begin t h (p ∷ ps) r = go (eqb (p .start) t) refl
+  where
+    go : (b : Bool) → eqb (p .start) t ≡ b → Desc (suc t) (cond b (period t h (p .volume) ∷ ps) (period t h 0 ∷ p ∷ ps))
+    go true q = (omega arith, rw (eqb-true (p .start) t q) at (r .1))
+    go false q = let n : p .start ≡ t → ⊥ = eqb-false (p .start) t q in (omega arith, (omega (arith, r .0), r .1))
+
+pub length-begin : (t h : ℕ) (ps : List Period) → length (begin t h ps) ≡ length ps + cond (beganOn t ps) 0 1
+length-begin t h [] = refl
+length-begin t h (p ∷ ps) = go (eqb (p .start) t)
+  where
+    go : (b : Bool) → length (cond b (period t h (p .volume) ∷ ps) (period t h 0 ∷ p ∷ ps)) ≡ suc (length ps) + cond b 0 1
+    go true = omega arith
+    go false = omega arith

@@ -2,57 +2,29 @@
 --
 -- Told   the point says what the page says, by the readings l and the enrolments n of the list so far
 -- Tied   besides, all that is due lies ahead and there is room for it
-use mathlib.Core.Path.{_≡_, refl, sym, _∙_, ap, fun-ext}
+use mathlib.Core.Path.{_≡_, refl, sym, _∙_, ap, subst, fun-ext}
 use mathlib.Core.Bool.{Bool, true, false, cond, true≢false}
 use mathlib.Core.List.{List, [], _∷_, _++_, append-nil}
-use Prim.Native.Nat.{ℕ, suc, _+_, _*_, _^_, _≤_, _<_}
+use Prim.Native.Nat.{ℕ, suc, _+_, _*_, _≤_}
 use native.Mathlib.Omega.{arith}
 use native.Mathlib.Nat.{add-zero, le-trans}
 use native.Mathlib.Numerals.{add-one}
 use lib.ListN.{length}
 use Rattle.dates.specs.Dates.{lastDay}
-use Rattle.rules.specs.declared.{Fields.Fields, History.History, Period.Period, Point.Point, Span.Span, Effect.Effect}
+use Rattle.rules.specs.declared.{Fields.Fields, History.History, Period.Period, Point.Point, Span.Span, Effect.Effect, View.View}
 use Rattle.rules.specs.Effects.{fieldsOf, names, spansIn}
 use Rattle.rules.specs.Volumes.{volume, registered}
 use Rattle.rules.specs.Rejections.{due, marksAfter}
 use Rattle.rules.specs.Register.{startsOn, named, entered, bookedAll, view}
 use Rattle.rules.specs.DayBook.{Cell, cell, Page, overwritten, written, countMarks, isMarked, look}
-use Rattle.agreement.proofs.Shares.{All, all-map, volume-append, registered-append, volume-after}
-use Rattle.agreement.proofs.Tally.{
-  begin,
-  beganOn,
-  bookTotals,
-  tally,
-  Live,
-  live-runs,
-  live-overwritten,
-  Held,
-  held-overwritten,
-  tally-length,
-  began,
-  begin-tally,
-  bookTotals-tally,
-  sumVolumes,
-  oldest,
-  Desc,
-  tally-desc,
-  oldest-begin,
-  sum-begin,
-  sum-bookTotals,
-  oldest-bookTotals,
-}
-use Rattle.agreement.proofs.Slots.{
-  listed,
-  Sized,
-  used-count,
-  length-listed,
-  starts-listed,
-  named-listed,
-  named-sized,
-  bookedAll-listed,
-  bookedAll-sized,
-}
-use Rattle.agreement.proofs.Good.{perDay, Fine, Keeps, Names, Enrols, Good}
+use Rattle.agreement.proofs.Shares.{all-map, volume-append, registered-append, volume-after}
+use Rattle.agreement.proofs.Tally.{begin, beganOn, bookTotals, tally, Live, live-runs, live-overwritten, Held}
+use Rattle.agreement.proofs.Tally.{held-overwritten, tally-length, began, begin-tally, bookTotals-tally}
+use Rattle.agreement.proofs.Tally.{sumVolumes, oldest, tally-desc, oldest-begin, sum-begin}
+use Rattle.agreement.proofs.Slots.{listed, Sized, used-count, length-listed, starts-listed, named-listed, named-sized}
+use Rattle.agreement.specs.Sound.{perDay}
+use Rattle.agreement.proofs.Good.{Fine, Keeps, Names, Enrols, Good}
+use Rattle.agreement.proofs.Firm.{Firm, forward, books, books-sized, books-sum, books-none, books-oldest}
 
 -- The oldest period starts on the one enrolment day, at or before the last reading.
 pub record Since (n : List ℕ) (ps : List Period) (d : ℕ) : Type 0 where
@@ -114,61 +86,50 @@ pub record Booked (t : ℕ) (l : List Span) (d : ℕ) (g : Page) (r : Point) (H 
   pub start : (x : ℕ) → oldest (listed H) x ≡ oldest (listed (r .history)) x
   pub none : g .fields .enrolled ≡ false → listed H ≡ []
 
-module _ (t : ℕ) (l : List Span) (n : List ℕ) (g : Page) (r : Point) (h : Told t l n g r) (e : Effect) (sp : List Span) (j : List ℕ)
-    (k : Good t (look g) e sp j) (cal : t ≤ lastDay) where
-  abbrev ps : List Period
-  ps = listed (r .history)
+module _ (t : ℕ) (l : List Span) (n : List ℕ) (g : Page) (r : Point) (h : Told t l n g r) (e : Effect) (j : List ℕ)
+    (k : Good t (look g) e (spansIn e) j) (cal : t ≤ lastDay) where
+  abbrev sp : List Span
+  sp = spansIn e
 
-  falling : Desc (suc t) ps
-  falling = rw (h .told) (tally-desc (volume l) (g .cells) (suc t) 0 (live-runs t (g .cells) (h .live)))
+  -- the point's periods under the page's fields
+  abbrev beside : Point
+  beside = record { fields = g .fields; history = r .history }
 
-  forward : All (λ (s : Span). (s .from < s .to) × (s .to ≤ suc t)) sp
-  forward = all-map sp (λ s w. (w .1, omega (arith, w .2, k .hi))) (k .made)
+  firm : Firm t (g .fields) (r .history)
+  firm = record {
+    sized = h .sized;
+    falling = rw (h .told) (tally-desc (volume l) (g .cells) (suc t) 0 (live-runs t (g .cells) (h .live)));
+    most = omega (arith, h .sum, h .most);
+    none = λ z. h .born .outside z .1;
+    begun = λ y. let s = h .born .inside y in record { start = s .enrolment; is = s .start; read = s .read };
+  }
 
-  fits : sumVolumes ps + registered sp < 2 ^ 64
-  fits = omega (arith, h .sum, h .most, k .most, k .hi)
-
-  books : listed (bookedAll sp (r .history)) ≡ bookTotals sp (suc t) ps
-  books = bookedAll-listed sp (suc t) (r .history) (h .sized) forward falling fits
-
-  sums : (b : Bool) → g .fields .enrolled ≡ b → sumVolumes (bookTotals sp (suc t) ps) ≡ registered l + registered sp
-  unfolding bookTotals registered
-  sums true y =
-      let s = h .born .inside y in
-      sum-bookTotals sp ps (suc t) (g .fields .reading .day) falling (rw (s .start (suc t)) (s .read))
-      (all-map sp (λ s w. (w .0, w .1, omega (arith, w .2, k .hi))) (k .made))
-      ∙ omega (arith, h .sum)
-  sums false z = rw (k .once z) (omega (arith, h .sum))
-
-  books-none : g .fields .enrolled ≡ false → bookTotals sp (suc t) ps ≡ []
-  unfolding bookTotals
-  books-none z = rw (k .once z) (h .born .outside z .1)
+  good : Good t (view t beside) e sp j
+  good =
+      subst (λ (v : View). Good t v e sp j)
+      (views-agree t l n g r h ∙ ap (λ (f : Fields). view t (record { fields = f; history = r .history })) (sym (h .same))) k
 
   booked-effect : Booked t (l ++ sp) (fieldsOf e .reading .day) g r (bookedAll sp (r .history))
   booked-effect =
       record {
-        sized = bookedAll-sized sp (r .history) (h .sized);
+        sized = books-sized t beside firm e j good cal;
         told =
-            books ∙ ap (bookTotals sp (suc t)) (h .told)
-            ∙ bookTotals-tally sp (volume l) (g .cells) (suc t) (live-runs t (g .cells) (h .live)) (all-map sp (λ s w. w .0) forward)
+            books t beside firm e j good cal ∙ ap (bookTotals sp (suc t)) (h .told)
+            ∙ bookTotals-tally sp (volume l) (g .cells) (suc t) (live-runs t (g .cells) (h .live))
+            (all-map sp (λ s w. w .0) (forward t beside firm e j good cal))
             ∙ ap (λ (v : ℕ → ℕ). tally v (g .cells) 0) (fun-ext (λ d. sym (volume-append l sp d)));
         still = λ d le. volume-append l sp d
             ∙ omega (arith, h .still d (le-trans (k .lo) le), volume-after sp d (all-map sp (λ s w. (w .1, le-trans (w .2) le)) (k .made)));
-        sum = ap sumVolumes books ∙ sums (g .fields .enrolled) refl ∙ sym (registered-append l sp);
+        sum = rw (registered-append l sp) (omega (arith, books-sum t beside firm e j good cal, h .sum));
         most = rw (registered-append l sp) (omega (arith, h .most, k .most));
-        start = λ x. ap (λ (q : List Period). oldest q x) books ∙ oldest-bookTotals sp ps x (suc t);
-        none = λ z. books ∙ books-none z;
+        start = books-oldest t beside firm e j good cal;
+        none = books-none t beside firm e j good cal;
       }
 
   fine-after : Fine t (look (written e (g .cells)))
   fine-after =
       let m = marks-written t g e (h .live) in
       record { past = k .hi; wheels = k .wheels; ahead = k .ahead; fit = rw m (k .fit); blank = rw m (k .blank) }
-
-module _ (t : ℕ) (l : List Span) (n : List ℕ) (g : Page) (r : Point) (h : Told t l n g r) (e : Effect) (j : List ℕ)
-    (k : Good t (look g) e (spansIn e) j) (cal : t ≤ lastDay) where
-  abbrev sp : List Span
-  sp = spansIn e
 
   abbrev f : Fields
   f = fieldsOf e
@@ -177,7 +138,7 @@ module _ (t : ℕ) (l : List Span) (n : List ℕ) (g : Page) (r : Point) (h : To
   after = bookedAll sp (r .history)
 
   abbrev b : Booked t (l ++ sp) (f .reading .day) g r after
-  b = booked-effect t l n g r h e sp j k cal
+  b = booked-effect
 
   -- an effect that keeps the holder
   told-keep : Keeps (g .fields) false f → Enrols t (g .fields) false f j
@@ -272,5 +233,5 @@ module _ (t : ℕ) (l : List Span) (n : List ℕ) (g : Page) (r : Point) (h : To
   effect-tied =
       record {
         point = told-effect (names e) (k .keeps) (k .enrols) (k .fit);
-        fine = fine-after t l n g r h e sp j k cal;
+        fine = fine-after;
       }

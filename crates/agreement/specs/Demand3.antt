@@ -16,18 +16,8 @@ use Rattle.rules.specs.Register
 use Rattle.rules.specs.Register.{pointAt}
 use Rattle.rules.specs.DayBook
 use Rattle.rules.specs.DayBook.{Page}
-use Rattle.rules.specs.Periods.{
-  periodsOf,
-  startsOf,
-  volumesOf,
-  markedDays,
-  holderOn,
-  covering,
-  dailySums,
-  total,
-  book,
-  register,
-}
+use Rattle.rules.specs.Periods.{periodsOf, startsOf, volumesOf, markedDays, holderOn, covering, dailySums, total}
+use Rattle.rules.specs.Periods.{book, register}
 
 -- One point of the register beside its page, where the last day is `last`; the readings and the enrolments come from
 -- the list.

@@ -3,6 +3,7 @@ use Rattle.dates.proofs.OneToOne.{one-to-one}
 use Rattle.rules.proofs.Examples.{p-examples}
 use Rattle.rules.proofs.RowExamples.{row-examples}
 use Rattle.agreement.proofs.Theorem.{day-book-agrees}
+use Rattle.agreement.proofs.Sound.{sound-registers}
 use Rattle.questions.proofs.Asking.{asking}
 use Rattle.questions.proofs.Examples.{question-examples}
 use Rattle.line_values.proofs.OneText.{one-text}
@@ -25,6 +26,7 @@ demands =
       one-text = one-text;
       one-line = one-line;
       day-book-agrees = day-book-agrees;
+      sound-registers = sound-registers;
       questions = asking;
       question-examples = question-examples;
       closing-lines = listing-by-book;

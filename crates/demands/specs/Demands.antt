@@ -6,6 +6,7 @@ use Rattle.dates.specs.OneToOne.{OneToOne}
 use Rattle.rules.specs.Examples.{PExamples}
 use Rattle.rules.specs.RowExamples.{RowExamples}
 use Rattle.agreement.specs.Demand3.{DayBookAgrees}
+use Rattle.agreement.specs.Sound.{SoundRegisters}
 use Rattle.questions.specs.Asking.{Asking}
 use Rattle.questions.specs.Examples.{QuestionExamples}
 use Rattle.line_values.specs.OneText.{OneText}
@@ -32,6 +33,8 @@ pub record Demands : Type 0 where
   pub one-line : OneLine
   -- Demand 3: for every list of the calls from a newly opened register the register is what the day book says.
   pub day-book-agrees : DayBookAgrees
+  -- What it rests on, of the register alone: starts rise, all that is due lies ahead and has room, no volume wraps.
+  pub sound-registers : SoundRegisters
   -- And so are its questions and its closing lines.
   pub questions : Asking
   pub closing-lines : ListingByBook

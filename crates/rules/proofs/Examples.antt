@@ -11,15 +11,9 @@ use Rattle.rules.specs.Rejections.{tooLate}
 use Rattle.rules.specs.Examples.{opens, cancelledOn, PExamples}
 use Rattle.rules.proofs.Computes.{machines, calendar, computes}
 use Rattle.rules.proofs.Scenes.{BothAlike, plays}
-use Rattle.rules.proofs.DatesOn.{
-  three-months-after-may-3,
-  three-months-after-june-1,
-  three-months-after-november-30,
-  three-months-after-8008,
-  three-months-after-8009,
-  working-days-after-19-may,
-  working-days-after-20-may,
-}
+use Rattle.rules.proofs.DatesOn.{three-months-after-may-3, three-months-after-june-1}
+use Rattle.rules.proofs.DatesOn.{three-months-after-november-30, three-months-after-8008}
+use Rattle.rules.proofs.DatesOn.{three-months-after-8009, working-days-after-19-may, working-days-after-20-may}
 
 -- The working days decide whether a cancel comes too late.
 in-time-on-19-may : tooLate (settingsOf (opens 7792)) 7809 (Pending.Request 6 7815) ≡ false

@@ -14,12 +14,8 @@ use Rattle.rules.specs.RowExamples.Varied.{VariedExamples}
 use Rattle.rules.specs.RowExamples.{RowExamples}
 use Rattle.rules.proofs.Computes.{machines, computes}
 use Rattle.rules.proofs.Scenes.{plays}
-use Rattle.rules.proofs.DatesOn.{
-  three-months-after-september-30-2199,
-  three-months-after-october-1-2199,
-  three-months-after-december-10-2199,
-  three-months-after-december-11-2199,
-}
+use Rattle.rules.proofs.DatesOn.{three-months-after-september-30-2199, three-months-after-october-1-2199}
+use Rattle.rules.proofs.DatesOn.{three-months-after-december-10-2199, three-months-after-december-11-2199}
 
 answer-examples : AnswerExamples
 unfolding computes

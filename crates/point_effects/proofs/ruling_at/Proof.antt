@@ -34,8 +34,7 @@ cast-effect-of c =
     let s = told .before .before .args in
     omega (
       arith,
-      passed-at (s .set) (s .day) _ (s .today) (s .p) (s .a) (s .v) _
-          (passed (told .answer-at .ensures) (c .before .is-accepted .ensures) (c .if1 .taken)) .0,
+      passed-at (s .set) (s .day) _ (s .today) (s .p) (s .a) (s .v) _ (passed (told .answer-at .ensures) (c .before .is-accepted .ensures) (c .if1 .taken)) .0,
     )
 
 returns : tie.Need-returns

@@ -23,8 +23,7 @@ sub-i c =
     let a = g .before .before .before .args in
     omega (
       arith,
-      ruling-in (a .r) (a .today) (a .p) (a .a) _ _ _ (g .point-on .ensures) (k .before .before .view-of .ensures)
-          (k .before .ruling-at .ensures) (sym (k .is-accepted .ensures) ∙ not-false _ (c .before .before .if1 .left)) .1,
+      ruling-in (a .r) (a .today) (a .p) (a .a) _ _ _ (g .point-on .ensures) (k .before .before .view-of .ensures) (k .before .ruling-at .ensures) (sym (k .is-accepted .ensures) ∙ not-false _ (c .before .before .if1 .left)) .1,
     )
 
 cast-note : tie.Need-cast-note
@@ -34,8 +33,7 @@ cast-note c =
     let a = g .before .before .before .args in
     omega (
       arith,
-      ruling-in (a .r) (a .today) (a .p) (a .a) _ _ _ (g .point-on .ensures) (k .before .before .view-of .ensures)
-          (k .before .ruling-at .ensures) (sym (k .is-accepted .ensures) ∙ not-false _ (c .before .before .if1 .left)) .0,
+      ruling-in (a .r) (a .today) (a .p) (a .a) _ _ _ (g .point-on .ensures) (k .before .before .view-of .ensures) (k .before .ruling-at .ensures) (sym (k .is-accepted .ensures) ∙ not-false _ (c .before .before .if1 .left)) .0,
     )
 
 mul-t21 : tie.Need-mul-t21
@@ -45,8 +43,7 @@ mul-t21 c =
     let a = g .before .before .before .args in
     omega (
       arith,
-      ruling-in (a .r) (a .today) (a .p) (a .a) _ _ _ (g .point-on .ensures) (k .before .before .view-of .ensures)
-          (k .before .ruling-at .ensures) (sym (k .is-accepted .ensures) ∙ not-false _ (c .before .before .before .if1 .left)) .2,
+      ruling-in (a .r) (a .today) (a .p) (a .a) _ _ _ (g .point-on .ensures) (k .before .before .view-of .ensures) (k .before .ruling-at .ensures) (sym (k .is-accepted .ensures) ∙ not-false _ (c .before .before .before .if1 .left)) .2,
     )
 
 element-set-from-next : tie.Need-element-set-from-next

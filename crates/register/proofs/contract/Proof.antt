@@ -23,8 +23,7 @@ element-write-next c =
     let a = k .before .before .args in
     omega (
       arith,
-      contract-in (a .r) (a .today) (a .s) _ (k .before .contract-answer .ensures)
-          (sym (k .is-accepted .ensures) ∙ not-false _ (c .before .if1 .left)),
+      contract-in (a .r) (a .today) (a .s) _ (k .before .contract-answer .ensures) (sym (k .is-accepted .ensures) ∙ not-false _ (c .before .if1 .left)),
     )
 
 returns-2 : tie.Need-returns-2

@@ -31,8 +31,7 @@ element-write-next c =
     let a = k .before .before .before .before .args in
     omega (
       arith,
-      failure-in (a .today) (a .s) (a .r) _ (k .before .failure-rows .ensures)
-          (sym (k .is-accepted .ensures) ∙ not-false _ (n .before .if1 .left)) _ (n .brought-up .ensures) .1,
+      failure-in (a .today) (a .s) (a .r) _ (k .before .failure-rows .ensures) (sym (k .is-accepted .ensures) ∙ not-false _ (n .before .if1 .left)) _ (n .brought-up .ensures) .1,
     )
 
 cast-all-failed : tie.Need-cast-all-failed
@@ -42,8 +41,7 @@ cast-all-failed c =
     let a = k .before .before .before .before .args in
     omega (
       arith,
-      failure-in (a .today) (a .s) (a .r) _ (k .before .failure-rows .ensures)
-          (sym (k .is-accepted .ensures) ∙ not-false _ (n .before .if1 .left)) _ (n .brought-up .ensures) .2,
+      failure-in (a .today) (a .s) (a .r) _ (k .before .failure-rows .ensures) (sym (k .is-accepted .ensures) ∙ not-false _ (n .before .if1 .left)) _ (n .brought-up .ensures) .2,
     )
 
 returns-3 : tie.Need-returns-3

@@ -9,10 +9,7 @@ use Rattle.point_effects.proofs.events.catch_up.Tie as tie
 returns-2 : tie.Need-returns-2
 unfolding caughtUp catchUp
 returns-2 c =
-    rw (
-      le-leb _ _ (c .before .before .if1 .left),
-      ← (c .before .next-event .ensures),
-    )
+    rw (le-leb _ _ (c .before .before .if1 .left), ← (c .before .next-event .ensures))
     (c .next-event2 .ensures)
 
 pub catch-up-spec : {M : Type 1} → statement M

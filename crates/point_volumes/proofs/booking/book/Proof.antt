@@ -21,8 +21,7 @@ unfolding bookedIfFair booked
 returns-2 c =
     rw (
       ← (c .before .before .before .before .is-fair .ensures),
-      not-false (c .before .before .before .before .is-fair .result)
-          (c .before .before .before .if1 .left),
+      not-false (c .before .before .before .before .is-fair .result) (c .before .before .before .if1 .left),
       c .book-slots .ensures,
       c .before .before .period-count .ensures,
     )

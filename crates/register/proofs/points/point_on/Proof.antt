@@ -35,8 +35,7 @@ returns-4 c =
     rw (
       le-ltb (c .before .before .before .before .before .args .p) 1 (c .before .before .before .before .if1 .left),
       le-ltb 32 (c .before .before .before .before .before .args .p) (c .before .before .before .if2 .left),
-      advanced-same (c .before .before .before .before .before .args .today) (c .before .before .before .before .before .args .t3) (omega arith)
-          (c .if4 .taken),
+      advanced-same (c .before .before .before .before .before .args .today) (c .before .before .before .before .before .args .t3) (omega arith) (c .if4 .taken),
     )
 
 returns-5 : tie.Need-returns-5
@@ -45,8 +44,7 @@ returns-5 c =
     rw (
       le-ltb (c .before .before .before .before .before .before .before .args .p) 1 (c .before .before .before .before .before .before .if1 .left),
       le-ltb 32 (c .before .before .before .before .before .before .before .args .p) (c .before .before .before .before .before .if2 .left),
-      advanced-new (c .before .before .before .before .before .before .before .args .today)
-          (c .before .before .before .before .before .before .before .args .t3) (omega arith) (c .before .before .if4 .left),
+      advanced-new (c .before .before .before .before .before .before .before .args .today) (c .before .before .before .before .before .before .before .args .t3) (omega arith) (c .before .before .if4 .left),
       point-caughtUp,
     ) (c .catch-up .ensures)
 

@@ -1,4 +1,4 @@
-// The rows of the table for the calls that name no point, in the order of the numbers.
+// The rows of the table for the opening and for the calls that name no point, in the order of the numbers.
 use crate::rows::row;
 use point_checks::is_past;
 use point_checks::no_contract;
@@ -7,14 +7,28 @@ use point_checks::outside;
 use point_checks::sum_past;
 use rules::Action;
 use rules::Answer;
+use rules::Opening;
 use rules::Settings;
 use rules::View;
 ghost use mathlib.Core.Path.{_≡_};
 ghost use mathlib.Core.Bool.{Bool};
 ghost use mathlib.Core.List.{List};
 ghost use Prim.Native.Nat.{ℕ};
-ghost use Rattle.rules.specs.Rejections.{firstOf, answerTo};
+ghost use Rattle.rules.specs.Rejections.{firstOf, answerTo, openingAnswer};
 ghost use Rattle.point_answers.specs.Between.{failureRows};
+
+// An opening with any numbers.
+pub fn opening_answer(o: Opening) -> Answer
+    ensures { λ r. ⌜ r ≡ openingAnswer o ⌝ }
+{
+    let a = row(Answer::Accepted, outside(0, 10, o.w), 22);
+    let a = row(a, outside(1, 400, o.a), 22);
+    let a = row(a, outside(1, 400, o.b), 22);
+    let a = row(a, outside(1, 99, o.default), 22);
+    let a = row(a, outside(1, 99, o.resort), 22);
+    let a = row(a, o.default == o.resort, 22);
+    row(a, is_past(o.day), 20)
+}
 
 pub fn contract_answer(day: u32, today: u64, supplier: u64) -> Answer
     ensures { λ r. ⌜ ((S : Settings) (u : List Bool) (v : ℕ → View)

@@ -5,6 +5,7 @@ mod rows;
 pub use calls::contract_answer;
 pub use calls::day_answer;
 pub use calls::failure_rows;
+pub use calls::opening_answer;
 use rows::Situation;
 use rows::cancel;
 use rows::default_supply;

@@ -1,9 +1,7 @@
 // Opening a register.
 use crate::points::blank_point;
-use dates::LAST_DAY;
+use point_answers::opening_answer;
 use point_checks::is_accepted;
-use point_checks::outside;
-use rules::Answer;
 use rules::Opening;
 use rules::Outcome;
 use rules::Register;
@@ -12,37 +10,8 @@ ghost use mathlib.Core.Path.{_≡_};
 ghost use mathlib.Core.Bool.{true};
 ghost use lib.ListN.{set as ListN·set, replicate};
 ghost use Rattle.rules.specs.Opening.{settingsOf, firstContracts};
-ghost use Rattle.rules.specs.Rejections.{openingAnswer};
 ghost use Rattle.rules.specs.Register.{blankPoint, register};
 ghost use Rattle.register.specs.Opens.{InRange, noRegister, openedOver};
-
-// The answer to an opening with any numbers.
-fn opening_answer(o: Opening) -> Answer
-    ensures { λ r. ⌜ r ≡ openingAnswer o ⌝ }
-{
-    if outside(0, 10, o.w) {
-        return Answer::Refused(22);
-    }
-    if outside(1, 400, o.a) {
-        return Answer::Refused(22);
-    }
-    if outside(1, 400, o.b) {
-        return Answer::Refused(22);
-    }
-    if outside(1, 99, o.default) {
-        return Answer::Refused(22);
-    }
-    if outside(1, 99, o.resort) {
-        return Answer::Refused(22);
-    }
-    if o.default == o.resort {
-        return Answer::Refused(22);
-    }
-    if o.day > LAST_DAY as u64 {
-        return Answer::Refused(20);
-    }
-    Answer::Accepted
-}
 
 // The settings of an opening whose numbers are in range.
 fn settings_of(o: Opening) -> Settings

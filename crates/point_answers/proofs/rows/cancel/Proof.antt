@@ -12,27 +12,14 @@ returns : tie.Need-returns
 unfolding through allRefuse answerAt rowsAt effectOf
 returns c =
     let k1 = c .before in
-    let k2 = k1 .before in
-    let k3 = k2 .before in
-    let k4 = k3 .before in
-    let k5 = k4 .before in
+    let k3 = k1 .before .before in
+    let k5 = k3 .before .before in
     let k8 = k5 .before .before .before in
-    let k9 = k8 .before in
-    let k10 = k9 .before in
-    let k11 = k10 .before in
-    rw (
-      c .late-row .ensures,
-      k1 .row5 .ensures,
-      k2 .is-by .ensures,
-      k3 .row4 .ensures,
-      k4 .not-enrolled .ensures,
-      k5 .row3 .ensures,
-      k8 .row2 .ensures,
-      k9 .is-past .ensures,
-      k10 .row .ensures,
-      k11 .outside .ensures,
-    )
-    (folded _ _ refl refl)
+    let k10 = k8 .before .before in
+    rw (c .late-row .ensures, k1 .row5 .ensures, k1 .before .is-by .ensures, k3 .row4 .ensures)
+    (rw (k3 .before .not-enrolled .ensures, k5 .row3 .ensures, k8 .row2 .ensures, k8 .before .is-past .ensures)
+    (rw (k10 .row .ensures, k10 .before .outside .ensures)
+    (folded _ _ refl refl)))
 
 pub cancel-spec : {M : Type 1} → statement M
 cancel-spec =

@@ -11,36 +11,18 @@ use Rattle.point_answers.proofs.rows.into_service.Tie as tie
 returns : tie.Need-returns
 unfolding through allRefuse answerAt rowsAt effectOf
 returns c =
-    let k1 = c .before in
-    let k2 = k1 .before in
+    let k2 = c .before .before in
     let k4 = k2 .before .before in
-    let k5 = k4 .before in
-    let k6 = k5 .before in
-    let k7 = k6 .before in
-    let k8 = k7 .before in
+    let k6 = k4 .before .before in
+    let k8 = k6 .before .before in
     let k11 = k8 .before .before .before in
-    let k12 = k11 .before in
-    let k13 = k12 .before in
-    let k14 = k13 .before in
-    let k15 = k14 .before in
-    let k16 = k15 .before in
-    rw (
-      c .row7 .ensures,
-      k1 .is-full .ensures,
-      k2 .row6 .ensures,
-      k4 .row5 .ensures,
-      k5 .not-enrolled .ensures,
-      k6 .row4 .ensures,
-      k7 .no-contract .ensures,
-      k8 .row3 .ensures,
-      k11 .row2 .ensures,
-      k12 .is-past .ensures,
-      k13 .row .ensures,
-      k14 .or .ensures,
-      k15 .outside2 .ensures,
-      k16 .outside .ensures,
-    )
-    (folded _ _ refl refl)
+    let k13 = k11 .before .before in
+    rw (c .row7 .ensures, c .before .is-full .ensures, k2 .row6 .ensures, k4 .row5 .ensures)
+    (rw (k4 .before .not-enrolled .ensures, k6 .row4 .ensures, k6 .before .no-contract .ensures)
+    (rw (k8 .row3 .ensures, k11 .row2 .ensures, k11 .before .is-past .ensures, k13 .row .ensures)
+    (rw (k13 .before .or .ensures, k13 .before .before .outside2 .ensures)
+    (rw (k13 .before .before .before .outside .ensures)
+    (folded _ _ refl refl)))))
 
 pub into-service-spec : {M : Type 1} → statement M
 into-service-spec =

@@ -11,24 +11,13 @@ use Rattle.point_answers.proofs.rows.out_of_service.Tie as tie
 returns : tie.Need-returns
 unfolding through allRefuse answerAt rowsAt effectOf
 returns c =
-    let k1 = c .before in
-    let k2 = k1 .before in
+    let k2 = c .before .before in
     let k4 = k2 .before .before in
-    let k5 = k4 .before in
-    let k6 = k5 .before in
+    let k6 = k4 .before .before in
     let k9 = k6 .before .before .before in
-    let k10 = k9 .before in
-    rw (
-      c .row5 .ensures,
-      k1 .is-full .ensures,
-      k2 .row4 .ensures,
-      k4 .row3 .ensures,
-      k5 .not-enrolled .ensures,
-      k6 .row2 .ensures,
-      k9 .row .ensures,
-      k10 .is-past .ensures,
-    )
-    (folded _ _ refl refl)
+    rw (c .row5 .ensures, c .before .is-full .ensures, k2 .row4 .ensures, k4 .row3 .ensures)
+    (rw (k4 .before .not-enrolled .ensures, k6 .row2 .ensures, k9 .row .ensures, k9 .before .is-past .ensures)
+    (folded _ _ refl refl))
 
 pub out-of-service-spec : {M : Type 1} → statement M
 out-of-service-spec =

@@ -13,63 +13,30 @@ use Rattle.point_answers.proofs.rows.request.Tie as tie
 returns : tie.Need-returns
 unfolding through allRefuse answerAt rowsAt effectOf
 returns c =
-    let k1 = c .before in
-    let k2 = k1 .before in
+    let k2 = c .before .before in
     let k3 = k2 .before in
     let k5 = k3 .before .before in
     let k7 = k5 .before .before in
-    let k8 = k7 .before in
-    let k9 = k8 .before in
+    let k9 = k7 .before .before in
     let k11 = k9 .before .before in
-    let k12 = k11 .before in
-    let k13 = k12 .before in
-    let k14 = k13 .before in
-    let k15 = k14 .before in
-    let k16 = k15 .before in
-    let k17 = k16 .before in
+    let k13 = k11 .before .before in
+    let k15 = k13 .before .before in
+    let k17 = k15 .before .before in
     let k20 = k17 .before .before .before in
-    let k21 = k20 .before in
-    let k22 = k21 .before in
-    let k23 = k22 .before in
-    let k24 = k23 .before in
-    let k25 = k24 .before in
-    let k26 = k25 .before in
-    let k27 = k26 .before in
-    let k28 = k27 .before in
-    let start = k28 .before .before .before .before .before .before in
-    let s = start .args .x in
-    rw (
-      c .row11 .ensures,
-      k1 .is-full .ensures,
-      k2 .near-row .ensures,
-      k3 .row10 .ensures,
-      k5 .row9 .ensures,
-      k7 .row8 .ensures,
-      k8 .is-pending .ensures,
-      k9 .row7 .ensures,
-    )
-    (rw (
-      k11 .row6 .ensures,
-      k12 .bad-day .ensures,
-      k13 .row5 .ensures,
-      k14 .not-enrolled .ensures,
-      k15 .row4 .ensures,
-      k16 .no-contract .ensures,
-      k17 .row3 .ensures,
-      k20 .row2 .ensures,
-    )
-    (rw (
-      k21 .or2 .ensures,
-      k22 .is-past2 .ensures,
-      k23 .is-past .ensures,
-      k24 .row .ensures,
-      k25 .or .ensures,
-      k26 .outside2 .ensures,
-      k27 .outside .ensures,
-      k28 .effective-day .ensures,
-    )
-    (folded _ _ refl (near-refuses (s .settings) (s .today) (s .view .fields .supply .kind) ((true ⇒ 30) ∷ []) refl)
-    ∙ carried (_ ∷ _ ∷ _ ∷ _ ∷ _ ∷ []) (badDay (s .settings) (s .today) (start .args .day)) 3 _ _ _ (awaited (s .settings) (s .today) (start .args .day)))))
+    let k24 = k20 .before .before .before .before in
+    let s = k24 .before .before .before .before .before .before .before .before .before .before .args in
+    let x = s .x in
+    rw (c .row11 .ensures, c .before .is-full .ensures, k2 .near-row .ensures, k3 .row10 .ensures)
+    (rw (k5 .row9 .ensures, k7 .row8 .ensures, k7 .before .is-pending .ensures, k9 .row7 .ensures)
+    (rw (k11 .row6 .ensures, k11 .before .bad-day .ensures, k13 .row5 .ensures)
+    (rw (k13 .before .not-enrolled .ensures, k15 .row4 .ensures, k15 .before .no-contract .ensures)
+    (rw (k17 .row3 .ensures, k20 .row2 .ensures, k20 .before .or2 .ensures)
+    (rw (k20 .before .before .is-past2 .ensures, k20 .before .before .before .is-past .ensures)
+    (rw (k24 .row .ensures, k24 .before .or .ensures, k24 .before .before .outside2 .ensures)
+    (rw (k24 .before .before .before .outside .ensures)
+    (rw (k24 .before .before .before .before .effective-day .ensures)
+    (folded _ _ refl (near-refuses (x .settings) (x .today) (x .view .fields .supply .kind) ((true ⇒ 30) ∷ []) refl)
+    ∙ carried (_ ∷ _ ∷ _ ∷ _ ∷ _ ∷ []) (badDay (x .settings) (x .today) (s .day)) 3 _ _ _ (awaited (x .settings) (x .today) (s .day)))))))))))
 
 pub request-spec : {M : Type 1} → statement M
 request-spec =

@@ -11,22 +11,12 @@ use Rattle.point_answers.proofs.rows.suspend.Tie as tie
 returns : tie.Need-returns
 unfolding through allRefuse answerAt rowsAt effectOf
 returns c =
-    let k1 = c .before in
-    let k2 = k1 .before in
+    let k2 = c .before .before in
     let k5 = k2 .before .before .before in
-    let k6 = k5 .before in
-    let k7 = k6 .before in
-    let k8 = k7 .before in
-    rw (
-      c .row4 .ensures,
-      k1 .not-enrolled .ensures,
-      k2 .row3 .ensures,
-      k5 .row2 .ensures,
-      k6 .is-past .ensures,
-      k7 .row .ensures,
-      k8 .outside .ensures,
-    )
-    (folded _ _ refl refl)
+    let k7 = k5 .before .before in
+    rw (c .row4 .ensures, c .before .not-enrolled .ensures, k2 .row3 .ensures, k5 .row2 .ensures)
+    (rw (k5 .before .is-past .ensures, k7 .row .ensures, k7 .before .outside .ensures)
+    (folded _ _ refl refl))
 
 pub suspend-spec : {M : Type 1} → statement M
 suspend-spec =

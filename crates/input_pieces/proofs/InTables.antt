@@ -14,7 +14,7 @@ use Rattle.input_tables.proofs.Tables.{points-back, points-set, points-set-kept
 use Rattle.line_text.specs.Appending.{Appended}
 use Rattle.line_messages.specs.declared.{Message.Message}
 use Rattle.line_messages.specs.Lines.{kindOf}
-use Rattle.line_messages.specs.Reading.{readLine}
+use Rattle.line_messages.specs.Pinned.Reading.{readLine}
 use Rattle.line_answers.specs.Answers.{answerLine}
 use Rattle.input_lines.specs.declared.{Part.Part}
 use Rattle.input_lines.specs.Lines.{untilFeed, feeds}

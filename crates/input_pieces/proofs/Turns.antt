@@ -11,9 +11,10 @@ use Rattle.rules.specs.declared.{Register.Register}
 use Rattle.point_effects.specs.declared.{Ruling.Ruling}
 use Rattle.line_text.specs.Appending.{put, Appended}
 use Rattle.line_text.proofs.Appends.{room-put, put-drop, appended-take, appended-length}
-use Rattle.line_messages.specs.declared.{Message.Message}
+use Rattle.line_messages.specs.declared.{Message.Message, LineMessage.LineMessage}
+use Rattle.line_messages.specs.Between.Values.{lineMessage}
 use Rattle.line_messages.specs.Lines.{kindOf}
-use Rattle.line_messages.specs.Reading.{readLine}
+use Rattle.line_messages.specs.Pinned.Reading.{readLine}
 use Rattle.line_answers.specs.Answers.{answerLine}
 use Rattle.line_answers.proofs.LineTexts.{answer-short}
 use Rattle.input_lines.specs.declared.{Part.Part}
@@ -209,8 +210,13 @@ piece-fed s piece before after n x e w =
 
 -- ---- the line that was read is the one up to the line feed
 
-pub line-read : (piece : List ℕ) (at end : ℕ) (m : Message) → end ≡ at + untilFeed (drop at piece) →
-    m ≡ readLine (take (untilFeed (drop at piece)) (drop at piece)) → m ≡ readLine (take (end - at) (drop at piece))
+pub line-read : (piece : List ℕ) (at end : ℕ) (m : LineMessage) → end ≡ at + untilFeed (drop at piece) →
+    m ≡ lineMessage (readLine (take (untilFeed (drop at piece)) (drop at piece))) →
+    m ≡ lineMessage (readLine (take (end - at) (drop at piece)))
 line-read piece at end m e h =
     let n : end - at ≡ untilFeed (drop at piece) = omega (arith, e) in
-    h ∙ ap (λ (k : ℕ). readLine (take k (drop at piece))) (sym n)
+    h ∙ ap (λ (k : ℕ). lineMessage (readLine (take k (drop at piece)))) (sym n)
+
+-- a message with its kind
+pub said-is : (r : LineMessage) (m : Message) → r ≡ lineMessage m → (r .message ≡ m) × (r .kind ≡ kindOf (r .message))
+said-is r m e = rw e (refl, refl)

@@ -5,9 +5,10 @@ use mathlib.Core.Path.{_≡_}
 use mathlib.Core.List.{List, _++_}
 use lib.ListN.{length, take}
 use Rattle.line_text.specs.Appending.{put}
-use Rattle.line_messages.specs.declared.{Message.Message}
+use Rattle.line_messages.specs.declared.{LineMessage.LineMessage}
+use Rattle.line_messages.specs.Between.Values.{lineMessage}
 use Rattle.line_messages.specs.Lines.{kindOf}
-use Rattle.line_messages.specs.Reading.{readLine}
+use Rattle.line_messages.specs.Pinned.Reading.{readLine}
 use Rattle.line_answers.specs.Answers.{answerLine}
 use Rattle.input_lines.specs.Lines.{fitting}
 use Rattle.input_lines.specs.declared.{Part.Part}
@@ -36,8 +37,8 @@ abbrev pub sessionAt : Run Desk → Session
 sessionAt r = record { desk = r .state; part = partOf (r .part) }
 
 -- What a line says with its part, where read is what it says by itself.
-abbrev pub WholeMessage : Part → List ℕ → Message → Message → Type 0
-WholeMessage p l read m = read ≡ readLine l → m ≡ readLine (capped (kept p ++ l))
+abbrev pub WholeMessage : Part → List ℕ → LineMessage → LineMessage → Type 0
+WholeMessage p l read m = read ≡ lineMessage (readLine l) → m ≡ lineMessage (readLine (capped (kept p ++ l)))
 
 abbrev pub answeredWith : Desk → List ℕ → ℕ → Answered
 answeredWith d l n = record { session = record { desk = d; part = partOf l }; written = n }

@@ -20,10 +20,9 @@ use input_tables::points_of;
 use input_tables::slots_of;
 use line_answers::put_answer;
 use line_fields::first_known;
-use line_messages::Message;
+use line_messages::LineMessage;
 use line_messages::read_line;
 use line_next::next_line;
-use line_writing::kind_of;
 use point_periods::newest_place;
 use rules::Answer;
 use rules::Fields;
@@ -37,7 +36,8 @@ ghost use Prim.Native.Nat.{_*_, _≤_, min};
 ghost use lib.ListN.{length, take};
 ghost use Rattle.input_lines.specs.Lines.{feeds};
 ghost use Rattle.input_lines.specs.Part.{capped, kept};
-ghost use Rattle.line_messages.specs.Reading.{readLine};
+ghost use Rattle.line_messages.specs.Pinned.Reading.{readLine};
+ghost use Rattle.line_messages.specs.Between.Values.{lineMessage};
 ghost use Rattle.rules.specs.Register.{register};
 ghost use Rattle.input_tables.specs.Tables.{pointsOf};
 ghost use Rattle.input_desk.specs.Desk.{desk};
@@ -51,8 +51,8 @@ pub(crate) struct Answered {
 }
 
 // What a line says of which a part had come before.
-fn line_message(part: Part, line: &[u8]) -> Message
-    ensures { λ r. ⌜ r ≡ readLine (capped (kept part ++ now (line .entry))) ⌝ }
+fn line_message(part: Part, line: &[u8]) -> LineMessage
+    ensures { λ r. ⌜ r ≡ lineMessage (readLine (capped (kept part ++ now (line .entry)))) ⌝ }
 {
     if part.len == 0 {
         return read_line(line);
@@ -63,8 +63,8 @@ fn line_message(part: Part, line: &[u8]) -> Message
     read_first(bytes, n)
 }
 
-fn read_first(bytes: [u8; 97], n: usize) -> Message
-    ensures { λ r. ⌜ r ≡ readLine (take (min n 97) bytes) ⌝ }
+fn read_first(bytes: [u8; 97], n: usize) -> LineMessage
+    ensures { λ r. ⌜ r ≡ lineMessage (readLine (take (min n 97) bytes)) ⌝ }
 {
     if n < 97 {
         return read_line(&bytes[..n]);
@@ -85,7 +85,7 @@ fn quiet_with(quiet: u32, g: Point) -> u32
 }
 
 // The message of a line, which next_line has read; with the part of it that had come before, if there is one.
-fn whole_message(part: Part, read: Message, line: &[u8]) -> Message
+fn whole_message(part: Part, read: LineMessage, line: &[u8]) -> LineMessage
     ensures { λ r. ⌜ WholeMessage part (now (line .entry)) read r ⌝ }
 {
     if part.len == 0 {
@@ -159,8 +159,10 @@ pub(crate) fn answer_lines(s: Session, piece: &[u8], out: &mut [u8]) -> Answered
             let reg = register_of(set, day, contracts, fields, counts, slots);
             return at_end(ready, reg, part, &piece[at..], written);
         }
-        let read = line.message;
-        let m = whole_message(part, read, &piece[at..end]);
+        let read = line.read;
+        let whole = whole_message(part, read, &piece[at..end]);
+        let kind = whole.kind;
+        let m = whole.message;
         known = line.known;
         part.len = 0;
         at = end + 1;
@@ -177,7 +179,7 @@ pub(crate) fn answer_lines(s: Session, piece: &[u8], out: &mut [u8]) -> Answered
                 fields[i] = f_read;
                 slots[i][k] = q_read;
                 day = day_after(day, m, Answer::Accepted);
-                written = put_answer(out, written, kind_of(m), Answer::Accepted);
+                written = put_answer(out, written, kind, Answer::Accepted);
             } else {
                 let j = supplier_of(m);
                 let ps = slots[i];
@@ -194,7 +196,7 @@ pub(crate) fn answer_lines(s: Session, piece: &[u8], out: &mut [u8]) -> Answered
                 slots[i] = ps_after;
                 day = day_after(day, m, answer);
                 contracts[j] = signed_after(m, answer, contracts[j]);
-                written = put_answer(out, written, kind_of(m), answer);
+                written = put_answer(out, written, kind, answer);
             }
         } else {
             let now = Desk {
@@ -214,7 +216,7 @@ pub(crate) fn answer_lines(s: Session, piece: &[u8], out: &mut [u8]) -> Answered
             counts = counts_of(points_after);
             slots = slots_of(points_after);
             quiet = first_due(points_after);
-            written = put_answer(out, written, kind_of(m), answer);
+            written = put_answer(out, written, kind, answer);
         }
     }
     let reg = register_of(set, day, contracts, fields, counts, slots);

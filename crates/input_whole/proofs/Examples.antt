@@ -8,9 +8,10 @@ use Rattle.line_text.specs.Decimal.{spell, fixed}
 use Rattle.line_values.specs.Words.{isSame}
 use Rattle.line_values.specs.Numbers.{moreOf, numberOf, fixedOf}
 use Rattle.line_values.specs.Days.{dayIn}
-use Rattle.line_fields.specs.Fields.{fieldOf, fieldsOf, sortsFrom}
-use Rattle.line_kinds.specs.Kinds.{kindIn}
-use Rattle.line_messages.specs.Reading.{wordEnd, readLine}
+use Rattle.line_fields.specs.Pinned.Reading.{fieldOf, fieldsOf}
+use Rattle.line_fields.specs.Between.Shapes.{sortsFrom}
+use Rattle.line_kinds.specs.Pinned.Naming.{kindIn}
+use Rattle.line_messages.specs.Pinned.Reading.{wordEnd, readLine}
 use Rattle.line_answers.specs.Answers.{answerLine, periodLine, totalLine}
 use Rattle.line_listing.specs.Listing.{periodLines, pointLines, listingFrom, listing}
 use Rattle.line_listing.specs.ByBook.{linesOfPeriods, rising, bookListing}

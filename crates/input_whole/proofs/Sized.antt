@@ -10,7 +10,7 @@ use Rattle.rules.specs.Answers.{isAccepted}
 use Rattle.rules.specs.Rejections.{openingAnswer}
 use Rattle.rules.specs.Register.{catchUp, blankPoint, register, pointAt, advanced, says, acted, failedPoint, done, applied, opened}
 use Rattle.line_messages.specs.declared.{Message.Message}
-use Rattle.line_messages.specs.Reading.{readLine}
+use Rattle.line_messages.specs.Pinned.Reading.{readLine}
 use Rattle.input_lines.specs.Part.{capped}
 use Rattle.input_lines.specs.Machine.{behind, run}
 use Rattle.input_desk.specs.declared.{Desk.Desk}

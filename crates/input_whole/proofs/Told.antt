@@ -16,7 +16,7 @@ use Rattle.agreement.proofs.Run.{run-agrees}
 use Rattle.agreement.proofs.Theorem.{day-book-agrees}
 use Rattle.line_messages.specs.declared.{Message.Message}
 use Rattle.line_messages.specs.Lines.{kindOf}
-use Rattle.line_messages.specs.Reading.{readLine}
+use Rattle.line_messages.specs.Pinned.Reading.{readLine}
 use Rattle.line_answers.specs.Answers.{answerLine}
 use Rattle.questions.proofs.Asking.{asking}
 use Rattle.line_listing.proofs.ByBook.{listing-by-book}

@@ -10,8 +10,9 @@ use lib.ListN.{length, take, drop, set, getD, replicate, drop-of-length-le}
 use lib.Seq.{drop-cons, drop-set-lt, take-suc-set}
 use borrow.Author.Tests.{le-leb, lt-leb, eq-eqb, ne-eqb}
 use Rattle.line_fields.specs.declared.{Sort.Sort, Shape.Shape, KnownDate.KnownDate}
-use Rattle.line_fields.specs.Fields.{fieldsOf, sortAt, sortsFrom, sortsOf, fieldsIn}
-use Rattle.line_fields.specs.With.{value, none, valueWith, fieldWith, rowRead, fieldsWith, rowWith}
+use Rattle.line_fields.specs.Pinned.Reading.{fieldsOf, fieldsIn}
+use Rattle.line_fields.specs.Between.Shapes.{sortAt, sortsFrom, sortsOf}
+use Rattle.line_fields.specs.Between.With.{value, none, valueWith, fieldWith, rowRead, fieldsWith, rowWith}
 
 -- one field: at the line's end, at another byte, and at its `;`
 pub field-end : (i : ℕ) (s : List ℕ) → length s ≤ i → (k : KnownDate) (t : Sort) → fieldWith k t (drop i s) ≡ none

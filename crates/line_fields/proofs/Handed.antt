@@ -15,9 +15,9 @@ use Rattle.line_values.specs.Numbers.{Read, number, bad, numberOf, fieldAt}
 use Rattle.line_values.specs.Days.{dayIn}
 use Rattle.line_values.proofs.Places.{Ends, ends-cons, ends-short, Leaves, number-leaves, day-leaves, Within, place, end-place, within-self}
 use Rattle.line_fields.specs.declared.{Sort.Sort, Shape.Shape, KnownDate.KnownDate, Row.Row, Step.Step}
-use Rattle.line_fields.specs.Known.{packed, knownText}
-use Rattle.line_fields.specs.With.{ReadWith, value, none, numberRead, dateRead, dateWith, valueWith, fieldWith, RowRead, rowRead, rowWith}
-use Rattle.line_fields.specs.With.{stepAt, rowAt, valuesAfter, ReadRow}
+use Rattle.line_fields.specs.Between.Known.{packed, knownText}
+use Rattle.line_fields.specs.Between.With.{ReadWith, value, none, numberRead, dateRead, dateWith, valueWith, fieldWith, RowRead, rowRead, rowWith}
+use Rattle.line_fields.specs.Between.With.{stepAt, rowAt, valuesAfter, ReadRow}
 use Rattle.line_fields.proofs.FieldSteps.{field-here, too-many}
 
 -- what is read with a known date leaves the end of the text
@@ -140,26 +140,16 @@ row-handed : (s : List ℕ) (from at : ℕ) (ok : Bool) (acc : List ℕ) (k : Kn
 row-handed s from at ok acc k x e w =
     ap (λ (n : ℕ). row ok n k) (sym (place s from at w)) ∙ ap (rowAt from (drop from s)) (sym e)
 
-values-handed : (shape : Shape) (before vs : List ℕ) (i : ℕ) → shape .count ≤ 7 → i ≤ 7 → length vs ≡ 7 →
-    drop i vs ≡ replicate (7 - i) 0 → (ok : Bool) (l : List ℕ) (k : KnownDate) →
-    vs ≡ valuesAfter shape before (rowRead ok (take i vs) l k)
-values-handed shape before vs i h b n e ok l k =
-    rw (le-leb (shape .count) 7 h, length-take-le i vs (omega arith), ← e) (sym (take-append-drop i vs))
+values-handed : (vs : List ℕ) (i : ℕ) → i ≤ 7 → length vs ≡ 7 → drop i vs ≡ replicate (7 - i) 0 → (ok : Bool) (l : List ℕ)
+    (k : KnownDate) → vs ≡ valuesAfter (rowRead ok (take i vs) l k)
+values-handed vs i b n e ok l k = rw (length-take-le i vs (omega arith), ← e) (sym (take-append-drop i vs))
 
-module _ (last : KnownDate) (shape : Shape) (from : ℕ) (s before : List ℕ) where
+module _ (last : KnownDate) (shape : Shape) (from : ℕ) (s : List ℕ) where
   pub row-read : (vs : List ℕ) (at i : ℕ) (ok : Bool) (k : KnownDate) →
-      rowWith last shape (drop from s) ≡ rowRead ok (take i vs) (drop at s) k → Within s from at → shape .count ≤ 7 → i ≤ 7 →
-      length vs ≡ 7 → drop i vs ≡ replicate (7 - i) 0 → ReadRow last shape from s before vs (row ok at k)
-  row-read vs at i ok k e w h b n z =
+      rowWith last shape (drop from s) ≡ rowRead ok (take i vs) (drop at s) k → Within s from at → i ≤ 7 → length vs ≡ 7 →
+      drop i vs ≡ replicate (7 - i) 0 → ReadRow last shape from s vs (row ok at k)
+  row-read vs at i ok k e w b n z =
       record {
         row = row-handed s from at ok (take i vs) k (rowWith last shape (drop from s)) e w;
-        values = values-handed shape before vs i h b n z ok (drop at s) k ∙ ap (valuesAfter shape before) (sym e);
-      }
-
-  pub row-none : 7 < shape .count → ReadRow last shape from s before before (row false from last)
-  row-none h =
-      record {
-        row = row-handed s from from false [] last (rowWith last shape (drop from s)) (too-many last shape (drop from s) h)
-            (within-self s from);
-        values = rw (lt-leb (shape .count) 7 h);
+        values = values-handed vs i b n z ok (drop at s) k ∙ ap valuesAfter (sym e);
       }

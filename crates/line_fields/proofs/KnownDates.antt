@@ -19,8 +19,8 @@ use Rattle.line_values.specs.Days.{dayIn}
 use Rattle.line_values.proofs.Days.{day-back, day-only}
 use Rattle.line_values.proofs.Steps.{other-length, same-words, same-self}
 use Rattle.line_fields.specs.declared.{KnownDate.KnownDate}
-use Rattle.line_fields.specs.Known.{packed, unpacked, knownText, firstKnown, IsKnown}
-use Rattle.line_fields.specs.With.{value, none, dateRead, dateWith}
+use Rattle.line_fields.specs.Between.Known.{packed, unpacked, knownText, firstKnown, IsKnown}
+use Rattle.line_fields.specs.Between.With.{value, none, dateRead, dateWith}
 
 -- each is a byte
 abbrev pub AreBytes : List ℕ → Type 0

@@ -9,11 +9,12 @@ use Rattle.line_values.specs.Words.{isSame}
 use Rattle.line_values.specs.Numbers.{Read, number, bad, numberOf}
 use Rattle.line_values.specs.Days.{dayIn}
 use Rattle.line_fields.specs.declared.{KnownDate.KnownDate, Shape.Shape, Sort.Sort}
-use Rattle.line_fields.specs.Known.{packed, knownText, firstKnown, IsKnown}
-use Rattle.line_fields.specs.Fields.{Values, unread, valueOf, fieldOf, andThen, fieldsOf, sortsOf, fieldsIn}
-use Rattle.line_fields.specs.With.{ReadWith, value, none, numberRead, dateRead, dateWith, valueWith, fieldWith}
-use Rattle.line_fields.specs.With.{RowRead, rowRead, onWith, fieldsWith, rowWith, allOf}
-use Rattle.line_fields.specs.KnownStays.{KnownStays}
+use Rattle.line_fields.specs.Between.Known.{packed, knownText, firstKnown, IsKnown}
+use Rattle.line_fields.specs.Pinned.Reading.{Values, unread, valueOf, fieldOf, andThen, fieldsOf, fieldsIn}
+use Rattle.line_fields.specs.Between.Shapes.{sortsOf}
+use Rattle.line_fields.specs.Between.With.{ReadWith, value, none, numberRead, dateRead, dateWith, valueWith, fieldWith}
+use Rattle.line_fields.specs.Between.With.{RowRead, rowRead, onWith, fieldsWith, rowWith, allOf}
+use Rattle.line_fields.specs.Between.KnownStays.{KnownStays}
 use Rattle.line_fields.proofs.KnownDates.{known-day, now-known, first-right}
 
 -- read as x says, and a right date is known then

@@ -6,9 +6,9 @@ use line_values::number_at;
 ghost use mathlib.Core.Path.{_≡_};
 ghost use Prim.Native.Nat.{_+_, _≤_, _<_};
 ghost use lib.ListN.{length, take, drop};
-ghost use Rattle.line_fields.specs.Known.{packed, firstKnown};
-ghost use Rattle.line_fields.specs.Fields.{sortAt};
-ghost use Rattle.line_fields.specs.With.{numberWith, dateWith, fieldWith, stepAt, ReadRow};
+ghost use Rattle.line_fields.specs.Between.Known.{packed, firstKnown};
+ghost use Rattle.line_fields.specs.Between.Shapes.{sortAt};
+ghost use Rattle.line_fields.specs.Between.With.{numberWith, dateWith, fieldWith, stepAt, ReadRow};
 
 // What a field holds: a date, whose value is its day, or a number.
 pub enum Sort {
@@ -16,7 +16,11 @@ pub enum Sort {
     Number,
 }
 
-// The fields of a line behind its kind: how many, at most 7. The first is a date, and so is the one at second.
+// The most fields that a line has; the length of the arrays of values too, here and in line_messages, line_writing and
+// line_next.
+pub const MOST_FIELDS: usize = 7;
+
+// The fields of a line behind its kind: how many, at most MOST_FIELDS. The first is a date, and so is the one at second.
 pub struct Shape {
     pub count: usize,
     pub second: usize,
@@ -60,20 +64,20 @@ pub fn read_row(
     last: KnownDate,
     values: &mut [u64; 7],
 ) -> Row
-    ensures { λ r. ⌜ ReadRow last shape from (now (line .entry)) (now (values .entry)) (now (values .exit)) r ⌝ }
+    ensures { λ r. ⌜ ReadRow last shape from (now (line .entry)) (now (values .exit)) r ⌝ }
 {
     let count = shape.count;
     let second = shape.second;
     let mut known = last;
     let mut at = from;
-    if 7 < count {
+    *values = [0; 7];
+    if MOST_FIELDS < count {
         return Row {
             ok: false,
             end: at,
             known,
         };
     }
-    *values = [0; 7];
     let mut i: usize = 0;
     while i < count {
         let sort = sort_at(second, i);

@@ -5,8 +5,8 @@ use native.Mathlib.Omega.{arith}
 use lib.ListN.{take, drop, length-drop}
 use lib.Seq.{drop-drop}
 use Rattle.line_values.specs.Days.{dayIn}
-use Rattle.line_fields.specs.Known.{packed}
-use Rattle.line_fields.specs.With.{value, stepAt}
+use Rattle.line_fields.specs.Between.Known.{packed}
+use Rattle.line_fields.specs.Between.With.{value, stepAt}
 use Rattle.line_fields.proofs.KnownDates.{date-short, date-same, date-other, eight-packed, eight-bytes}
 use Rattle.line_fields.proofs.Handed.{step-value, step-none, date-step, date-none}
 use borrow.Author.Needs.{needs}

@@ -6,10 +6,10 @@ use mathlib.Core.List.{[]}
 use native.Mathlib.Omega.{arith}
 use lib.ListN.{length, length-set, take, drop, replicate}
 use Rattle.line_values.proofs.Places.{Within, within-self, within-on}
-use Rattle.line_fields.specs.With.{fieldsWith}
-use Rattle.line_fields.specs.Fields.{sortsFrom}
-use Rattle.line_fields.proofs.FieldSteps.{fields-bad, fields-on, fields-done, one-more, zeros-left, row-is}
-use Rattle.line_fields.proofs.Handed.{field-was, field-was-none, row-read, row-none}
+use Rattle.line_fields.specs.Between.With.{fieldsWith}
+use Rattle.line_fields.specs.Between.Shapes.{sortsFrom}
+use Rattle.line_fields.proofs.FieldSteps.{fields-bad, fields-on, fields-done, one-more, zeros-left, row-is, too-many}
+use Rattle.line_fields.proofs.Handed.{field-was, field-was-none, row-read}
 use borrow.Author.Needs.{needs}
 use Rattle.line_fields.proofs.read_row.Statement.{statement}
 use Rattle.line_fields.proofs.read_row.Tie as tie
@@ -25,8 +25,9 @@ abbrev μ-loop : tie.MeasureT-loop
 
 returns : tie.Need-returns Inv-loop μ-loop
 returns c =
-    let a = c .before .before .args in
-    row-none (a .last) (a .shape) (a .from) (a .line .now) _ (c .if1 .taken)
+    let a = c .before .before .before .args in
+    row-read (a .last) (a .shape) (a .from) (a .line .now) (replicate 7 0) (a .from) 0 false (a .last)
+    (too-many (a .last) (a .shape) _ (c .if1 .taken)) (within-self (a .line .now) (a .from)) (omega arith) refl refl
 
 loop-holds : tie.Need-loop-holds Inv-loop μ-loop
 loop-holds c =
@@ -46,10 +47,10 @@ returns-2 c =
     let l = c₅ .loop in
     let e = field-was-none (a .line .now) (l .at) (l .known) _ _ (rw (c₃ .sort-at .ensures) at (c₂ .field-at .ensures))
     (c .enum-told .given .1) in
-    row-read (a .last) (a .shape) (a .from) (a .line .now) _ (l .values) (l .at) (l .i) false (l .known)
+    row-read (a .last) (a .shape) (a .from) (a .line .now) (l .values) (l .at) (l .i) false (l .known)
     (row-is (a .last) (a .shape) _ (omega arith) ∙ l .inv .5 ∙
     fields-bad (l .known) (a .shape .second) (a .shape .count) (l .i) (omega arith) _ _ e)
-    (l .inv .3) (omega arith) (omega arith) (l .inv .2) (l .inv .4)
+    (l .inv .3) (omega arith) (l .inv .2) (l .inv .4)
 
 loop-again : tie.Need-loop-again Inv-loop μ-loop
 loop-again c =
@@ -77,10 +78,10 @@ returns-3 c =
     let c₅ = c .before .before .before .before .before in
     let a = c₅ .args in
     let l = c .before .loop in
-    row-read (a .last) (a .shape) (a .from) (a .line .now) _ (l .values) (l .at) (l .i) true (l .known)
+    row-read (a .last) (a .shape) (a .from) (a .line .now) (l .values) (l .at) (l .i) true (l .known)
     (row-is (a .last) (a .shape) _ (omega arith) ∙ l .inv .5 ∙
     fields-done (l .known) (a .shape .second) (a .shape .count) (l .i) _ _ (omega arith))
-    (l .inv .3) (omega arith) (omega arith) (l .inv .2) (l .inv .4)
+    (l .inv .3) (omega arith) (l .inv .2) (l .inv .4)
 
 pub read-row-spec : {M : Type 1} → statement M
 read-row-spec =

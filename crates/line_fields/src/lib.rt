@@ -62,7 +62,7 @@ pub fn read_row(
     from: usize,
     shape: Shape,
     last: KnownDate,
-    values: &mut [u64; 7],
+    values: &mut [u64; MOST_FIELDS],
 ) -> Row
     ensures { λ r. ⌜ ReadRow last shape from (now (line .entry)) (now (values .exit)) r ⌝ }
 {
@@ -70,7 +70,7 @@ pub fn read_row(
     let second = shape.second;
     let mut known = last;
     let mut at = from;
-    *values = [0; 7];
+    *values = [0; MOST_FIELDS];
     if MOST_FIELDS < count {
         return Row {
             ok: false,

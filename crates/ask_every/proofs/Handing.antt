@@ -6,7 +6,7 @@ use native.Mathlib.Omega.{arith}
 use native.Mathlib.Numerals.{add-one}
 use borrow.Author.Tests.{le-leb, lt-leb}
 use lib.ListN.{length, take, drop, getD, length-append}
-use Rattle.line_text.specs.Appending.{put}
+use Rattle.line_text.specs.Between.Appending.{put}
 use Rattle.rules.specs.declared.{Register.Register}
 use Rattle.line_listing.proofs.Growing.{within-length}
 use Rattle.line_text.proofs.Appends.{room-put, put-none}

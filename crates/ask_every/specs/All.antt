@@ -8,7 +8,7 @@ use lib.ListN.{length, take, drop, getD}
 use Rattle.rules.specs.declared.{History.History, Register.Register}
 use Rattle.rules.specs.Register.{noPeriod, used, pointAt}
 use Rattle.rules.specs.Questions.{unasked}
-use Rattle.line_text.specs.Appending.{put}
+use Rattle.line_text.specs.Between.Appending.{put}
 use Rattle.line_listing.specs.Listing.{AppendedWithin}
 use Rattle.ask_words.specs.declared.{Question.Question}
 use Rattle.ask_every.specs.declared.{Scope.Scope, Place.Place, Handed.Handed}

@@ -8,7 +8,7 @@ use borrow.Author.Tests.{leb-true, leb-false}
 use lib.Dec.{leb}
 use lib.ListN.{length}
 use Rattle.line_text.proofs.Appends.{room-put, no-room, appended-length}
-use Rattle.line_text.specs.Appending.{Appended}
+use Rattle.line_text.specs.Between.Appending.{Appended}
 use Rattle.line_text.specs.Ascii.{ascii}
 use Rattle.line_text.specs.Days.{dayText}
 use Rattle.line_text.specs.Decimal.{decimal}

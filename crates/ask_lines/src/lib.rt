@@ -13,7 +13,7 @@ use rules::PeriodAnswer;
 use rules::Register;
 ghost use Prim.Native.Nat.{_+_, _≤_};
 ghost use lib.ListN.{length};
-ghost use Rattle.line_text.specs.Appending.{Appended};
+ghost use Rattle.line_text.specs.Between.Appending.{Appended};
 ghost use Rattle.line_listing.specs.Listing.{AppendedWithin};
 ghost use Rattle.ask_lines.specs.Lines.{field, dateField, okOne, okPeriod, refusal, OnePut, TwoPut};
 ghost use Rattle.ask_lines.specs.Lines.{holderReply, periodReply, advanceReply, reply, head, line};

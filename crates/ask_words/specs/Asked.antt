@@ -3,22 +3,22 @@ use Prim.Native.Nat.{ℕ}
 use mathlib.Core.Bool.{cond}
 use mathlib.Core.List.{List, [], _∷_, _++_}
 use lib.Dec.{eqb, ltb}
-use Rattle.line_values.specs.declared.{Field.Field}
-use Rattle.line_values.specs.declared.Field.the-variants as field
+use Rattle.line_values.specs.declared.{Found.Found}
+use Rattle.line_values.specs.declared.Found.the-variants as field
 use Rattle.line_text.specs.Ascii.{ascii}
-use Rattle.line_values.specs.Words.{isSame}
-use Rattle.line_values.specs.Numbers.{Read, number, bad, numberOf}
-use Rattle.line_values.specs.Days.{dayIn}
+use Rattle.line_values.specs.Pinned.Words.{isSame}
+use Rattle.line_values.specs.Pinned.Numbers.{Parsed, number, bad, numberOf}
+use Rattle.line_values.specs.Pinned.Days.{dayIn}
 use Rattle.ask_words.specs.declared.{Question.Question, Value.Value, Asked.Asked}
 
 -- The value of a word: all of it is read.
-abbrev pub valueOf : Read → Value
+abbrev pub valueOf : Parsed → Value
 valueOf (number n []) = Value.Is n
 valueOf (number n (c ∷ l)) = Value.Nothing
 valueOf bad = Value.Nothing
 
 -- What the code read of a word of len bytes, and the position behind it: a value where nothing follows.
-abbrev pub wholeOf : ℕ → Field → Value
+abbrev pub wholeOf : ℕ → Found → Value
 wholeOf len (field.Value v next) = cond (ltb next len) Value.Nothing (Value.Is v)
 wholeOf len field.Bad = Value.Nothing
 

@@ -2,7 +2,8 @@
 use crate::Session;
 use input_desk::Desk;
 use input_desk::respond;
-use input_lines::Part;
+use input_lines::Begun;
+use input_lines::KEPT;
 use input_lines::append;
 use input_point::daily_of;
 use input_point::turn_of;
@@ -35,7 +36,8 @@ ghost use mathlib.Core.List.{_++_};
 ghost use Prim.Native.Nat.{_*_, _≤_, min};
 ghost use lib.ListN.{length, take};
 ghost use Rattle.input_lines.specs.Lines.{feeds};
-ghost use Rattle.input_lines.specs.Part.{capped, kept};
+ghost use Rattle.input_lines.specs.Between.Begun.{keptBytes, capped, kept};
+ghost use Rattle.line_answers.specs.Answers.{longestAnswer};
 ghost use Rattle.line_messages.specs.Pinned.Reading.{readLine};
 ghost use Rattle.line_messages.specs.Between.Values.{lineMessage};
 ghost use Rattle.rules.specs.Register.{register};
@@ -51,7 +53,7 @@ pub(crate) struct Answered {
 }
 
 // What a line says of which a part had come before.
-fn line_message(part: Part, line: &[u8]) -> LineMessage
+fn line_message(part: Begun, line: &[u8]) -> LineMessage
     ensures { λ r. ⌜ r ≡ lineMessage (readLine (capped (kept part ++ now (line .entry)))) ⌝ }
 {
     if part.len == 0 {
@@ -63,10 +65,10 @@ fn line_message(part: Part, line: &[u8]) -> LineMessage
     read_first(bytes, n)
 }
 
-fn read_first(bytes: [u8; 97], n: usize) -> LineMessage
-    ensures { λ r. ⌜ r ≡ lineMessage (readLine (take (min n 97) bytes)) ⌝ }
+fn read_first(bytes: [u8; KEPT], n: usize) -> LineMessage
+    ensures { λ r. ⌜ r ≡ lineMessage (readLine (take (min n keptBytes) bytes)) ⌝ }
 {
-    if n < 97 {
+    if n < KEPT {
         return read_line(&bytes[..n]);
     }
     read_line(&bytes)
@@ -85,7 +87,7 @@ fn quiet_with(quiet: u32, g: Point) -> u32
 }
 
 // The message of a line, which next_line has read; with the part of it that had come before, if there is one.
-fn whole_message(part: Part, read: LineMessage, line: &[u8]) -> LineMessage
+fn whole_message(part: Begun, read: LineMessage, line: &[u8]) -> LineMessage
     ensures { λ r. ⌜ WholeMessage part (now (line .entry)) read r ⌝ }
 {
     if part.len == 0 {
@@ -95,7 +97,7 @@ fn whole_message(part: Part, read: LineMessage, line: &[u8]) -> LineMessage
 }
 
 // The session at the end of a piece: what stands behind its last line feed is kept.
-fn at_end(ready: bool, reg: Register, part: Part, rest: &[u8], written: usize) -> Answered
+fn at_end(ready: bool, reg: Register, part: Begun, rest: &[u8], written: usize) -> Answered
     ensures { λ r. ⌜ r ≡ answeredWith (desk ready reg) (capped (kept part ++ now (rest .entry))) written ⌝ }
 {
     let desk = Desk {
@@ -134,7 +136,7 @@ fn register_of(
 // Answers the lines that end in a piece. The points stand in tables: a daily reading changes its point's fields and
 // newest period where they are, another quick line costs the point that it names.
 pub(crate) fn answer_lines(s: Session, piece: &[u8], out: &mut [u8]) -> Answered
-    requires { ⌜ 24 * feeds (now piece) ≤ length (now out) ⌝ }
+    requires { ⌜ longestAnswer * feeds (now piece) ≤ length (now out) ⌝ }
     ensures { λ r. ⌜ AnsweredBy s (now (piece .entry)) (now (out .entry)) (now (out .exit)) r ⌝ }
 {
     let d = s.desk;

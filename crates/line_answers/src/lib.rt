@@ -14,7 +14,7 @@ ghost use mathlib.Core.Path.{_≡_};
 ghost use Prim.Native.Nat.{_+_};
 ghost use mathlib.Core.List.{[], _∷_};
 ghost use lib.ListN.{length};
-ghost use Rattle.line_text.specs.Appending.{Appended};
+ghost use Rattle.line_text.specs.Between.Appending.{Appended};
 ghost use Rattle.line_text.specs.Decimal.{decimal};
 ghost use Rattle.line_text.specs.Days.{dayText};
 ghost use Rattle.line_kinds.specs.Kinds.{word as Kinds·word};

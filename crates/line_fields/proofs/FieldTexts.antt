@@ -1,4 +1,4 @@
--- Reading the fields of a row and writing them are inverse, and a row's text is short.
+-- Reading the fields and writing them are inverse, and their text is short.
 use Prim.Native.Nat.{ℕ, zero, suc, _+_, _≤_, _^_}
 use mathlib.Core.Path.{_≡_, refl, sym, ap, _∙_}
 use mathlib.Core.Bool.{Bool, true, false, cond}
@@ -12,7 +12,7 @@ use Rattle.dates.specs.Dates.{lastDay}
 use Rattle.dates.proofs.Every.{and-left, and-right}
 use Rattle.line_text.proofs.DayTexts.{day-append, day-length}
 use Rattle.line_text.proofs.Spelling.{decimal-append, decimal-length}
-use Rattle.line_values.specs.Numbers.{Read, number, bad}
+use Rattle.line_values.specs.Pinned.Numbers.{Parsed, number, bad}
 use Rattle.line_values.specs.OneText.{Stops}
 use Rattle.line_values.proofs.Numbers.{number-back, number-only}
 use Rattle.line_values.proofs.Days.{day-back, day-only}
@@ -85,7 +85,7 @@ fields-only [] acc l vs r e =
     record { fields = []; sorts = refl; all = sym q ∙ sym (append-nil acc); text = cc; fit = refl }
 fields-only (k ∷ ks) acc l vs r e = go (λ n x. fields-only ks (acc ++ (n ∷ [])) x vs r) (fieldOf k l) refl e where
   go : ((n : ℕ) (x : List ℕ) → fieldsOf ks (acc ++ (n ∷ [])) x ≡ values vs r → FieldsAre ks x r (acc ++ (n ∷ [])) vs) →
-      (x : Read) → fieldOf k l ≡ x → andThen x (λ n x. fieldsOf ks (acc ++ (n ∷ [])) x) ≡ values vs r →
+      (x : Parsed) → fieldOf k l ≡ x → andThen x (λ n x. fieldsOf ks (acc ++ (n ∷ [])) x) ≡ values vs r →
       FieldsAre (k ∷ ks) l r acc vs
   go ih bad p e = absurd (let z : _≡_ {A = ℕ} 0 1 = cc in omega arith)
   go ih (number n x) p e =

@@ -1,6 +1,6 @@
 -- The examples of kinds, each by computing.
 use mathlib.Core.Path.{refl}
-use Rattle.line_values.specs.Words.{isSame}
+use Rattle.line_values.specs.Pinned.Words.{isSame}
 use Rattle.line_kinds.specs.Pinned.Naming.{kindIn}
 use Rattle.line_kinds.specs.Examples.{KindExamples}
 

@@ -7,7 +7,7 @@ use lib.Dec.{eqb, lit≤}
 use lib.ListN.{length}
 use lib.Seq.{length-take-le}
 use native.Mathlib.Omega.{arith}
-use Rattle.line_values.specs.Words.{isSame}
+use Rattle.line_values.specs.Pinned.Words.{isSame}
 use Rattle.line_fields.specs.Between.Shapes.{mostFields, sortsFrom, sortsOf}
 use Rattle.line_fields.proofs.FieldTexts.{widths}
 use Rattle.line_kinds.specs.declared.{Kind.Kind, KindRow.KindRow}

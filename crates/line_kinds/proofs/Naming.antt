@@ -6,7 +6,7 @@ use mathlib.Core.List.{List, [], _∷_}
 use lib.Dec.{eqb}
 use lib.ListN.{length}
 use borrow.Author.Tests.{eqb-false, ne-eqb}
-use Rattle.line_values.specs.Words.{isSame}
+use Rattle.line_values.specs.Pinned.Words.{isSame}
 use Rattle.line_values.proofs.Steps.{other-length, same-words}
 use Rattle.line_kinds.specs.declared.{Kind.Kind}
 use Rattle.line_kinds.specs.Kinds.{word}
@@ -30,18 +30,18 @@ pub kind-of-none : (w : List ℕ) → (length w ≡ 1 → ⊥) → (length w ≡
 unfolding kindIn
 kind-of-none w n1 n2 n3 n4 n5 n6 n8 = kind-of-length (length w) kinds w refl ∙
     rw (other 1 n1, other 2 n2, other 3 n3, other 4 n4, other 5 n5, other 6 n6, other 8 n8) where
-  other : (n : ℕ) → (length w ≡ n → ⊥) → eqb n (length w) ≡ false
-  other n h = ne-eqb n (length w) (λ e. h (sym e))
+      other : (n : ℕ) → (length w ≡ n → ⊥) → eqb n (length w) ≡ false
+      other n h = ne-eqb n (length w) (λ e. h (sym e))
 
 -- a kind that was found is Unknown, or its word is what was looked for
-pub data Found (w : List ℕ) : Kind → Type 0 where
-  named : {k : Kind} → w ≡ word k → Found w k
-  unnamed : Found w Kind.Unknown
+pub data NamedBy (w : List ℕ) : Kind → Type 0 where
+  named : {k : Kind} → w ≡ word k → NamedBy w k
+  unnamed : NamedBy w Kind.Unknown
 
-pub found : (ks : List Kind) (w : List ℕ) → Found w (kindIn ks w)
+pub found : (ks : List Kind) (w : List ℕ) → NamedBy w (kindIn ks w)
 unfolding kindIn
 found [] w = unnamed
 found (k ∷ ks) w = go (found ks w) (isSame w (word k)) refl where
-  go : Found w (kindIn ks w) → (b : Bool) → isSame w (word k) ≡ b → Found w (cond b k (kindIn ks w))
+  go : NamedBy w (kindIn ks w) → (b : Bool) → isSame w (word k) ≡ b → NamedBy w (cond b k (kindIn ks w))
   go ih true e = named (same-words w (word k) e)
   go ih false e = ih

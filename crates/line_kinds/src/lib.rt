@@ -5,8 +5,8 @@ use line_text::write::put_word;
 use line_values::same;
 ghost use mathlib.Core.Path.{_≡_};
 ghost use mathlib.Core.Bool.{cond};
-ghost use Rattle.line_text.specs.Appending.{Appended};
-ghost use Rattle.line_values.specs.Words.{isSame};
+ghost use Rattle.line_text.specs.Between.Appending.{Appended};
+ghost use Rattle.line_values.specs.Pinned.Words.{isSame};
 ghost use Rattle.line_kinds.specs.Kinds.{kindRow, rowOf, word as Kinds·word};
 ghost use Rattle.line_kinds.specs.Pinned.Naming.{kinds, ofLength, kindIn, kindNamed};
 

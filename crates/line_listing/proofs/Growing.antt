@@ -9,7 +9,7 @@ use lib.ListN.{length, getD, length-append}
 use Rattle.rules.specs.declared.{Period.Period, Point.Point}
 use Rattle.rules.specs.Register.{noPeriod, used}
 use Rattle.rules.specs.Questions.{sumOf}
-use Rattle.line_text.specs.Appending.{Appended}
+use Rattle.line_text.specs.Between.Appending.{Appended}
 use Rattle.line_text.proofs.Appends.{put-append, put-none, appended, room-put, put-length}
 use Rattle.line_answers.specs.Answers.{periodLine, totalLine}
 use Rattle.line_answers.proofs.LineTexts.{period-short, total-short}

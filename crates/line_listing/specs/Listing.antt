@@ -8,7 +8,7 @@ use lib.ListN.{length, take, drop, getD}
 use Rattle.rules.specs.declared.{Period.Period, History.History, Point.Point, Register.Register}
 use Rattle.rules.specs.Register.{noPeriod, used}
 use Rattle.rules.specs.Questions.{sumOf}
-use Rattle.line_text.specs.Appending.{put, Appended}
+use Rattle.line_text.specs.Between.Appending.{put, Appended}
 use Rattle.line_answers.specs.Answers.{periodLine, totalLine}
 use Rattle.line_listing.specs.declared.{Listed.Listed}
 

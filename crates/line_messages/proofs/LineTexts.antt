@@ -7,13 +7,13 @@ use borrow.Author.Tests.{le-leb}
 use lib.ListN.{length, take, drop, drop-of-length-le}
 use lib.Seq.{drop-cons}
 use Rattle.line_text.specs.Longest.{longestLine}
-use Rattle.line_fields.specs.declared.{KnownDate.KnownDate, Row.Row}
+use Rattle.line_fields.specs.declared.{KnownDate.KnownDate, LineFields.LineFields}
 use Rattle.line_fields.specs.Between.Known.{IsKnown}
 use Rattle.line_fields.specs.Between.Shapes.{mostFields, sortsOf}
 use Rattle.line_fields.specs.Pinned.Reading.{values, unread, fieldsOf}
-use Rattle.line_fields.specs.Between.With.{RowRead, rowWith, ReadRow}
+use Rattle.line_fields.specs.Between.With.{AllWith, fieldsInWith, ReadsFields}
 use Rattle.line_fields.proofs.FieldSteps.{fields-are}
-use Rattle.line_fields.proofs.RowsRead.{row-fields}
+use Rattle.line_fields.proofs.FieldsRead.{fields-read}
 use Rattle.line_kinds.specs.declared.{Kind.Kind, KindRow.KindRow}
 use Rattle.line_kinds.specs.Kinds.{rowOf}
 use Rattle.line_kinds.specs.Pinned.Naming.{kindNamed}
@@ -31,18 +31,18 @@ pub of-kind : (k : Kind) (v : List ℕ) (m : Message) → m ≡ messageOf k v �
 of-kind k v m e = let own : k ≡ kindOf m = sym (ap kindOf e ∙ ap (λ (s : Said). s .kind) (says k v)) in rw (← own)
 
 -- what is read of a line's word and fields
-module _ (l : List ℕ) (e : ℕ) (k : Kind) (row : KindRow) (v : List ℕ) (r : Row) (last : KnownDate)
+module _ (l : List ℕ) (e : ℕ) (k : Kind) (row : KindRow) (v : List ℕ) (r : LineFields) (last : KnownDate)
     (short : length l ≤ longestLine) (he : e ≡ wordEnd l) (hk : k ≡ kindNamed (take e l)) (hr : row ≡ rowOf k)
-    (read : ReadRow last (row .shape) e l v r) (known : IsKnown last) where
-  abbrev x : RowRead
-  x = rowWith last (row .shape) (drop e l)
+    (read : ReadsFields last (row .shape) e l v r) (known : IsKnown last) where
+  abbrev x : AllWith
+  x = fieldsInWith last (row .shape) (drop e l)
 
   line-is : readLine l ≡ messageWith k (cond (r .ok) (values (x .read) (drop (r .end) l)) unread)
   unfolding readLine
   line-is =
       let all =
       ap (λ (q : KindRow). fieldsOf (sortsOf (q .shape)) [] (drop e l)) (sym hr) ∙
-      sym (fields-are (row .shape) (drop e l) (rw hr (sound k .few))) ∙ row-fields last (row .shape) e l v r read known in
+      sym (fields-are (row .shape) (drop e l) (rw hr (sound k .few))) ∙ fields-read last (row .shape) e l v r read known in
       rw (le-leb (length l) longestLine short, ← he, ← hk, all)
 
   -- not all of its fields, text behind them, and none

@@ -11,13 +11,13 @@ use borrow.Author.Tests.{le-leb}
 use Rattle.line_text.specs.Longest.{longestLine}
 use Rattle.line_fields.specs.Fields.{fieldsText, fitAll}
 use Rattle.line_fields.specs.Between.Shapes.{mostFields, sortsOf, fieldsAs, sortsIn, valuesIn}
-use Rattle.line_fields.specs.Pinned.Reading.{Values, values, unread, fieldsOf}
+use Rattle.line_fields.specs.Pinned.Reading.{AllParsed, values, unread, fieldsOf}
 use Rattle.line_fields.proofs.FieldTexts.{fields-back, FieldsAre, fields-only, fields-short, sorts-as, fields-of-values, fields-zeros}
 use Rattle.line_kinds.specs.declared.{Kind.Kind}
 use Rattle.line_kinds.specs.Kinds.{word, shapeOf}
 use Rattle.line_kinds.specs.Pinned.Naming.{kinds, kindNamed}
 use Rattle.line_kinds.proofs.KindTable.{sound}
-use Rattle.line_kinds.proofs.Naming.{Found, named, unnamed, found}
+use Rattle.line_kinds.proofs.Naming.{NamedBy, named, unnamed, found}
 use Rattle.line_messages.specs.declared.{Message.Message}
 use Rattle.line_messages.specs.Lines.{Said, said, line, kindOf, lineOf}
 use Rattle.line_messages.specs.Writing.{isWritable, textOf}
@@ -90,15 +90,16 @@ module _ (t F : List ℕ) (k : Kind) (vs : List ℕ) (e : t ≡ word k ++ F) (f 
 
   pub line-is : (t ≡ lineOf (messageOf k vs)) × (fitAll (said (messageOf k vs) .fields) ≡ true)
   line-is =
-      let text = f .text ∙ append-nil (fieldsText (f .fields)) in
-      (e ∙ ap (_++_ (word k)) text ∙ ap (λ (s : Said). word (s .kind) ++ fieldsText (s .fields)) (sym said-is),
-      ap (λ (s : Said). fitAll (s .fields)) said-is ∙ f .fit)
+      let text = f .text ∙ append-nil (fieldsText (f .fields)) in (
+        e ∙ ap (_++_ (word k)) text ∙ ap (λ (s : Said). word (s .kind) ++ fieldsText (s .fields)) (sym said-is),
+        ap (λ (s : Said). fitAll (s .fields)) said-is ∙ f .fit,
+      )
 
 -- a line that is read as a message that is not Unreadable is that message's line
 line-was : (l : List ℕ) (m : Message) → readLine l ≡ m → (m ≡ Message.Unreadable → ⊥) → (l ≡ lineOf m) × (isWritable m ≡ true)
 unfolding readLine
 line-was l m e n = long (leb (length l) longestLine) e where
-  kind : (k : Kind) → Found (take (wordEnd l) l) k → (x : Values) →
+  kind : (k : Kind) → NamedBy (take (wordEnd l) l) k → (x : AllParsed) →
       fieldsOf (sortsOf (shapeOf k)) [] (drop (wordEnd l) l) ≡ x →
       messageWith k x ≡ m → (l ≡ lineOf m) × (isWritable m ≡ true)
   kind k f unread p w = absurd (n (sym w))

@@ -1,6 +1,7 @@
 // Message lines: what a line says, and reading one.
+use line_fields::MOST_FIELDS;
 use line_fields::first_known;
-use line_fields::read_row;
+use line_fields::read_fields;
 use line_kinds::Kind;
 use line_kinds::kind_named;
 use line_kinds::row_of;
@@ -32,7 +33,7 @@ pub struct LineMessage {
 // A message's kind and the values of its fields; the places past its fields hold 0.
 pub struct Values {
     pub kind: Kind,
-    pub values: [u64; 7],
+    pub values: [u64; MOST_FIELDS],
 }
 
 // What a line says, without its line feed.
@@ -46,8 +47,8 @@ pub fn read_line(line: &[u8]) -> LineMessage
     let kind = kind_named(&line[..end]);
     let row = row_of(kind);
     let shape = row.shape;
-    let mut values = [0u64; 7];
-    let fields = read_row(line, end, shape, first_known(), &mut values);
+    let mut values = [0u64; MOST_FIELDS];
+    let fields = read_fields(line, end, shape, first_known(), &mut values);
     if !fields.ok {
         return unreadable();
     }
@@ -82,7 +83,7 @@ fn word_end(line: &[u8]) -> usize
 }
 
 // What a line of a kind with these values says.
-pub fn message_of(kind: Kind, v: [u64; 7]) -> Message
+pub fn message_of(kind: Kind, v: [u64; MOST_FIELDS]) -> Message
     ensures { λ r. ⌜ r ≡ messageOf kind v ⌝ }
 {
     let today = v[0];

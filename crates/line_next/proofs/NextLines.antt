@@ -1,7 +1,6 @@
 -- The next line, read where it stands: a kind's word, its fields and then a line feed are the line of its message.
 use Prim.Native.Nat.{ℕ, suc, _+_, _-_, _<_, _≤_}
 use mathlib.Core.Path.{_≡_, refl, sym, ap, ap₂, _∙_}
-use mathlib.Core.Logic.{_⊎_, inl, inr, ⊎-elim}
 use mathlib.Core.Bool.{Bool, true, false, cond, _&&_}
 use mathlib.Core.List.{List, [], _∷_, _++_, append-assoc, append-nil}
 use native.Mathlib.Omega.{arith}
@@ -10,12 +9,12 @@ use lib.Dec.{leb, eqb}
 use lib.ListN.{length, take, drop, getD, length-append, length-drop, take-append-drop, drop-of-length-le}
 use lib.Seq.{drop-cons, take-at, take-length}
 use borrow.Author.Tests.{eqb-true, eq-eqb, ne-eqb}
-use Rattle.line_values.specs.Words.{isSame}
+use Rattle.line_values.specs.Pinned.Words.{isSame}
 use Rattle.line_fields.specs.Pinned.Reading.{values, unread, fieldsOf}
 use Rattle.line_fields.specs.Fields.{fieldsText}
 use Rattle.line_fields.specs.Between.Shapes.{sortsFrom, sortsOf}
 use Rattle.line_fields.specs.Between.Known.{IsKnown}
-use Rattle.line_fields.specs.Between.With.{RowRead}
+use Rattle.line_fields.specs.Between.With.{AllWith}
 use Rattle.line_fields.specs.declared.{KnownDate.KnownDate}
 use Rattle.line_fields.proofs.FieldSteps.{fields-are}
 use Rattle.line_fields.proofs.FieldTexts.{FieldsAre, fields-only}
@@ -24,15 +23,15 @@ use Rattle.line_kinds.specs.declared.{Kind.Kind}
 use Rattle.line_kinds.specs.Kinds.{word, shapeOf}
 use Rattle.line_kinds.specs.Pinned.Naming.{kinds, kindIn, kindNamed}
 use Rattle.line_kinds.proofs.KindTable.{sound}
-use Rattle.line_kinds.proofs.Naming.{Found, named, unnamed, found}
-use Rattle.input_lines.specs.Lines.{untilFeed}
+use Rattle.line_kinds.proofs.Naming.{NamedBy, named, unnamed, found}
+use Rattle.input_lines.specs.Between.Feeds.{untilFeed}
 use Rattle.line_messages.specs.declared.{Message.Message}
 use Rattle.line_messages.specs.Between.Values.{lineMessage}
 use Rattle.line_messages.specs.Pinned.Messages.{messageOf}
 use Rattle.line_messages.specs.Pinned.Reading.{wordEnd, readLine}
 use Rattle.line_messages.proofs.OneLine.{line-is, line-back}
 use Rattle.line_next.specs.declared.{NextLine.NextLine}
-use Rattle.line_next.specs.Between.NextLine.{firstLine, feedFirst, stopAt, firstKind, firstRow, taken, takenBy, nextLine, IsNext, NextIsLine}
+use Rattle.line_next.specs.Between.NextLine.{firstLine, feedFirst, stopAt, firstKind, firstFields, taken, takenBy, nextLine, IsNext, NextIsLine}
 use Rattle.line_next.proofs.PlainTexts.{Plain, plain-end, plain-append, plain-fields, plain-word}
 
 -- one step of looking for the end of a word, and of a line
@@ -116,11 +115,11 @@ feed-some (c ∷ r) h = omega arith
 
 -- the line of a word, of fields and a line feed
 module _ (l : List ℕ) (n : ℕ) (vs r : List ℕ) (hn : n ≡ stopAt l) (feed : feedFirst r ≡ true) where
-  row-line : (k : Kind) → Found (take n l) k → k ≡ kindNamed (take n l) →
+  fields-line : (k : Kind) → NamedBy (take n l) k → k ≡ kindNamed (take n l) →
       fieldsOf (sortsOf (shapeOf k)) [] (drop n l) ≡ values vs r →
       (readLine (firstLine l) ≡ messageOf k vs) × (length l ≡ untilFeed l + length r)
   unfolding fieldsOf sortsFrom
-  row-line k (named q) hk hf =
+  fields-line k (named q) hk hf =
       let a = fields-only (sortsOf (shapeOf k)) [] (drop n l) vs r hf in
       let T = fieldsText (a .fields) in
       let whole : l ≡ (word k ++ T) ++ r =
@@ -131,7 +130,7 @@ module _ (l : List ℕ) (n : ℕ) (vs r : List ℕ) (hn : n ≡ stopAt l) (feed 
       record { fields = a .fields; sorts = a .sorts; all = a .all; text = sym (append-nil T); fit = a .fit } in
       let own = line-is (word k ++ T) T k vs refl alone in
       (ap readLine (first .0 ∙ own .0) ∙ line-back (messageOf k vs) (own .1), first .1)
-  row-line k unnamed hk hf =
+  fields-line k unnamed hk hf =
       let rest : drop n l ≡ r = let read : values [] (drop n l) ≡ values vs r = hf in cc in
       let end = word-is-line l (rw (← hn, rest) feed) in
       let long = sym (ap length rest) ∙ length-drop n l in
@@ -148,15 +147,15 @@ module _ (k : KnownDate) (buf : List ℕ) (from : ℕ) (right : IsKnown k) where
   abbrev text : List ℕ
   text = drop from buf
 
-  abbrev x : RowRead
-  x = firstRow k text
+  abbrev x : AllWith
+  x = firstFields k text
 
   is-known : IsKnown (x .known)
   is-known = known-stays .right k (shapeOf (firstKind text)) (drop (stopAt text) text) right
 
   -- its fields are those that are read without a known date
-  row-of : x .ok ≡ true → fieldsOf (sortsOf (shapeOf (firstKind text))) [] (drop (stopAt text) text) ≡ values (x .read) (x .rest)
-  row-of e =
+  fields-of : x .ok ≡ true → fieldsOf (sortsOf (shapeOf (firstKind text))) [] (drop (stopAt text) text) ≡ values (x .read) (x .rest)
+  fields-of e =
       sym (fields-are (shapeOf (firstKind text)) (drop (stopAt text) text) (sound (firstKind text) .few)) ∙
       sym (known-stays .same k (shapeOf (firstKind text)) (drop (stopAt text) text) right) ∙
       ap (λ (b : Bool). cond b (values (x .read) (x .rest)) unread) e
@@ -167,7 +166,7 @@ module _ (k : KnownDate) (buf : List ℕ) (from : ℕ) (right : IsKnown k) where
         IsNext buf from (cond (a && b) (taken (messageOf (firstKind text) (x .read)) (from + (length text - length (x .rest))) (x .known))
         (taken (readLine (firstLine text)) (from + untilFeed text) (x .known)))
     go true true p q =
-        let w = row-line text (stopAt text) (x .read) (x .rest) refl q (firstKind text) (found kinds (take (stopAt text) text)) refl (row-of p) in
+        let w = fields-line text (stopAt text) (x .read) (x .rest) refl q (firstKind text) (found kinds (take (stopAt text) text)) refl (fields-of p) in
         record { read = ap lineMessage (sym (w .0)); end = ap (λ (n : ℕ). from + n) (omega arith); known = is-known }
     go true false p q = record { read = refl; end = refl; known = is-known }
     go false b p q = record { read = refl; end = refl; known = is-known }

@@ -14,7 +14,7 @@ use Rattle.line_text.specs.Days.{answerText, dayText}
 use Rattle.line_fields.specs.declared.{Sort.Sort}
 use Rattle.line_fields.specs.Fields.{Field, fieldText, fieldsText}
 use Rattle.line_kinds.proofs.KindTable.{lacks}
-use Rattle.input_lines.specs.Lines.{untilFeed}
+use Rattle.input_lines.specs.Between.Feeds.{untilFeed}
 
 abbrev pub Plain : List ℕ → Type 0
 Plain [] = Unit {0}

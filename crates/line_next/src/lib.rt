@@ -1,7 +1,8 @@
 // Reading the next line of a buffer, without looking for its end first.
 use input_lines::line_end;
 use line_fields::KnownDate;
-use line_fields::read_row;
+use line_fields::MOST_FIELDS;
+use line_fields::read_fields;
 use line_kinds::Kind;
 use line_kinds::kind_named;
 use line_kinds::row_of;
@@ -40,8 +41,8 @@ pub fn next_line(buf: &[u8], from: usize, last: KnownDate) -> NextLine
     let kind = kind_named(&buf[from..word_end]);
     let row = row_of(kind);
     let shape = row.shape;
-    let mut values = [0u64; 7];
-    let fields = read_row(buf, word_end, shape, last, &mut values);
+    let mut values = [0u64; MOST_FIELDS];
+    let fields = read_fields(buf, word_end, shape, last, &mut values);
     let known = fields.known;
     if fields.ok {
         if is_feed(buf, fields.end) {
@@ -55,11 +56,7 @@ pub fn next_line(buf: &[u8], from: usize, last: KnownDate) -> NextLine
     }
     let end = line_end(buf, from);
     let read = read_line(&buf[from..end]);
-    NextLine {
-        read,
-        end,
-        known,
-    }
+    NextLine { read, end, known }
 }
 
 // A line feed stands at a position.

@@ -9,7 +9,7 @@ use borrow.Author.Tests.{le-leb, lt-leb, leb-true, leb-false}
 use lib.Dec.{leb}
 use lib.ListN.{length, take, drop, length-append, take-append-drop}
 use lib.Seq.{take-at, drop-at, length-take-le, drop-drop, take-length, sets, sets-eq, length-sets, paste}
-use Rattle.line_text.specs.Appending.{put, Appended}
+use Rattle.line_text.specs.Between.Appending.{put, Appended}
 
 -- putting a text is storing its bytes
 pub put-sets : (at : ℕ) (t o : List ℕ) → at + length t ≤ length o → sets o at t ≡ put at t o

@@ -2,4 +2,4 @@ pub mod Ascii
 pub mod Decimal
 pub mod Days
 pub mod Longest
-pub mod Appending
+pub mod Between

@@ -1,26 +1,26 @@
 -- A line that is written, from what its parts say: its word, then its fields, in front of zeros.
 use Prim.Native.Nat.{ℕ, zero, suc, _+_, _-_, _≤_}
-use mathlib.Core.Path.{_≡_, sym, ap, _∙_}
+use mathlib.Core.Path.{_≡_, ap, _∙_}
 use mathlib.Core.Bool.{true}
-use mathlib.Core.List.{List, [], _++_}
+use mathlib.Core.List.{List, _++_}
 use native.Mathlib.Omega.{arith}
 use native.Mathlib.Nat.{zero-add}
-use lib.ListN.{length, drop, replicate, length-append}
-use Rattle.line_text.specs.Appending.{put, Appended}
+use lib.ListN.{length, drop, replicate}
+use Rattle.line_text.specs.Between.Appending.{put, Appended}
 use Rattle.line_text.specs.Longest.{longestLine}
 use Rattle.line_text.proofs.Appends.{Rest, room-put, rest-start, rest-next, rest-done}
-use Rattle.line_fields.specs.Fields.{Field, fieldsText}
+use Rattle.line_fields.specs.Fields.{fieldsText}
 use Rattle.line_fields.specs.Between.Shapes.{mostFields, fieldsAs}
 use Rattle.line_kinds.specs.declared.{KindRow.KindRow}
 use Rattle.line_kinds.specs.Kinds.{word, rowOf}
 use Rattle.line_kinds.proofs.KindTable.{sound}
 use Rattle.line_messages.specs.declared.{Message.Message, Values.Values}
 use Rattle.line_messages.specs.Lines.{said, lineOf}
-use Rattle.line_messages.specs.Writing.{isWritable, textOf}
+use Rattle.line_messages.specs.Writing.{isWritable}
 use Rattle.line_messages.specs.Between.Values.{valuesOf}
 use Rattle.line_messages.proofs.OneLine.{fields-own, line-short, writable-fit, its-text}
 use Rattle.line_writing.specs.declared.{Line.Line}
-use Rattle.line_writing.specs.Written.{writtenLine}
+use Rattle.line_writing.specs.Between.Written.{writtenLine}
 
 -- a text in front of zeros
 drop-zeros : (n k : ℕ) → drop k (replicate {A = ℕ} n 0) ≡ replicate (n - k) 0

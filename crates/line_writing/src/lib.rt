@@ -1,5 +1,6 @@
 // Writing the line of a call or of an opening.
 use dates::LAST_DAY;
+use line_fields::MOST_FIELDS;
 use line_fields::Shape;
 use line_fields::Sort;
 use line_fields::sort_at;
@@ -8,6 +9,7 @@ use line_kinds::put_kind;
 use line_kinds::row_of;
 use line_messages::Message;
 use line_messages::Values;
+use line_text::LONGEST_LINE;
 use line_text::write::put_byte;
 use line_text::write::put_day;
 use line_text::write::put_number;
@@ -17,25 +19,25 @@ ghost use mathlib.Core.Path.{_≡_};
 ghost use Prim.Native.Nat.{_+_, _≤_};
 ghost use mathlib.Core.List.{[]};
 ghost use lib.ListN.{length};
-ghost use Rattle.line_text.specs.Appending.{Appended};
+ghost use Rattle.line_text.specs.Between.Appending.{Appended};
 ghost use Rattle.line_fields.specs.Fields.{fieldText, fieldsText, fits as Fields·fits, fitAll};
 ghost use Rattle.line_fields.specs.Between.Shapes.{mostFields, fieldsAs};
 ghost use Rattle.line_messages.specs.Lines.{said, saidOn, saidAt};
 ghost use Rattle.line_messages.specs.Writing.{isWritable};
 ghost use Rattle.line_messages.specs.Between.Values.{valuesOf};
-ghost use Rattle.line_writing.specs.Written.{writtenLine};
+ghost use Rattle.line_writing.specs.Between.Written.{writtenLine};
 
 // A line: its first len bytes. The bytes behind them are 0.
 pub struct Line {
     pub len: usize,
-    pub bytes: [u8; 96],
+    pub bytes: [u8; LONGEST_LINE],
 }
 
 // The line that says m; no bytes where m is not writable.
 pub fn write_line(m: Message) -> Line
     ensures { λ r. ⌜ r ≡ writtenLine m ⌝ }
 {
-    let mut bytes = [0u8; 96];
+    let mut bytes = [0u8; LONGEST_LINE];
     if !is_writable(m) {
         return Line { len: 0, bytes };
     }
@@ -160,7 +162,7 @@ fn point_values(t: u64, p: u64, act: PointAction) -> Values
 }
 
 // Each value fits its field.
-fn fit_all(values: [u64; 7], shape: Shape) -> bool
+fn fit_all(values: [u64; MOST_FIELDS], shape: Shape) -> bool
     requires { ⌜ shape .count ≤ mostFields ⌝ }
     ensures { λ r. ⌜ r ≡ fitAll (fieldsAs shape values) ⌝ }
 {
@@ -188,7 +190,7 @@ fn fits(sort: Sort, n: u64) -> bool
 }
 
 // The fields of a shape, each behind its `;`.
-fn put_fields(out: &mut [u8], from: usize, values: [u64; 7], shape: Shape) -> usize
+fn put_fields(out: &mut [u8], from: usize, values: [u64; MOST_FIELDS], shape: Shape) -> usize
     requires { ⌜ shape .count ≤ mostFields ⌝ }
     requires { ⌜ from + length (fieldsText (fieldsAs shape values)) ≤ length (now out) ⌝ }
     ensures { λ r. ⌜ Appended from (fieldsText (fieldsAs shape values)) (now (out .entry)) (now (out .exit)) r ⌝ }

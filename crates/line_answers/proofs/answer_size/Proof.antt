@@ -24,6 +24,4 @@ returns c =
     omega (arith, c .before .digit-count .ensures, word-long (c₃ .before .args .shown) _ (c₃ .row-of .ensures) .0)
 
 pub answer-size-spec : {M : Type 1} → statement M
-answer-size-spec =
-    tie.close (tie.spec (λ c κs. search needs) (λ c κs. search needs) add-result add-result-2
-    returns)
+answer-size-spec = tie.close (tie.spec (λ c κs. search needs) (λ c κs. search needs) add-result add-result-2 returns)

@@ -35,7 +35,8 @@ returns-3 c =
     let pieces = total-pieces (a .point) (a .advance) in
     let t = totalPieces (a .point) (a .advance) in
     let o = a .out .now in
-    let fits : a .at + length t ≤ length o = omega (arith, ap length pieces, c₂₂ .before .total-size .ensures, c₂₂ .if1 .left, c₁₈ .before .before .before .if2 .left) in
+    let fits : a .at + length t ≤ length o =
+    omega (arith, ap length pieces, c₂₂ .before .total-size .ensures, c₂₂ .if1 .left, c₁₈ .before .before .before .if2 .left) in
     let s₀ = rest-start (a .at) t o fits in
     let s₁ = rest-next (a .at) t o _ (ascii "total;") _ _ _ _ s₀ (c₁₈ .put-word .ensures) in
     let s₂ = rest-next (a .at) t o _ (decimal (a .point) []) _ _ _ _ s₁ (c₁₄ .put-number .ensures) in

@@ -1,12 +1,12 @@
--- `fields::known_date_at` meets its contract: the bytes are those of the known date, or a date is read.
+-- `line_fields::known_date_at` meets its contract: the bytes are those of the known date, or a date is read.
 use Prim.Native.Nat.{_+_, _*_, _^_, _<_}
 use mathlib.Core.Path.{_≡_, ap, sym, _∙_}
 use native.Mathlib.Omega.{arith}
 use lib.ListN.{take, drop, length-drop}
 use lib.Seq.{drop-drop}
-use Rattle.line_values.specs.Days.{dayIn}
+use Rattle.line_values.specs.Pinned.Days.{dayIn}
 use Rattle.line_fields.specs.Between.Known.{packed}
-use Rattle.line_fields.specs.Between.With.{value, stepAt}
+use Rattle.line_fields.specs.Between.With.{value, foundWith}
 use Rattle.line_fields.proofs.KnownDates.{date-short, date-same, date-other, eight-packed, eight-bytes}
 use Rattle.line_fields.proofs.Handed.{step-value, step-none, date-step, date-none}
 use borrow.Author.Needs.{needs}
@@ -53,7 +53,7 @@ returns-4 c =
     let other = date-other (a .known) l small
     (λ e. omega (arith, p, c₆ .four-at .ensures .0, c₅ .four-at2 .ensures .0, c₃ .if3 .left)) in
     date-none (a .at) l _ (packed (take 8 l)) (dayIn l) (c₂ .date-at .ensures) (c .enum-told .given .1) ∙
-    ap (stepAt (a .at) l) (sym other)
+    ap (foundWith (a .at) l) (sym other)
 
 returns-5 : tie.Need-returns-5
 returns-5 c =
@@ -71,7 +71,7 @@ returns-5 c =
     let other = date-other (a .known) l small
     (λ e. omega (arith, b, c₄ .if3 .left)) in
     rw b at (date-step (a .at) l _ (packed (take 8 l)) _ _ (dayIn l) (c₃ .date-at .ensures) (c .before .day .given .1) ∙
-    ap (stepAt (a .at) l) (sym other))
+    ap (foundWith (a .at) l) (sym other))
 
 pub known-date-at-spec : {M : Type 1} → statement M
 known-date-at-spec =

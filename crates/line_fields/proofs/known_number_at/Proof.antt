@@ -1,6 +1,6 @@
--- `fields::known_number_at` meets its contract: the number, and the date that was known.
+-- `line_fields::known_number_at` meets its contract: the number, and the date that was known.
 use lib.ListN.{drop}
-use Rattle.line_values.specs.Numbers.{numberOf}
+use Rattle.line_values.specs.Pinned.Numbers.{numberOf}
 use Rattle.line_fields.proofs.Handed.{number-step, number-none}
 use borrow.Author.Needs.{needs}
 use Rattle.line_fields.proofs.known_number_at.Statement.{statement}

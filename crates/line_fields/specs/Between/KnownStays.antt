@@ -6,10 +6,10 @@ use Prim.Native.Nat.{ℕ}
 use Rattle.line_fields.specs.declared.{KnownDate.KnownDate, Shape.Shape}
 use Rattle.line_fields.specs.Between.Known.{firstKnown, IsKnown}
 use Rattle.line_fields.specs.Pinned.Reading.{fieldsIn}
-use Rattle.line_fields.specs.Between.With.{rowWith, allOf}
+use Rattle.line_fields.specs.Between.With.{fieldsInWith, allOf}
 
 pub record KnownStays : Type 0 where
   pub first : IsKnown firstKnown
   -- the fields are read as without a known date
-  pub same : (k : KnownDate) (s : Shape) (l : List ℕ) → IsKnown k → allOf (rowWith k s l) ≡ fieldsIn s l
-  pub right : (k : KnownDate) (s : Shape) (l : List ℕ) → IsKnown k → IsKnown (rowWith k s l .known)
+  pub same : (k : KnownDate) (s : Shape) (l : List ℕ) → IsKnown k → allOf (fieldsInWith k s l) ≡ fieldsIn s l
+  pub right : (k : KnownDate) (s : Shape) (l : List ℕ) → IsKnown k → IsKnown (fieldsInWith k s l .known)

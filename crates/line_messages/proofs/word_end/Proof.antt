@@ -1,4 +1,4 @@
--- `message::word_end` meets its contract: the bytes passed, and the word's end from here on, are the word's end.
+-- `line_messages::word_end` meets its contract: the bytes passed, and the word's end from here on, are the word's end.
 use Prim.Native.Nat.{_≤_, _+_, _-_}
 use mathlib.Core.Path.{_≡_}
 use native.Mathlib.Omega.{arith}

@@ -4,7 +4,7 @@ use mathlib.Core.List.{_++_}
 use lib.ListN.{length, replicate}
 use Rattle.line_fields.specs.Between.Shapes.{mostFields, valuesIn}
 use Rattle.line_messages.specs.declared.{Message.Message, LineMessage.LineMessage, Values.Values}
-use Rattle.line_messages.specs.Lines.{Said, said, kindOf}
+use Rattle.line_messages.specs.Lines.{Said, kindOf}
 
 abbrev pub lineMessage : Message → LineMessage
 lineMessage m = record { kind = kindOf m; message = m }

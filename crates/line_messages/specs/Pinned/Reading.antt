@@ -6,7 +6,7 @@ use lib.Dec.{leb, eqb}
 use lib.ListN.{length, take, drop}
 use Rattle.line_text.specs.Longest.{longestLine}
 use Rattle.line_fields.specs.Between.Shapes.{sortsOf}
-use Rattle.line_fields.specs.Pinned.Reading.{Values, values, unread, fieldsOf}
+use Rattle.line_fields.specs.Pinned.Reading.{AllParsed, values, unread, fieldsOf}
 use Rattle.line_kinds.specs.declared.{Kind.Kind}
 use Rattle.line_kinds.specs.Kinds.{shapeOf}
 use Rattle.line_kinds.specs.Pinned.Naming.{kindNamed}
@@ -19,7 +19,7 @@ wordEnd [] = 0
 wordEnd (c ∷ l) = cond (eqb c 59) 0 (suc (wordEnd l))
 
 -- A line of a kind with the fields that follow its word, and nothing behind them.
-abbrev pub messageWith : Kind → Values → Message
+abbrev pub messageWith : Kind → AllParsed → Message
 messageWith k (values vs []) = messageOf k vs
 messageWith k (values vs (c ∷ r)) = Message.Unreadable
 messageWith k unread = Message.Unreadable

@@ -19,7 +19,7 @@ returns-2 c =
     let a = c₁₁ .before .before .before .args in
     let feed = sym (c .before .before .is-feed .ensures) ∙ c .before .if3 .taken in
     next-by-fields (a .last) (a .buf .now) (a .from) _ _ _ _ _ (c₁₁ .word-end-from .ensures .0)
-    (c₁₁ .word-end-from .ensures .1) (c₈ .before .kind-named .ensures) (c₈ .row-of .ensures) (c₅ .read-row .ensures)
+    (c₁₁ .word-end-from .ensures .1) (c₈ .before .kind-named .ensures) (c₈ .row-of .ensures) (c₅ .read-fields .ensures)
     (c .before .before .before .if2 .taken) feed _ (c .message-of .ensures)
 
 part-read-line-end : tie.Need-part-read-line-end
@@ -36,11 +36,11 @@ returns-3 c =
     let c₈ = c₅ .before .before .before in
     let c₁₁ = c₈ .before .before .before in
     let a = c₁₁ .before .before .before .args in
-    let r = c₅ .read-row .result in
+    let r = c₅ .read-fields .result in
     let other : (r .ok && feedFirst (drop (r .end) (a .buf .now))) ≡ false =
     ⊎-elim (λ w. rw (w .0 .taken, sym (w .1 .ensures) ∙ w .2 .left)) (λ w. rw (w .left)) (c₃ .if2 .came) in
     next-by-end (a .last) (a .buf .now) (a .from) _ _ _ _ r (c₁₁ .word-end-from .ensures .0)
-    (c₁₁ .word-end-from .ensures .1) (c₈ .before .kind-named .ensures) (c₈ .row-of .ensures) (c₅ .read-row .ensures) other
+    (c₁₁ .word-end-from .ensures .1) (c₈ .before .kind-named .ensures) (c₈ .row-of .ensures) (c₅ .read-fields .ensures) other
     _ _ (c .before .before .line-end .ensures) (c .read-line .ensures)
 
 pub next-line-spec : {M : Type 1} → statement M

@@ -1,4 +1,4 @@
--- `next_line::word_end_from` meets its contract, byte by byte.
+-- `line_next::word_end_from` meets its contract, byte by byte.
 use Prim.Native.Nat.{_≤_, _+_, _-_}
 use mathlib.Core.Path.{_≡_, refl}
 use native.Mathlib.Omega.{arith}

@@ -8,8 +8,8 @@ use lib.Dec.{eqb}
 use lib.ListN.{length, take, drop}
 use Rattle.line_fields.specs.declared.{KnownDate.KnownDate}
 use Rattle.line_fields.specs.Between.Known.{IsKnown}
-use Rattle.line_fields.specs.Between.With.{RowRead, rowWith}
-use Rattle.input_lines.specs.Lines.{untilFeed}
+use Rattle.line_fields.specs.Between.With.{AllWith, fieldsInWith}
+use Rattle.input_lines.specs.Between.Feeds.{untilFeed}
 use Rattle.line_kinds.specs.declared.{Kind.Kind}
 use Rattle.line_kinds.specs.Pinned.Naming.{kindNamed}
 use Rattle.line_kinds.specs.Kinds.{shapeOf}
@@ -37,15 +37,15 @@ stopAt (c ∷ l) = cond (eqb c 59) 0 (cond (eqb c 10) 0 (suc (stopAt l)))
 abbrev pub firstKind : List ℕ → Kind
 firstKind l = kindNamed (take (stopAt l) l)
 
-abbrev pub firstRow : KnownDate → List ℕ → RowRead
-firstRow k l = rowWith k (shapeOf (firstKind l)) (drop (stopAt l) l)
+abbrev pub firstFields : KnownDate → List ℕ → AllWith
+firstFields k l = fieldsInWith k (shapeOf (firstKind l)) (drop (stopAt l) l)
 
 abbrev pub taken : Message → ℕ → KnownDate → NextLine
 taken m end k = record { read = lineMessage m; end = end; known = k }
 
 -- What is taken of a text, which stands at a position: by its fields where a line feed follows them, else by its first
 -- line.
-abbrev pub takenBy : ℕ → List ℕ → RowRead → NextLine
+abbrev pub takenBy : ℕ → List ℕ → AllWith → NextLine
 takenBy from l x =
     cond (x .ok && feedFirst (x .rest))
     (taken (messageOf (firstKind l) (x .read)) (from + (length l - length (x .rest))) (x .known))
@@ -53,7 +53,7 @@ takenBy from l x =
 
 -- What is taken from a position of an input on.
 unfoldable pub nextLine : KnownDate → List ℕ → ℕ → NextLine
-nextLine k l from = takenBy from (drop from l) (firstRow k (drop from l))
+nextLine k l from = takenBy from (drop from l) (firstFields k (drop from l))
 
 -- What the first line from a position on says, the position of that line's end, and a date that is a right one.
 pub record IsNext (l : List ℕ) (from : ℕ) (t : NextLine) : Type 0 where

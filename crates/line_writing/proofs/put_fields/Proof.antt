@@ -1,5 +1,5 @@
 -- `line_writing::put_fields` meets its contract: of the text, that of the fields left is still to be put.
-use Prim.Native.Nat.{_≤_, _+_, _-_}
+use Prim.Native.Nat.{_≤_, _-_}
 use mathlib.Core.Path.{_≡_, ap, _∙_}
 use mathlib.Core.List.{[]}
 use native.Mathlib.Omega.{arith}

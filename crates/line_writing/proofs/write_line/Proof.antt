@@ -2,7 +2,7 @@
 use mathlib.Core.Path.{sym, _∙_}
 use borrow.Author.Tests.{not-true, not-false}
 use Rattle.line_messages.specs.Writing.{textOf}
-use Rattle.line_writing.specs.Written.{writtenLine}
+use Rattle.line_writing.specs.Between.Written.{writtenLine}
 use Rattle.line_writing.proofs.WrittenLines.{fields-room, line-written}
 use borrow.Author.Needs.{needs}
 use Rattle.line_writing.proofs.write_line.Statement.{statement}

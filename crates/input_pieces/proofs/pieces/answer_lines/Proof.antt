@@ -6,7 +6,7 @@ use native.Mathlib.Omega.{arith}
 use Rattle.line_fields.specs.Between.Known.{IsKnown}
 use Rattle.line_fields.proofs.KnownStays.{first-is-known}
 use Rattle.line_next.proofs.NextLines.{next-right}
-use Rattle.input_lines.specs.Part.{kept}
+use Rattle.input_lines.specs.Between.Begun.{kept}
 use Rattle.input_desk.specs.Desk.{desk}
 use Rattle.input_quick.proofs.Places.{place-lt, supplier-lt}
 use Rattle.input_pieces.proofs.Turns.{Going, line-read, said-is}

@@ -1,4 +1,4 @@
--- `fields::read_row` meets its contract: the values so far, and what is read from here on, are what is read in all.
+-- `line_fields::read_fields` meets its contract: the values so far, and what is read from here on, are what is read in all.
 use Prim.Native.Nat.{_≤_, _<_, _-_}
 use mathlib.Core.Path.{_≡_, refl, _∙_}
 use mathlib.Core.Bool.{true, false}
@@ -8,11 +8,11 @@ use lib.ListN.{length, length-set, take, drop, replicate}
 use Rattle.line_values.proofs.Places.{Within, within-self, within-on}
 use Rattle.line_fields.specs.Between.With.{fieldsWith}
 use Rattle.line_fields.specs.Between.Shapes.{sortsFrom}
-use Rattle.line_fields.proofs.FieldSteps.{fields-bad, fields-on, fields-done, one-more, zeros-left, row-is, too-many}
-use Rattle.line_fields.proofs.Handed.{field-was, field-was-none, row-read}
+use Rattle.line_fields.proofs.FieldSteps.{fields-bad, fields-on, fields-done, one-more, zeros-left, fields-in-is, too-many}
+use Rattle.line_fields.proofs.Handed.{field-was, field-was-none, all-handed}
 use borrow.Author.Needs.{needs}
-use Rattle.line_fields.proofs.read_row.Statement.{statement}
-use Rattle.line_fields.proofs.read_row.Tie as tie
+use Rattle.line_fields.proofs.read_fields.Statement.{statement}
+use Rattle.line_fields.proofs.read_fields.Tie as tie
 
 abbrev Inv-loop : tie.InvT-loop
 Inv-loop line from values₀ count second known₀ at₀ i₀ values known at i =
@@ -26,7 +26,7 @@ abbrev μ-loop : tie.MeasureT-loop
 returns : tie.Need-returns Inv-loop μ-loop
 returns c =
     let a = c .before .before .before .args in
-    row-read (a .last) (a .shape) (a .from) (a .line .now) (replicate 7 0) (a .from) 0 false (a .last)
+    all-handed (a .last) (a .shape) (a .from) (a .line .now) (replicate 7 0) (a .from) 0 false (a .last)
     (too-many (a .last) (a .shape) _ (c .if1 .taken)) (within-self (a .line .now) (a .from)) (omega arith) refl refl
 
 loop-holds : tie.Need-loop-holds Inv-loop μ-loop
@@ -47,8 +47,8 @@ returns-2 c =
     let l = c₅ .loop in
     let e = field-was-none (a .line .now) (l .at) (l .known) _ _ (rw (c₃ .sort-at .ensures) at (c₂ .field-at .ensures))
     (c .enum-told .given .1) in
-    row-read (a .last) (a .shape) (a .from) (a .line .now) (l .values) (l .at) (l .i) false (l .known)
-    (row-is (a .last) (a .shape) _ (omega arith) ∙ l .inv .5 ∙
+    all-handed (a .last) (a .shape) (a .from) (a .line .now) (l .values) (l .at) (l .i) false (l .known)
+    (fields-in-is (a .last) (a .shape) _ (omega arith) ∙ l .inv .5 ∙
     fields-bad (l .known) (a .shape .second) (a .shape .count) (l .i) (omega arith) _ _ e)
     (l .inv .3) (omega arith) (l .inv .2) (l .inv .4)
 
@@ -78,13 +78,13 @@ returns-3 c =
     let c₅ = c .before .before .before .before .before in
     let a = c₅ .args in
     let l = c .before .loop in
-    row-read (a .last) (a .shape) (a .from) (a .line .now) (l .values) (l .at) (l .i) true (l .known)
-    (row-is (a .last) (a .shape) _ (omega arith) ∙ l .inv .5 ∙
+    all-handed (a .last) (a .shape) (a .from) (a .line .now) (l .values) (l .at) (l .i) true (l .known)
+    (fields-in-is (a .last) (a .shape) _ (omega arith) ∙ l .inv .5 ∙
     fields-done (l .known) (a .shape .second) (a .shape .count) (l .i) _ _ (omega arith))
     (l .inv .3) (omega arith) (l .inv .2) (l .inv .4)
 
-pub read-row-spec : {M : Type 1} → statement M
-read-row-spec =
+pub read-fields-spec : {M : Type 1} → statement M
+read-fields-spec =
     tie.close (tie.spec Inv-loop μ-loop returns loop-holds (λ c κs. search needs) (λ c κs. search needs)
     (λ c. search needs) (λ c. search needs) returns-2 (λ c. search needs) (λ c. search needs) (λ c. search needs)
     (λ c. search needs) loop-again returns-3)

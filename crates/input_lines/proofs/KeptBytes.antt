@@ -3,12 +3,11 @@ use Prim.Native.Nat.{ℕ, zero, suc, _+_, _-_, _≤_, min}
 use mathlib.Core.Path.{_≡_, refl, ap, _∙_}
 use mathlib.Core.List.{List, [], _∷_, _++_, append-assoc, append-nil}
 use native.Mathlib.Omega.{arith}
-use native.Mathlib.Nat.{zero-add}
 use native.Mathlib.Decide.{decLe}
-use lib.ListN.{length, take, drop, replicate, length-append, length-take, length-replicate}
+use lib.ListN.{length, take, replicate, length-append, length-take}
 use lib.Seq.{take-all, take-append-add, take-append-seam, length-take-le}
-use Rattle.line_text.specs.Between.Appending.{put, Appended}
-use Rattle.line_text.proofs.Appends.{room-put, put-append, put-length}
+use Rattle.line_text.specs.Between.Appending.{Appended}
+use Rattle.line_text.proofs.Appends.{zeros-put}
 use Rattle.input_lines.specs.declared.{Begun.Begun}
 use Rattle.input_lines.specs.Between.Begun.{keptBytes, capped, kept, begunOf}
 
@@ -54,16 +53,6 @@ empty-begun = refl
 
 -- ---- two words put into zeros
 
-drop-replicate : (n k : ℕ) → drop {A = ℕ} k (replicate n 0) ≡ replicate (n - k) 0
-drop-replicate zero zero = refl
-drop-replicate zero (suc k) = let e : 0 - suc k ≡ 0 = omega arith in rw e
-drop-replicate (suc n) zero = let e : suc n - 0 ≡ suc n = omega arith in rw e
-drop-replicate (suc n) (suc k) = let e : suc n - suc k ≡ n - k = omega arith in rw e (drop-replicate n k)
-
-put-zeros : (l : List ℕ) → put 0 l (replicate keptBytes 0) ≡ l ++ replicate (keptBytes - length l) 0
-unfolding put
-put-zeros l = rw (zero-add (length l)) (ap (λ (o : List ℕ). l ++ o) (drop-replicate keptBytes (length l)))
-
 take-min : (n : ℕ) (l : List ℕ) → take n l ≡ take (min (length l) n) l
 take-min n l = elim (decLe n (length l)) [
   | yes h ↦ (let e : min (length l) n ≡ n = omega arith in rw e)
@@ -78,20 +67,6 @@ capped-append x more h =
     ap (λ (n : ℕ). take n (x ++ more)) s ∙ take-append-add x more (keptBytes - length x) ∙
     ap (λ (l : List ℕ). x ++ l) (take-min (keptBytes - length x) more)
 
-pub part-put : (x more o₁ o₂ : List ℕ) (a b : ℕ) → length (x ++ more) ≤ keptBytes →
-    Appended 0 x (replicate keptBytes 0) o₁ a → Appended a more o₁ o₂ b →
-    (b ≡ length (x ++ more)) × (o₂ ≡ (x ++ more) ++ replicate (keptBytes - length (x ++ more)) 0)
-part-put x more o₁ o₂ a b h w v =
-    let z = length-replicate {A = ℕ} keptBytes 0 in
-    let n = length-append x more in
-    let p = room-put 0 x (replicate keptBytes 0) o₁ a w (omega arith) in
-    let ea : a ≡ length x = omega (arith, p .1) in
-    let l₁ : length o₁ ≡ keptBytes = ap length (p .0) ∙ put-length 0 x (replicate keptBytes 0) (omega arith) ∙ z in
-    let q = room-put a more o₁ o₂ b v (omega arith) in (
-      omega arith,
-      q .0 ∙ rw (ea, p .0) (rw (zero-add (length x)) at (put-append 0 x more (replicate keptBytes 0) (omega arith))) ∙ put-zeros (x ++ more),
-    )
-
 -- the bytes held and as many of the new ones as fit
 pub begun-appended : (bytes more : List ℕ) (len held added : ℕ) (o₁ o₂ : List ℕ) (a b : ℕ) → length bytes ≡ keptBytes → held ≡ min len keptBytes →
     added ≡ min (length more) (keptBytes - held) →
@@ -104,5 +79,5 @@ begun-appended bytes more len held added o₁ o₂ a b n hh ha w v =
     let all : capped (take held bytes ++ more) ≡ take held bytes ++ take added more =
     rw (hl, ← ha) at (capped-append (take held bytes) more (omega arith))
     in
-    let q = part-put (take held bytes) (take added more) o₁ o₂ a b (omega (arith, length-append (take held bytes) (take added more))) w v in
+    let q = zeros-put keptBytes (take held bytes) (take added more) o₁ o₂ a b (omega (arith, length-append (take held bytes) (take added more))) w v in
     rw (q .0, q .1, ← hh, all)

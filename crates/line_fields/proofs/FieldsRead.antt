@@ -1,4 +1,4 @@
--- What the fields that were read say: the text from its end on, its values, and with a right known date the fields of the text.
+-- What the fields that were read say: the text behind them, and with a right known date the fields of the text.
 use Prim.Native.Nat.{ℕ}
 use mathlib.Core.Path.{_≡_, sym, ap, _∙_}
 use mathlib.Core.Bool.{Bool, true, false, cond}

@@ -1,4 +1,4 @@
--- What is handed back of one field, and of a lineFields of fields: the positions, and the values.
+-- What is handed back of one field, and of all: the positions, and the values.
 use Prim.Native.Nat.{ℕ, _+_, _-_, _<_, _≤_}
 use mathlib.Core.Path.{_≡_, refl, sym, ap, _∙_}
 use mathlib.Core.Bool.{Bool, true, false, cond}
@@ -16,7 +16,7 @@ use Rattle.line_values.specs.Pinned.Days.{dayIn}
 use Rattle.line_values.proofs.Places.{Ends, ends-cons, ends-short, Leaves, number-leaves, day-leaves, Within, place, end-place}
 use Rattle.line_fields.specs.declared.{Sort.Sort, Shape.Shape, KnownDate.KnownDate, LineFields.LineFields, FieldFound.FieldFound}
 use Rattle.line_fields.specs.Between.Known.{packed, knownText}
-use Rattle.line_fields.specs.Between.With.{ParsedWith, value, none, numberRead, dateRead, dateWith, valueWith, fieldWith, AllWith, withAll, fieldsInWith}
+use Rattle.line_fields.specs.Between.With.{ParsedWith, value, none, knownBy, dateRead, dateWith, valueWith, fieldWith, AllWith, withAll, fieldsInWith}
 use Rattle.line_fields.specs.Between.With.{foundWith, lineFieldsAt, valuesAfter, ReadsFields}
 use Rattle.line_fields.proofs.FieldSteps.{field-here}
 
@@ -25,24 +25,20 @@ abbrev pub LeavesWith : List ℕ → ParsedWith → Type 0
 LeavesWith l (value n r k) = Ends l r
 LeavesWith l none = Unit {0}
 
-number-read-leaves : (k : KnownDate) (l : List ℕ) (x : Parsed) → Leaves l x → LeavesWith l (numberRead k x)
-number-read-leaves k l (number n r) e = e
-number-read-leaves k l bad e = tt
-
-date-read-leaves : (b : ℕ) (l : List ℕ) (x : Parsed) → Leaves l x → LeavesWith l (dateRead b x)
-date-read-leaves b l (number n r) e = e
-date-read-leaves b l bad e = tt
+read-leaves : (f : ℕ → KnownDate) (l : List ℕ) (x : Parsed) → Leaves l x → LeavesWith l (knownBy f x)
+read-leaves f l (number n r) e = e
+read-leaves f l bad e = tt
 
 date-leaves : (k : KnownDate) (l : List ℕ) → LeavesWith l (dateWith k l)
 unfolding dateWith
 date-leaves k l = go (isSame (take 8 l) (knownText k)) where
   go : (t : Bool) → LeavesWith l (cond t (value (k .day) (drop 8 l) k) (dateRead (packed (take 8 l)) (dayIn l)))
   go true = record { read = take 8 l; whole = sym (take-append-drop 8 l) }
-  go false = date-read-leaves (packed (take 8 l)) l (dayIn l) (day-leaves l)
+  go false = read-leaves _ l (dayIn l) (day-leaves l)
 
 pub value-leaves : (k : KnownDate) (s : Sort) (l : List ℕ) → LeavesWith l (valueWith k s l)
 value-leaves k Sort.Date l = date-leaves k l
-value-leaves k Sort.Number l = number-read-leaves k l (numberOf l) (number-leaves l)
+value-leaves k Sort.Number l = read-leaves _ l (numberOf l) (number-leaves l)
 
 leaves-cons : (c : ℕ) (l : List ℕ) (x : ParsedWith) → LeavesWith l x → LeavesWith (c ∷ l) x
 leaves-cons c l (value n r k) e = ends-cons c l r e
@@ -105,33 +101,21 @@ field-step s at k t f h e p =
     p ∙ step-next s at (valueWith k t (drop (at + 1) s)) h (value-leaves k t (drop (at + 1) s)) ∙
     ap (foundWith at (drop at s)) (sym (field-here s at h k t e))
 
--- a number, and a date that is read
-module _ (at : ℕ) (l : List ℕ) (f : Found) where
-  pub number-step : (k : KnownDate) (v i : ℕ) (x : Parsed) → f ≡ foundAt at l x → f ≡ field.Value v i →
-      FieldFound.On v i k ≡ foundWith at l (numberRead k x)
-  number-step k v i (number n r) e p =
+-- a number, or a date that is read
+module _ (at : ℕ) (l : List ℕ) (f : Found) (g : ℕ → KnownDate) where
+  pub found-value : (v i : ℕ) (x : Parsed) → f ≡ foundAt at l x → f ≡ field.Value v i →
+      FieldFound.On v i (g v) ≡ foundWith at l (knownBy g x)
+  found-value v i (number n r) e p =
       let same : n ≡ v = cc in
       let there : at + (length l - length r) ≡ i = cc in
       rw (same, there)
-  number-step k v i bad e p = absurd (let z : _≡_ {A = ℕ} 0 1 = cc in omega arith)
+  found-value v i bad e p = absurd (let z : _≡_ {A = ℕ} 0 1 = cc in omega arith)
 
-  pub number-none : (k : KnownDate) (x : Parsed) → f ≡ foundAt at l x → f ≡ field.Bad → FieldFound.Bad ≡ foundWith at l (numberRead k x)
-  number-none k (number n r) e p = absurd (let z : _≡_ {A = ℕ} 0 1 = cc in omega arith)
-  number-none k bad e p = refl
+  pub found-none : (x : Parsed) → f ≡ foundAt at l x → f ≡ field.Bad → FieldFound.Bad ≡ foundWith at l (knownBy g x)
+  found-none (number n r) e p = absurd (let z : _≡_ {A = ℕ} 0 1 = cc in omega arith)
+  found-none bad e p = refl
 
-  pub date-step : (b v i : ℕ) (x : Parsed) → f ≡ foundAt at l x → f ≡ field.Value v i →
-      FieldFound.On v i (record { bytes = b; day = v }) ≡ foundWith at l (dateRead b x)
-  date-step b v i (number n r) e p =
-      let same : n ≡ v = cc in
-      let there : at + (length l - length r) ≡ i = cc in
-      rw (same, there)
-  date-step b v i bad e p = absurd (let z : _≡_ {A = ℕ} 0 1 = cc in omega arith)
-
-  pub date-none : (b : ℕ) (x : Parsed) → f ≡ foundAt at l x → f ≡ field.Bad → FieldFound.Bad ≡ foundWith at l (dateRead b x)
-  date-none b (number n r) e p = absurd (let z : _≡_ {A = ℕ} 0 1 = cc in omega arith)
-  date-none b bad e p = refl
-
--- a lineFields of fields: all of it, or up to a field that cannot be read
+-- fields: all of them, or up to a field that cannot be read
 abbrev pub lineFields : Bool → ℕ → KnownDate → LineFields
 lineFields ok end k = record { ok = ok; end = end; known = k }
 

@@ -12,7 +12,7 @@ use Rattle.line_fields.specs.declared.{KnownDate.KnownDate, Shape.Shape,
 use Rattle.line_fields.specs.Between.Known.{packed, knownText, firstKnown, IsKnown}
 use Rattle.line_fields.specs.Pinned.Reading.{AllParsed, unread, valueOf, fieldOf, andThen, fieldsOf, fieldsIn}
 use Rattle.line_fields.specs.Between.Shapes.{sortsOf}
-use Rattle.line_fields.specs.Between.With.{ParsedWith, value, none, numberRead, dateRead, dateWith, valueWith, fieldWith}
+use Rattle.line_fields.specs.Between.With.{ParsedWith, value, none, knownBy, dateRead, dateWith, valueWith, fieldWith}
 use Rattle.line_fields.specs.Between.With.{AllWith, withAll, onWith, fieldsWith, fieldsInWith, allOf}
 use Rattle.line_fields.specs.Between.KnownStays.{KnownStays}
 use Rattle.line_fields.proofs.KnownDates.{known-day, now-known, first-right}
@@ -34,7 +34,7 @@ date-as k l h = go (isSame (take 8 l) (knownText k)) refl where
   go true e = (known-day k l h e, h)
   go false e = own (dayIn l) refl
 
-number-as : (k : KnownDate) (x : Parsed) → IsKnown k → ReadAs (numberRead k x) x
+number-as : (k : KnownDate) (x : Parsed) → IsKnown k → ReadAs (knownBy (λ n. k) x) x
 number-as k (number n r) h = (refl, h)
 number-as k bad h = refl
 

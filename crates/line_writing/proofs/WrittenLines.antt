@@ -1,14 +1,13 @@
 -- A line that is written, from what its parts say: its word, then its fields, in front of zeros.
-use Prim.Native.Nat.{ℕ, zero, suc, _+_, _-_, _≤_}
+use Prim.Native.Nat.{ℕ, _+_, _≤_}
 use mathlib.Core.Path.{_≡_, ap, _∙_}
 use mathlib.Core.Bool.{true}
 use mathlib.Core.List.{List, _++_}
 use native.Mathlib.Omega.{arith}
-use native.Mathlib.Nat.{zero-add}
-use lib.ListN.{length, drop, replicate}
-use Rattle.line_text.specs.Between.Appending.{put, Appended}
+use lib.ListN.{length, replicate}
+use Rattle.line_text.specs.Between.Appending.{Appended}
 use Rattle.line_text.specs.Longest.{longestLine}
-use Rattle.line_text.proofs.Appends.{Rest, room-put, rest-start, rest-next, rest-done}
+use Rattle.line_text.proofs.Appends.{Rest, rest-start, rest-next, zeros-put}
 use Rattle.line_fields.specs.Fields.{fieldsText}
 use Rattle.line_fields.specs.Between.Shapes.{mostFields, fieldsAs}
 use Rattle.line_kinds.specs.declared.{KindRow.KindRow}
@@ -21,16 +20,6 @@ use Rattle.line_messages.specs.Between.Values.{valuesOf}
 use Rattle.line_messages.proofs.OneLine.{fields-own, line-short, writable-fit, its-text}
 use Rattle.line_writing.specs.declared.{Line.Line}
 use Rattle.line_writing.specs.Between.Written.{writtenLine}
-
--- a text in front of zeros
-drop-zeros : (n k : ℕ) → drop k (replicate {A = ℕ} n 0) ≡ replicate (n - k) 0
-drop-zeros n zero = let e : n - 0 ≡ n = omega arith in rw e
-drop-zeros zero (suc k) = let e : 0 - suc k ≡ 0 = omega arith in rw e
-drop-zeros (suc n) (suc k) = let e : suc n - suc k ≡ n - k = omega arith in rw e (drop-zeros n k)
-
-pub put-zeros : (t : List ℕ) → put 0 t (replicate longestLine 0) ≡ t ++ replicate (longestLine - length t) 0
-unfolding put
-put-zeros t = rw (zero-add (length t), drop-zeros longestLine (length t))
 
 abbrev blank : List ℕ
 blank = replicate longestLine 0
@@ -50,11 +39,11 @@ module _ (m : Message) (p : Values) (row : KindRow) (hp : p ≡ valuesOf (said m
     line-is : lineOf m ≡ word (p .kind) ++ fields
     line-is = rw (values-are, hp)
 
-    room : 0 + length (word (p .kind) ++ fields) ≤ longestLine
+    room : length (word (p .kind) ++ fields) ≤ longestLine
     room = let short = line-short m (writable-fit m fit) in omega (arith, ap length line-is)
 
     begun : Rest 0 (word (p .kind) ++ fields) blank at fields o₁
-    begun = rest-next 0 _ blank 0 (word (p .kind)) fields blank at o₁ (rest-start 0 _ blank room) w
+    begun = rest-next 0 _ blank 0 (word (p .kind)) fields blank at o₁ (rest-start 0 _ blank (omega (arith, room))) w
 
     -- there is room for the fields
     pub fields-room : (row .shape .count ≤ mostFields) × (at + length fields ≤ length o₁)
@@ -65,6 +54,6 @@ module _ (m : Message) (p : Values) (row : KindRow) (hp : p ≡ valuesOf (said m
         _≡_ {A = Line} (record { len = r; bytes = o₂ }) (writtenLine m)
     unfolding writtenLine
     line-written o₂ r v =
-        let all = room-put 0 _ blank o₂ r (rest-done 0 _ blank at fields o₁ r o₂ begun v) room in
+        let all = zeros-put longestLine (word (p .kind)) fields o₁ o₂ at r room w v in
         let text = its-text m fit ∙ line-is in
-        rw (text, all .0, all .1, zero-add (length (word (p .kind) ++ fields)), put-zeros (word (p .kind) ++ fields))
+        rw (text, all .0, all .1)

@@ -21,18 +21,17 @@ pub data ParsedWith : Type 0 where
   value : ℕ → List ℕ → KnownDate → ParsedWith
   none : ParsedWith
 
--- A number that is read leaves the known date; a date that is read is known from then on, by its bytes b.
-abbrev pub numberRead : KnownDate → Parsed → ParsedWith
-numberRead k (number n r) = value n r k
-numberRead k bad = none
+-- What is read, with the date that is known from then on: as before a number; a date itself, by its bytes b.
+abbrev pub knownBy : (ℕ → KnownDate) → Parsed → ParsedWith
+knownBy f (number n r) = value n r (f n)
+knownBy f bad = none
 
 abbrev pub dateRead : ℕ → Parsed → ParsedWith
-dateRead b (number n r) = value n r (record { bytes = b; day = n })
-dateRead b bad = none
+dateRead b x = knownBy (λ n. record { bytes = b; day = n }) x
 
 -- The number that a text begins with.
 abbrev pub numberWith : KnownDate → List ℕ → ParsedWith
-numberWith k l = numberRead k (numberOf l)
+numberWith k l = knownBy (λ n. k) (numberOf l)
 
 -- The date that a text begins with: the known day where the eight bytes are the known ones, else their own.
 unfoldable pub dateWith : KnownDate → List ℕ → ParsedWith

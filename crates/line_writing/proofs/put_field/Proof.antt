@@ -1,8 +1,5 @@
 -- `line_writing::put_field` meets its contract: the `;`, and then what the sort asks for.
-use mathlib.Core.List.{[], _∷_}
-use Rattle.line_text.proofs.Appends.{rest-start, rest-next, rest-done}
-use Rattle.line_fields.specs.declared.{Sort.Sort}
-use Rattle.line_fields.specs.Fields.{fieldText}
+use Rattle.line_writing.proofs.FieldLoops.{field-put}
 use borrow.Author.Needs.{needs}
 use Rattle.line_writing.proofs.put_field.Statement.{statement}
 use Rattle.line_writing.proofs.put_field.Tie as tie
@@ -13,11 +10,8 @@ returns c =
     let c₈ = c₄ .before .before .before .before in
     let s = c₈ .before .before .before in
     let told = c₄ .enum-told .given .1 in
-    let text = fieldText Sort.Date (s .args .n) [] in
     rw told
-    (rest-done (s .args .at) text (s .args .out .now) _ _ _ _ _
-    (rest-next (s .args .at) text (s .args .out .now) (s .args .at) (59 ∷ []) _ (s .args .out .now) _ _
-    (rest-start (s .args .at) text (s .args .out .now) (rw told at (s .pre))) (c₈ .put-byte .ensures))
+    (field-put (s .args .at) _ (s .args .out .now) _ _ _ _ (rw told at (s .pre)) (c₈ .put-byte .ensures)
     (c .before .before .put-day .ensures))
 
 returns-2 : tie.Need-returns-2
@@ -26,11 +20,8 @@ returns-2 c =
     let c₈ = c₄ .before .before .before .before in
     let s = c₈ .before .before .before in
     let told = c₄ .enum-told2 .given .1 in
-    let text = fieldText Sort.Number (s .args .n) [] in
     rw told
-    (rest-done (s .args .at) text (s .args .out .now) _ _ _ _ _
-    (rest-next (s .args .at) text (s .args .out .now) (s .args .at) (59 ∷ []) _ (s .args .out .now) _ _
-    (rest-start (s .args .at) text (s .args .out .now) (rw told at (s .pre))) (c₈ .put-byte .ensures))
+    (field-put (s .args .at) _ (s .args .out .now) _ _ _ _ (rw told at (s .pre)) (c₈ .put-byte .ensures)
     (c .before .before .put-number .ensures))
 
 pub put-field-spec : {M : Type 1} → statement M

@@ -13,7 +13,7 @@ use questions::period_of;
 use rules::Register;
 ghost use Prim.Native.Nat.{_+_, _≤_};
 ghost use lib.ListN.{length};
-ghost use Rattle.line_text.specs.Appending.{Appended, AppendedWithin};
+ghost use Rattle.line_text.specs.Between.Appending.{Appended, AppendedWithin};
 ghost use Rattle.ask_lines.specs.Lines.{field, dateField, one, okOne, okPeriod, refusal};
 ghost use Rattle.ask_lines.specs.Lines.{holderReply, periodReply, advanceReply, reply};
 

@@ -2,9 +2,9 @@
 use mathlib.Core.Path.{refl}
 use Rattle.dates.specs.Dates.{leapRow, monthLength}
 use Rattle.dates.specs.Numbers.{monthStart, yearStart, dayNumber, isReal, dayAnswer}
-use Rattle.line_values.specs.Words.{isSame}
-use Rattle.line_values.specs.Numbers.{numberOf, moreOf, fixedOf}
-use Rattle.line_values.specs.Days.{dayIn}
+use Rattle.line_values.specs.Pinned.Words.{isSame}
+use Rattle.line_values.specs.Pinned.Numbers.{numberOf, moreOf, fixedOf}
+use Rattle.line_values.specs.Pinned.Days.{dayIn}
 use Rattle.ask_words.specs.Asked.{numberValue, dateValue, byOne, byTwo, byThree, askedBy, usage}
 use Rattle.ask_words.specs.Examples.{WordsExamples}
 

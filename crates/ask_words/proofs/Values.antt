@@ -5,8 +5,9 @@ use mathlib.Core.List.{List, [], _∷_}
 use native.Mathlib.Omega.{arith}
 use lib.ListN.{length}
 use borrow.Author.Tests.{lt-ltb, le-ltb}
-use Rattle.line_values.specs.declared.Field.the-variants as field
-use Rattle.line_values.specs.Numbers.{Read, number, bad, fieldAt}
+use Rattle.line_values.specs.declared.Found.the-variants as field
+use Rattle.line_values.specs.Pinned.Numbers.{Parsed, number, bad}
+use Rattle.line_values.specs.Between.Places.{foundAt}
 use Rattle.line_values.proofs.Places.{ends-short, Leaves}
 use Rattle.ask_words.specs.declared.{Value.Value}
 use Rattle.ask_words.specs.Asked.{valueOf}
@@ -19,7 +20,7 @@ whole-more len v next h = rw (lt-ltb next len h)
 pub whole-all : (len v next : ℕ) → len ≤ next → wholeOf len (field.Value v next) ≡ Value.Is v
 whole-all len v next h = rw (le-ltb next len h)
 
-pub whole-value : (w : List ℕ) (x : Read) → Leaves w x → wholeOf (length w) (fieldAt 0 w x) ≡ valueOf x
+pub whole-value : (w : List ℕ) (x : Parsed) → Leaves w x → wholeOf (length w) (foundAt 0 w x) ≡ valueOf x
 whole-value w (number v []) e = whole-all (length w) v (0 + (length w - 0)) (omega arith)
 whole-value w (number v (c ∷ r)) e =
     let short = ends-short w (c ∷ r) e in

@@ -4,13 +4,13 @@ use mathlib.Core.Bool.{cond}
 use mathlib.Core.List.{List, [], _∷_, _++_}
 use lib.Dec.{eqb}
 use Rattle.line_text.specs.Ascii.{ascii}
-use Rattle.line_values.specs.Words.{isSame}
-use Rattle.line_values.specs.Numbers.{Read, number, bad, numberOf}
-use Rattle.line_values.specs.Days.{dayIn}
+use Rattle.line_values.specs.Pinned.Words.{isSame}
+use Rattle.line_values.specs.Pinned.Numbers.{Parsed, number, bad, numberOf}
+use Rattle.line_values.specs.Pinned.Days.{dayIn}
 use Rattle.ask_words.specs.declared.{Question.Question, Value.Value, Asked.Asked}
 
 -- The value of a word: all of it is read.
-abbrev pub valueOf : Read → Value
+abbrev pub valueOf : Parsed → Value
 valueOf (number n []) = Value.Is n
 valueOf (number n (c ∷ l)) = Value.Nothing
 valueOf bad = Value.Nothing

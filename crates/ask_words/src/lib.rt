@@ -1,11 +1,11 @@
 // What a program's words ask for, and what is written where they get no answer.
 use line_text::write::put_word;
-use line_values::Field;
+use line_values::Found;
 use line_values::date_at;
 use line_values::number_at;
 use line_values::same;
 ghost use mathlib.Core.Path.{_≡_};
-ghost use Rattle.line_text.specs.Appending.{Appended};
+ghost use Rattle.line_text.specs.Between.Appending.{Appended};
 ghost use Rattle.ask_words.specs.Asked.{numberValue, dateValue, holderAsked, periodAsked};
 ghost use Rattle.ask_words.specs.Between.Whole.{wholeOf};
 ghost use Rattle.ask_words.specs.Asked.{byOne, byTwo, byThree, askedBy, usage, unopened};
@@ -136,10 +136,10 @@ fn date_value(word: &[u8]) -> Value
 }
 
 // What was read, where nothing follows it.
-fn whole(len: usize, read: Field) -> Value
+fn whole(len: usize, read: Found) -> Value
     ensures { λ r. ⌜ r ≡ wholeOf len read ⌝ }
 {
-    let Field::Value(v, next) = read else {
+    let Found::Value(v, next) = read else {
         return Value::Nothing;
     };
     if next < len {

@@ -9,7 +9,8 @@ use borrow.Author.Tests.{eq-eqb, ne-eqb}
 use lib.Dec.{eqb}
 use lib.ListN.{length, take, drop, getD}
 use lib.Seq.{drop-cons}
-use Rattle.input_lines.specs.Lines.{untilFeed, feeds, fitting}
+use Rattle.input_lines.specs.Between.Feeds.{untilFeed, fitting}
+use Rattle.input_lines.specs.Lines.{feeds}
 
 -- ---- the first line feed
 

@@ -1,4 +1,4 @@
 pub mod Feeds
-pub mod Parts
+pub mod KeptBytes
 pub mod Runs
 pub mod LineLaws

@@ -7,7 +7,8 @@ use native.Mathlib.Omega.{arith}
 use native.Mathlib.Nat.{not-suc-le-zero}
 use borrow.Author.Tests.{eqb-true}
 use lib.Dec.{eqb}
-use Rattle.input_lines.specs.Lines.{feeds, lastLine, linesFrom, linesOf, unlines, endsWithin}
+use Rattle.input_lines.specs.Lines.{feeds, unlines, endsWithin}
+use Rattle.input_lines.specs.Pinned.Lines.{lastLine, linesFrom, linesOf}
 use Rattle.input_lines.specs.Laws.{Clear, none, one, LinesAre}
 
 abbrev isSome : List ℕ → Bool

@@ -7,10 +7,12 @@ use native.Mathlib.Omega.{arith}
 use native.Mathlib.Nat.{le-of-suc-le-suc, not-suc-le-zero}
 use lib.Dec.{eqb}
 use lib.ListN.{length, take, drop}
-use Rattle.input_lines.specs.Lines.{untilFeed, lastLine, linesFrom, linesOf}
-use Rattle.input_lines.specs.Part.{capped}
-use Rattle.input_lines.specs.Machine.{said, afterLines, transcript, Run, behind, run}
-use Rattle.input_lines.proofs.Parts.{capped-front, capped-more, capped-nil, capped-le}
+use Rattle.input_lines.specs.Between.Feeds.{untilFeed}
+use Rattle.input_lines.specs.Pinned.Lines.{lastLine, linesFrom, linesOf}
+use Rattle.input_lines.specs.Between.Begun.{keptBytes, capped}
+use Rattle.input_lines.specs.Machine.{said, afterLines, transcript}
+use Rattle.input_lines.specs.Pinned.Runs.{Run, behind, run}
+use Rattle.input_lines.proofs.KeptBytes.{capped-front, capped-more, capped-nil, capped-le}
 
 module _ {S : Type 0} (next : S → List ℕ → S) (say : S → List ℕ → List ℕ) where
   abbrev go-on : S → List ℕ → List ℕ → Run S
@@ -20,7 +22,7 @@ module _ {S : Type 0} (next : S → List ℕ → S) (say : S → List ℕ → Li
   abbrev pub found : S → List ℕ → List ℕ → ℕ → Run S
   found s part l k = behind (say s (capped (part ++ take k l))) (run next say (next s (capped (part ++ take k l))) [] (drop (suc k) l))
 
-  pub run-found : (s : S) (part l : List ℕ) → length part ≤ 97 → untilFeed l < length l → run next say s part l ≡ found s part l (untilFeed l)
+  pub run-found : (s : S) (part l : List ℕ) → length part ≤ keptBytes → untilFeed l < length l → run next say s part l ≡ found s part l (untilFeed l)
   unfolding run untilFeed
   run-found s part [] hp h = absurd (not-suc-le-zero h)
   run-found s part (b ∷ l) hp h = go (eqb b 10) h (run-found s (capped (part ++ (b ∷ []))) l (capped-le _))
@@ -36,7 +38,7 @@ module _ {S : Type 0} (next : S → List ℕ → S) (say : S → List ℕ → Li
   abbrev pub waiting : S → List ℕ → Run S
   waiting s part = record { state = s; part = part; out = [] }
 
-  pub run-none : (s : S) (part l : List ℕ) → length part ≤ 97 → length l ≤ untilFeed l → run next say s part l ≡ waiting s (capped (part ++ l))
+  pub run-none : (s : S) (part l : List ℕ) → length part ≤ keptBytes → length l ≤ untilFeed l → run next say s part l ≡ waiting s (capped (part ++ l))
   unfolding run untilFeed
   run-none s part [] hp h = rw (capped-nil part hp)
   run-none s part (b ∷ l) hp h = go (eqb b 10) h (run-none s (capped (part ++ (b ∷ []))) l (capped-le _))
@@ -48,14 +50,14 @@ module _ {S : Type 0} (next : S → List ℕ → S) (say : S → List ℕ → Li
       go true h i = absurd (not-suc-le-zero h)
       go false h i = rw (capped-more part b l) at (i (le-of-suc-le-suc h))
 
-  -- what is kept is never longer than 97 bytes
-  pub run-part-le : (s : S) (part l : List ℕ) → length part ≤ 97 → length (run next say s part l .part) ≤ 97
+  -- what is kept is never longer than keptBytes
+  pub run-part-le : (s : S) (part l : List ℕ) → length part ≤ keptBytes → length (run next say s part l .part) ≤ keptBytes
   unfolding run
   run-part-le s part [] hp = hp
   run-part-le s part (b ∷ l) hp = go (eqb b 10) (run-part-le (next s part) [] l (omega arith)) (run-part-le s (capped (part ++ (b ∷ []))) l (capped-le _))
     where
-      go : (t : Bool) → length (go-on (next s part) [] l .part) ≤ 97 → length (go-on s (capped (part ++ (b ∷ []))) l .part) ≤ 97 →
-          length (cond t (behind (say s part) (go-on (next s part) [] l)) (go-on s (capped (part ++ (b ∷ []))) l) .part) ≤ 97
+      go : (t : Bool) → length (go-on (next s part) [] l .part) ≤ keptBytes → length (go-on s (capped (part ++ (b ∷ []))) l .part) ≤ keptBytes →
+          length (cond t (behind (say s part) (go-on (next s part) [] l)) (go-on s (capped (part ++ (b ∷ []))) l) .part) ≤ keptBytes
       go true i j = i
       go false i j = j
 

@@ -4,7 +4,8 @@ use Prim.Native.Nat.{ℕ}
 use mathlib.Core.Path.{_≡_}
 use mathlib.Core.Bool.{false, cond}
 use mathlib.Core.List.{List, [], _∷_, _++_}
-use Rattle.input_lines.specs.Lines.{feeds, linesOf, unlines, endsWithin}
+use Rattle.input_lines.specs.Lines.{feeds, unlines, endsWithin}
+use Rattle.input_lines.specs.Pinned.Lines.{linesOf}
 
 -- No line has a line feed in it.
 pub data Clear : List (List ℕ) → Type 0 where

@@ -1,4 +1,5 @@
 pub mod Lines
-pub mod Part
-pub mod Machine
+pub mod Between
+pub mod Pinned
 pub mod Laws
+pub mod Machine

@@ -1,11 +1,8 @@
 -- What a machine writes that answers line by line, whatever the machine: next is its state after a line, say what it
 -- writes for a line, close what it writes at the end. Definitions only.
 use Prim.Native.Nat.{ℕ}
-use mathlib.Core.Bool.{cond}
 use mathlib.Core.List.{List, [], _∷_, _++_}
-use lib.Dec.{eqb}
-use Rattle.input_lines.specs.Lines.{linesOf}
-use Rattle.input_lines.specs.Part.{capped}
+use Rattle.input_lines.specs.Pinned.Lines.{linesOf}
 
 module _ {S : Type 0} (next : S → List ℕ → S) (say : S → List ℕ → List ℕ) where
   -- The answers to lines, in order, and the state after them.
@@ -20,20 +17,3 @@ module _ {S : Type 0} (next : S → List ℕ → S) (say : S → List ℕ → Li
   -- The answers to the lines of an input, and then the closing lines.
   unfoldable pub transcript : (S → List ℕ) → S → List ℕ → List ℕ
   transcript close s input = said s (linesOf input) ++ close (afterLines s (linesOf input))
-
--- Where a machine stands: its state, the start of the line that is under way, and what it has written.
-pub record Run (S : Type 0) : Type 0 where
-  pub state : S
-  pub part : List ℕ
-  pub out : List ℕ
-
--- Something was written before.
-abbrev pub behind : {S : Type 0} → List ℕ → Run S → Run S
-behind o r = record { state = r .state; part = r .part; out = o ++ r .out }
-
--- A run over bytes, one by one; of a line that has not ended only the first 97 bytes are kept.
-module _ {S : Type 0} (next : S → List ℕ → S) (say : S → List ℕ → List ℕ) where
-  unfoldable pub run : S → List ℕ → List ℕ → Run S
-  run s part [] = record { state = s; part = part; out = [] }
-  run s part (b ∷ l) =
-      cond (eqb b 10) (behind (say s part) (run (next s part) [] l)) (run s (capped (part ++ (b ∷ []))) l)

@@ -1,4 +1,5 @@
 // Lines out of an input that comes in pieces.
+use line_text::LONGEST_LINE;
 use line_text::write::put_word;
 ghost use mathlib.Core.Path.{_≡_};
 ghost use mathlib.Core.Bool.{cond, _&&_};
@@ -6,14 +7,17 @@ ghost use mathlib.Core.List.{[], _++_};
 ghost use Prim.Native.Nat.{_+_, _-_, min};
 ghost use lib.Dec.{eqb};
 ghost use lib.ListN.{take, drop};
-ghost use Rattle.input_lines.specs.Lines.{untilFeed, fitting as Lines·fitting};
-ghost use Rattle.input_lines.specs.Part.{capped, kept, partOf};
+ghost use Rattle.input_lines.specs.Between.Feeds.{untilFeed, fitting as Lines·fitting};
+ghost use Rattle.input_lines.specs.Between.Begun.{keptBytes, capped, kept, begunOf};
 
-// The start of a line that has not ended yet: its first len bytes; an over-long line's first 97, which is enough to
-// know it.
-pub struct Part {
+// How many bytes are kept of a line that has not ended yet: one more than a line may have is enough to know that it is
+// too long.
+pub const KEPT: usize = LONGEST_LINE + 1;
+
+// The start of a line that has not ended yet: its first len bytes.
+pub struct Begun {
     pub len: usize,
-    pub bytes: [u8; 97],
+    pub bytes: [u8; KEPT],
 }
 
 // Where the line ends that goes through position at: its line feed, or the end of the piece.
@@ -74,32 +78,32 @@ fn fewer(left: usize, b: u8) -> usize
 }
 
 // No line has begun.
-pub fn no_part() -> Part
-    ensures { λ r. ⌜ r ≡ partOf [] ⌝ }
+pub fn nothing_begun() -> Begun
+    ensures { λ r. ⌜ r ≡ begunOf [] ⌝ }
 {
-    Part {
+    Begun {
         len: 0,
-        bytes: [0; 97],
+        bytes: [0; KEPT],
     }
 }
 
-// A part, and what has come after it.
-pub fn append(part: Part, more: &[u8]) -> Part
-    ensures { λ r. ⌜ r ≡ partOf (capped (kept part ++ now (more .entry))) ⌝ }
+// The start of a line, and what has come after it.
+pub fn append(begun: Begun, more: &[u8]) -> Begun
+    ensures { λ r. ⌜ r ≡ begunOf (capped (kept begun ++ now (more .entry))) ⌝ }
 {
-    let bytes = part.bytes;
-    append_to(bytes, part.len, more)
+    let bytes = begun.bytes;
+    append_to(bytes, begun.len, more)
 }
 
-fn append_to(bytes: [u8; 97], len: usize, more: &[u8]) -> Part
-    ensures { λ r. ⌜ r ≡ partOf (capped (take (min len 97) bytes ++ now (more .entry))) ⌝ }
+fn append_to(bytes: [u8; KEPT], len: usize, more: &[u8]) -> Begun
+    ensures { λ r. ⌜ r ≡ begunOf (capped (take (min len keptBytes) bytes ++ now (more .entry))) ⌝ }
 {
-    let held = smaller(len, 97);
-    let added = smaller(more.len(), 97 - held);
-    let mut all = [0u8; 97];
+    let held = smaller(len, KEPT);
+    let added = smaller(more.len(), KEPT - held);
+    let mut all = [0u8; KEPT];
     let mid = put_word(&mut all, 0, &bytes[..held]);
     let end = put_word(&mut all, mid, &more[..added]);
-    Part {
+    Begun {
         len: end,
         bytes: all,
     }

@@ -11,14 +11,15 @@ use Rattle.rules.specs.Register.{noPoint, noPeriod, history, newest, register}
 use Rattle.point_effects.specs.declared.{Newest.Newest, Ruling.Ruling}
 use Rattle.input_tables.specs.Tables.{fieldsOf, countsOf, slotsOf, joined, pointsOf}
 use Rattle.input_tables.proofs.Tables.{points-back, points-set, points-set-kept, points-get}
-use Rattle.line_text.specs.Appending.{Appended}
+use Rattle.line_text.specs.Between.Appending.{Appended}
 use Rattle.line_messages.specs.declared.{Message.Message}
 use Rattle.line_messages.specs.Lines.{kindOf}
-use Rattle.line_messages.specs.Reading.{readLine}
-use Rattle.line_answers.specs.Answers.{answerLine}
-use Rattle.input_lines.specs.declared.{Part.Part}
-use Rattle.input_lines.specs.Lines.{untilFeed, feeds}
-use Rattle.input_lines.specs.Part.{capped, kept}
+use Rattle.line_messages.specs.Pinned.Reading.{readLine}
+use Rattle.line_answers.specs.Answers.{answerLine, longestAnswer}
+use Rattle.input_lines.specs.declared.{Begun.Begun}
+use Rattle.input_lines.specs.Between.Feeds.{untilFeed}
+use Rattle.input_lines.specs.Lines.{feeds}
+use Rattle.input_lines.specs.Between.Begun.{capped, kept}
 use Rattle.input_desk.specs.declared.{Desk.Desk, Reply.Reply}
 use Rattle.input_desk.specs.Desk.{desk, replied}
 use Rattle.input_quick.specs.Quick.{dueDay, firstDue, isQuick, placeOf, supplierOf, signedAfter, dayAfter}
@@ -45,7 +46,7 @@ together : (r : Register) (fs : List Fields) (ns : List ℕ) (ss : List (List Pe
     registerIn (r .settings) (r .day) (r .contracts) fs ns ss ≡ r
 together r fs ns ss e = rw (e .0, e .1, e .2, points-back (r .points))
 
-module _ (piece out₀ : List ℕ) (d₀ : Desk) (part₀ out : List ℕ) (part : Part) (ready : Bool) (S : Settings) (day : ℕ) (u : List Bool)
+module _ (piece out₀ : List ℕ) (d₀ : Desk) (part₀ out : List ℕ) (part : Begun) (ready : Bool) (S : Settings) (day : ℕ) (u : List Bool)
     (fs : List Fields) (ns : List ℕ) (ss : List (List Period)) (quiet at written : ℕ)
     (g : Going piece out₀ d₀ part₀ out part ready (registerIn S day u fs ns ss) quiet at written) (sized : Tables fs ns ss) (end : ℕ)
     (stops : end ≡ at + untilFeed (drop at piece)) (more : end < length piece)
@@ -133,12 +134,12 @@ module _ (s : Session) (piece out₀ : List ℕ) (fs₀ : List Fields) (ns₀ : 
   abbrev d₀ : Desk
   d₀ = desk (s .desk .ready) (registerIn (r₀ .settings) (r₀ .day) (r₀ .contracts) fs₀ ns₀ ss₀)
 
-  pub tables-start : (quiet : ℕ) → quiet ≡ firstDue (r₀ .points) → 24 * feeds piece ≤ length out₀ →
+  pub tables-start : (quiet : ℕ) → quiet ≡ firstDue (r₀ .points) → longestAnswer * feeds piece ≤ length out₀ →
       Going piece out₀ d₀ (kept (s .part)) out₀ (s .part) (s .desk .ready)
       (registerIn (r₀ .settings) (r₀ .day) (r₀ .contracts) fs₀ ns₀ ss₀) quiet 0 0
   tables-start quiet hq hr = rw (together r₀ fs₀ ns₀ ss₀ apart) (going-start s piece out₀ quiet hq hr)
 
-  pub tables-end : (out : List ℕ) (part : Part) (ready : Bool) (S : Settings) (day : ℕ) (u : List Bool) (fs : List Fields) (ns : List ℕ)
+  pub tables-end : (out : List ℕ) (part : Begun) (ready : Bool) (S : Settings) (day : ℕ) (u : List Bool) (fs : List Fields) (ns : List ℕ)
       (ss : List (List Period)) (quiet at written : ℕ) →
       Going piece out₀ d₀ (kept (s .part)) out part ready (registerIn S day u fs ns ss) quiet at written →
       length piece ≤ at + untilFeed (drop at piece) → (R : Register) → R ≡ registerIn S day u fs ns ss → (x : Answered) (line : List ℕ) →

@@ -9,19 +9,21 @@ use lib.ListN.{length, take, drop, length-drop, take-append-drop}
 use lib.Seq.{drop-drop, length-take-le}
 use Rattle.rules.specs.declared.{Register.Register}
 use Rattle.point_effects.specs.declared.{Ruling.Ruling}
-use Rattle.line_text.specs.Appending.{put, Appended}
+use Rattle.line_text.specs.Between.Appending.{put, Appended}
 use Rattle.line_text.proofs.Appends.{room-put, put-drop, appended-take, appended-length}
-use Rattle.line_messages.specs.declared.{Message.Message}
+use Rattle.line_messages.specs.declared.{Message.Message, LineMessage.LineMessage}
+use Rattle.line_messages.specs.Between.Values.{lineMessage}
 use Rattle.line_messages.specs.Lines.{kindOf}
-use Rattle.line_messages.specs.Reading.{readLine}
-use Rattle.line_answers.specs.Answers.{answerLine}
+use Rattle.line_messages.specs.Pinned.Reading.{readLine}
+use Rattle.line_answers.specs.Answers.{answerLine, longestAnswer}
 use Rattle.line_answers.proofs.LineTexts.{answer-short}
-use Rattle.input_lines.specs.declared.{Part.Part}
-use Rattle.input_lines.specs.Lines.{untilFeed, feeds, fitting}
-use Rattle.input_lines.specs.Part.{capped, kept}
-use Rattle.input_lines.specs.Machine.{Run, behind}
+use Rattle.input_lines.specs.declared.{Begun.Begun}
+use Rattle.input_lines.specs.Between.Feeds.{untilFeed, fitting}
+use Rattle.input_lines.specs.Lines.{feeds}
+use Rattle.input_lines.specs.Between.Begun.{capped, kept}
+use Rattle.input_lines.specs.Pinned.Runs.{Run, behind}
 use Rattle.input_lines.proofs.Feeds.{feeds-behind, fitting-feeds}
-use Rattle.input_lines.proofs.Parts.{kept-le}
+use Rattle.input_lines.proofs.KeptBytes.{kept-le}
 use Rattle.input_lines.proofs.Runs.{run-found, run-none}
 use Rattle.input_desk.specs.declared.{Desk.Desk, Reply.Reply}
 use Rattle.input_desk.specs.Desk.{desk, answerOf, deskAfter, replied}
@@ -34,26 +36,26 @@ use Rattle.input_pieces.specs.declared.{Session.Session, pieces.Answered
 use Rattle.input_pieces.specs.Session.{nextDesk, sayLine, runOf, runFrom, answeredWith, AnsweredBy, fedAs, FedBy}
 
 -- What holds at the loop's head.
-pub record Going (piece out₀ : List ℕ) (d₀ : Desk) (part₀ out : List ℕ) (part : Part) (ready : Bool) (reg : Register)
+pub record Going (piece out₀ : List ℕ) (d₀ : Desk) (part₀ out : List ℕ) (part : Begun) (ready : Bool) (reg : Register)
     (quiet at written : ℕ) : Type 0 where
   pub here : at ≤ length piece
   pub calm : quiet ≤ firstDue (reg .points)
-  pub room : written + 24 * feeds (drop at piece) ≤ length out₀
+  pub room : written + longestAnswer * feeds (drop at piece) ≤ length out₀
   pub size : length out ≡ length out₀
   pub tail : drop written out ≡ drop written out₀
   pub does : behind (take written out) (runOf (desk ready reg) (kept part) (drop at piece)) ≡ runOf d₀ part₀ piece
 
--- the answer to a line has at most 24 bytes
-pub said-short : (d : Desk) (m : Message) → length (answerLine (kindOf m) (answerOf d m)) ≤ 24
+-- the answer to a line has at most longestAnswer bytes
+pub said-short : (d : Desk) (m : Message) → length (answerLine (kindOf m) (answerOf d m)) ≤ longestAnswer
 said-short d m =
     let n = tabled-small (answerOf d m) (every-answer-tabled d m) in
     let e : length (answerLine (kindOf m) (answerOf d m)) ≤ 21 + 2 = answer-short (kindOf m) (answerOf d m) 2 (omega arith) n in
     omega arith
 
-abbrev pub emptied : Part → Part
+abbrev pub emptied : Begun → Begun
 emptied p = record { len = 0; bytes = p .bytes }
 
-module _ (piece out₀ : List ℕ) (d₀ : Desk) (part₀ out : List ℕ) (part : Part) (ready : Bool) (reg : Register)
+module _ (piece out₀ : List ℕ) (d₀ : Desk) (part₀ out : List ℕ) (part : Begun) (ready : Bool) (reg : Register)
     (quiet at written : ℕ) (g : Going piece out₀ d₀ part₀ out part ready reg quiet at written) (end : ℕ)
     (stops : end ≡ at + untilFeed (drop at piece)) (more : end < length piece)
     (m : Message) (says : m ≡ readLine (capped (kept part ++ take (end - at) (drop at piece)))) where
@@ -149,7 +151,7 @@ module _ (piece out₀ : List ℕ) (d₀ : Desk) (part₀ out : List ℕ) (part 
 -- ---- the loop's ends
 
 pub going-start : (s : Session) (piece out : List ℕ) (quiet : ℕ) → quiet ≡ firstDue (s .desk .register .points) →
-    24 * feeds piece ≤ length out →
+    longestAnswer * feeds piece ≤ length out →
     Going piece out (desk (s .desk .ready) (s .desk .register)) (kept (s .part)) out (s .part) (s .desk .ready) (s .desk .register) quiet 0 0
 going-start s piece out quiet hq hr =
     record {
@@ -162,7 +164,7 @@ going-start s piece out quiet hq hr =
     }
 
 -- no line feed is left: what stands behind the last one is kept
-module _ (s : Session) (piece out₀ out : List ℕ) (part : Part) (ready : Bool) (reg : Register) (quiet at written : ℕ)
+module _ (s : Session) (piece out₀ out : List ℕ) (part : Begun) (ready : Bool) (reg : Register) (quiet at written : ℕ)
     (g : Going piece out₀ (s .desk) (kept (s .part)) out part ready reg quiet at written)
     (none : length piece ≤ at + untilFeed (drop at piece)) where
   abbrev left : List ℕ
@@ -192,13 +194,13 @@ module _ (s : Session) (piece out₀ out : List ℕ) (part : Part) (ready : Bool
 -- ---- a piece, as much of it as there is room for
 
 -- the lines that are taken can be answered
-pub taken-room : (piece out : List ℕ) (n : ℕ) → n ≡ fitting (length out / 24) piece → 24 * feeds (take n piece) ≤ length out
+pub taken-room : (piece out : List ℕ) (n : ℕ) → n ≡ fitting (length out / longestAnswer) piece → longestAnswer * feeds (take n piece) ≤ length out
 taken-room piece out n e =
-    let k = fitting-feeds (length out / 24) piece in
-    let f : feeds (take n piece) ≤ length out / 24 = rw (← e) at k in
+    let k = fitting-feeds (length out / longestAnswer) piece in
+    let f : feeds (take n piece) ≤ length out / longestAnswer = rw (← e) at k in
     omega (arith, f)
 
-pub piece-fed : (s : Session) (piece before after : List ℕ) (n : ℕ) (x : Answered) → n ≡ fitting (length before / 24) piece →
+pub piece-fed : (s : Session) (piece before after : List ℕ) (n : ℕ) (x : Answered) → n ≡ fitting (length before / longestAnswer) piece →
     AnsweredBy s (take n piece) before after x → FedBy s piece before after (record { session = x .session; taken = n; written = x .written })
 unfolding fedAs
 piece-fed s piece before after n x e w =
@@ -209,8 +211,13 @@ piece-fed s piece before after n x e w =
 
 -- ---- the line that was read is the one up to the line feed
 
-pub line-read : (piece : List ℕ) (at end : ℕ) (m : Message) → end ≡ at + untilFeed (drop at piece) →
-    m ≡ readLine (take (untilFeed (drop at piece)) (drop at piece)) → m ≡ readLine (take (end - at) (drop at piece))
+pub line-read : (piece : List ℕ) (at end : ℕ) (m : LineMessage) → end ≡ at + untilFeed (drop at piece) →
+    m ≡ lineMessage (readLine (take (untilFeed (drop at piece)) (drop at piece))) →
+    m ≡ lineMessage (readLine (take (end - at) (drop at piece)))
 line-read piece at end m e h =
     let n : end - at ≡ untilFeed (drop at piece) = omega (arith, e) in
-    h ∙ ap (λ (k : ℕ). readLine (take k (drop at piece))) (sym n)
+    h ∙ ap (λ (k : ℕ). lineMessage (readLine (take k (drop at piece)))) (sym n)
+
+-- a message with its kind
+pub said-is : (r : LineMessage) (m : Message) → r ≡ lineMessage m → (r .message ≡ m) × (r .kind ≡ kindOf (r .message))
+said-is r m e = rw e (refl, refl)

@@ -4,7 +4,7 @@ use mathlib.Core.Path.{_≡_, ap}
 use mathlib.Core.List.{List}
 use native.Mathlib.Omega.{arith}
 use lib.ListN.{length, drop, length-append}
-use Rattle.line_text.specs.Appending.{put}
+use Rattle.line_text.specs.Between.Appending.{put}
 use Rattle.input_pieces.specs.declared.{Session.Session, Fed.Fed}
 use Rattle.input_pieces.specs.Session.{fedRun, fedAs, FedBy}
 

@@ -4,15 +4,16 @@ use Prim.Native.Nat.{ℕ, _/_}
 use mathlib.Core.Path.{_≡_}
 use mathlib.Core.List.{List, _++_}
 use lib.ListN.{length, take}
-use Rattle.line_text.specs.Appending.{put}
-use Rattle.line_messages.specs.declared.{Message.Message}
+use Rattle.line_text.specs.Between.Appending.{put}
+use Rattle.line_messages.specs.declared.{LineMessage.LineMessage}
+use Rattle.line_messages.specs.Between.Values.{lineMessage}
 use Rattle.line_messages.specs.Lines.{kindOf}
-use Rattle.line_messages.specs.Reading.{readLine}
-use Rattle.line_answers.specs.Answers.{answerLine}
-use Rattle.input_lines.specs.Lines.{fitting}
-use Rattle.input_lines.specs.declared.{Part.Part}
-use Rattle.input_lines.specs.Part.{capped, kept, partOf}
-use Rattle.input_lines.specs.Machine.{Run, run}
+use Rattle.line_messages.specs.Pinned.Reading.{readLine}
+use Rattle.line_answers.specs.Answers.{answerLine, longestAnswer}
+use Rattle.input_lines.specs.Between.Feeds.{fitting}
+use Rattle.input_lines.specs.declared.{Begun.Begun}
+use Rattle.input_lines.specs.Between.Begun.{capped, kept, begunOf}
+use Rattle.input_lines.specs.Pinned.Runs.{Run, run}
 use Rattle.input_desk.specs.declared.{Desk.Desk}
 use Rattle.input_desk.specs.Desk.{answerOf, deskAfter}
 use Rattle.input_pieces.specs.declared.{Session.Session, Fed.Fed, pieces.Answered.Answered}
@@ -33,23 +34,23 @@ runFrom s piece = runOf (s .desk) (kept (s .part)) piece
 
 -- A session that stands where a run has come to.
 abbrev pub sessionAt : Run Desk → Session
-sessionAt r = record { desk = r .state; part = partOf (r .part) }
+sessionAt r = record { desk = r .state; part = begunOf (r .part) }
 
 -- What a line says with its part, where read is what it says by itself.
-abbrev pub WholeMessage : Part → List ℕ → Message → Message → Type 0
-WholeMessage p l read m = read ≡ readLine l → m ≡ readLine (capped (kept p ++ l))
+abbrev pub WholeMessage : Begun → List ℕ → LineMessage → LineMessage → Type 0
+WholeMessage p l read m = read ≡ lineMessage (readLine l) → m ≡ lineMessage (readLine (capped (kept p ++ l)))
 
 abbrev pub answeredWith : Desk → List ℕ → ℕ → Answered
-answeredWith d l n = record { session = record { desk = d; part = partOf l }; written = n }
+answeredWith d l n = record { session = record { desk = d; part = begunOf l }; written = n }
 
 -- The lines of a piece have been answered: nothing else of out has changed.
 pub record AnsweredBy (s : Session) (piece before after : List ℕ) (r : Answered) : Type 0 where
   pub result : r ≡ record { session = sessionAt (runFrom s piece); written = length (runFrom s piece .out) }
   pub bytes : after ≡ put 0 (runFrom s piece .out) before
 
--- An answer line has at most 24 bytes: of a piece as many bytes are taken as have lines that can surely be answered.
+-- Of a piece as many bytes are taken as have lines that can surely be answered.
 abbrev pub takenOf : List ℕ → List ℕ → ℕ
-takenOf piece out = fitting (length out / 24) piece
+takenOf piece out = fitting (length out / longestAnswer) piece
 
 abbrev pub fedRun : Session → List ℕ → List ℕ → Run Desk
 fedRun s piece out = runFrom s (take (takenOf piece out) piece)

@@ -2,18 +2,16 @@
 mod pieces;
 
 use input_desk::Desk;
-use input_lines::Part;
+use input_lines::Begun;
 use input_lines::fitting;
+use line_answers::LONGEST_ANSWER;
 ghost use mathlib.Core.Path.{_≡_};
 ghost use Rattle.input_pieces.specs.Session.{FedBy};
-
-// The most bytes that an answer line can have.
-const LONGEST_ANSWER: usize = 24;
 
 // The desk, and the start of the line that is under way.
 pub struct Session {
     pub desk: Desk,
-    pub part: Part,
+    pub part: Begun,
 }
 
 // The session after a piece, how many bytes of the piece were taken, and how many were written.

@@ -2,7 +2,8 @@
 use crate::Session;
 use input_desk::Desk;
 use input_desk::respond;
-use input_lines::Part;
+use input_lines::Begun;
+use input_lines::KEPT;
 use input_lines::append;
 use input_point::daily_of;
 use input_point::turn_of;
@@ -20,10 +21,9 @@ use input_tables::points_of;
 use input_tables::slots_of;
 use line_answers::put_answer;
 use line_fields::first_known;
-use line_messages::Message;
+use line_messages::LineMessage;
 use line_messages::read_line;
 use line_next::next_line;
-use line_writing::kind_of;
 use point_periods::newest_place;
 use rules::Answer;
 use rules::Fields;
@@ -36,8 +36,10 @@ ghost use mathlib.Core.List.{_++_};
 ghost use Prim.Native.Nat.{_*_, _≤_, min};
 ghost use lib.ListN.{length, take};
 ghost use Rattle.input_lines.specs.Lines.{feeds};
-ghost use Rattle.input_lines.specs.Part.{capped, kept};
-ghost use Rattle.line_messages.specs.Reading.{readLine};
+ghost use Rattle.input_lines.specs.Between.Begun.{keptBytes, capped, kept};
+ghost use Rattle.line_answers.specs.Answers.{longestAnswer};
+ghost use Rattle.line_messages.specs.Pinned.Reading.{readLine};
+ghost use Rattle.line_messages.specs.Between.Values.{lineMessage};
 ghost use Rattle.rules.specs.Register.{register};
 ghost use Rattle.input_tables.specs.Tables.{pointsOf};
 ghost use Rattle.input_desk.specs.Desk.{desk};
@@ -51,8 +53,8 @@ pub(crate) struct Answered {
 }
 
 // What a line says of which a part had come before.
-fn line_message(part: Part, line: &[u8]) -> Message
-    ensures { λ r. ⌜ r ≡ readLine (capped (kept part ++ now (line .entry))) ⌝ }
+fn line_message(part: Begun, line: &[u8]) -> LineMessage
+    ensures { λ r. ⌜ r ≡ lineMessage (readLine (capped (kept part ++ now (line .entry)))) ⌝ }
 {
     if part.len == 0 {
         return read_line(line);
@@ -63,10 +65,10 @@ fn line_message(part: Part, line: &[u8]) -> Message
     read_first(bytes, n)
 }
 
-fn read_first(bytes: [u8; 97], n: usize) -> Message
-    ensures { λ r. ⌜ r ≡ readLine (take (min n 97) bytes) ⌝ }
+fn read_first(bytes: [u8; KEPT], n: usize) -> LineMessage
+    ensures { λ r. ⌜ r ≡ lineMessage (readLine (take (min n keptBytes) bytes)) ⌝ }
 {
-    if n < 97 {
+    if n < KEPT {
         return read_line(&bytes[..n]);
     }
     read_line(&bytes)
@@ -85,7 +87,7 @@ fn quiet_with(quiet: u32, g: Point) -> u32
 }
 
 // The message of a line, which next_line has read; with the part of it that had come before, if there is one.
-fn whole_message(part: Part, read: Message, line: &[u8]) -> Message
+fn whole_message(part: Begun, read: LineMessage, line: &[u8]) -> LineMessage
     ensures { λ r. ⌜ WholeMessage part (now (line .entry)) read r ⌝ }
 {
     if part.len == 0 {
@@ -95,7 +97,7 @@ fn whole_message(part: Part, read: Message, line: &[u8]) -> Message
 }
 
 // The session at the end of a piece: what stands behind its last line feed is kept.
-fn at_end(ready: bool, reg: Register, part: Part, rest: &[u8], written: usize) -> Answered
+fn at_end(ready: bool, reg: Register, part: Begun, rest: &[u8], written: usize) -> Answered
     ensures { λ r. ⌜ r ≡ answeredWith (desk ready reg) (capped (kept part ++ now (rest .entry))) written ⌝ }
 {
     let desk = Desk {
@@ -134,7 +136,7 @@ fn register_of(
 // Answers the lines that end in a piece. The points stand in tables: a daily reading changes its point's fields and
 // newest period where they are, another quick line costs the point that it names.
 pub(crate) fn answer_lines(s: Session, piece: &[u8], out: &mut [u8]) -> Answered
-    requires { ⌜ 24 * feeds (now piece) ≤ length (now out) ⌝ }
+    requires { ⌜ longestAnswer * feeds (now piece) ≤ length (now out) ⌝ }
     ensures { λ r. ⌜ AnsweredBy s (now (piece .entry)) (now (out .entry)) (now (out .exit)) r ⌝ }
 {
     let d = s.desk;
@@ -159,8 +161,10 @@ pub(crate) fn answer_lines(s: Session, piece: &[u8], out: &mut [u8]) -> Answered
             let reg = register_of(set, day, contracts, fields, counts, slots);
             return at_end(ready, reg, part, &piece[at..], written);
         }
-        let read = line.message;
-        let m = whole_message(part, read, &piece[at..end]);
+        let read = line.read;
+        let whole = whole_message(part, read, &piece[at..end]);
+        let kind = whole.kind;
+        let m = whole.message;
         known = line.known;
         part.len = 0;
         at = end + 1;
@@ -177,7 +181,7 @@ pub(crate) fn answer_lines(s: Session, piece: &[u8], out: &mut [u8]) -> Answered
                 fields[i] = f_read;
                 slots[i][k] = q_read;
                 day = day_after(day, m, Answer::Accepted);
-                written = put_answer(out, written, kind_of(m), Answer::Accepted);
+                written = put_answer(out, written, kind, Answer::Accepted);
             } else {
                 let j = supplier_of(m);
                 let ps = slots[i];
@@ -194,7 +198,7 @@ pub(crate) fn answer_lines(s: Session, piece: &[u8], out: &mut [u8]) -> Answered
                 slots[i] = ps_after;
                 day = day_after(day, m, answer);
                 contracts[j] = signed_after(m, answer, contracts[j]);
-                written = put_answer(out, written, kind_of(m), answer);
+                written = put_answer(out, written, kind, answer);
             }
         } else {
             let now = Desk {
@@ -214,7 +218,7 @@ pub(crate) fn answer_lines(s: Session, piece: &[u8], out: &mut [u8]) -> Answered
             counts = counts_of(points_after);
             slots = slots_of(points_after);
             quiet = first_due(points_after);
-            written = put_answer(out, written, kind_of(m), answer);
+            written = put_answer(out, written, kind, answer);
         }
     }
     let reg = register_of(set, day, contracts, fields, counts, slots);

@@ -6,17 +6,18 @@ use Rattle.rules.proofs.Computes.{machines}
 use Rattle.questions.specs.Questions.{sumOf}
 use Rattle.questions.specs.ByBook.{periodsIn, bookPeriods, bookAdvance}
 use Rattle.line_text.specs.Decimal.{spell, fixed}
-use Rattle.line_values.specs.Words.{isSame}
-use Rattle.line_values.specs.Numbers.{moreOf, numberOf, fixedOf}
-use Rattle.line_values.specs.Days.{dayIn}
-use Rattle.line_fields.specs.Fields.{fieldOf, fieldsOf, sortsFrom}
-use Rattle.line_kinds.specs.Kinds.{kindIn}
-use Rattle.line_messages.specs.Reading.{wordEnd, readLine}
+use Rattle.line_values.specs.Pinned.Words.{isSame}
+use Rattle.line_values.specs.Pinned.Numbers.{moreOf, numberOf, fixedOf}
+use Rattle.line_values.specs.Pinned.Days.{dayIn}
+use Rattle.line_fields.specs.Pinned.Reading.{fieldOf, fieldsOf}
+use Rattle.line_fields.specs.Between.Shapes.{sortsFrom}
+use Rattle.line_kinds.specs.Pinned.Naming.{kindIn}
+use Rattle.line_messages.specs.Pinned.Reading.{wordEnd, readLine}
 use Rattle.line_answers.specs.Answers.{answerLine, periodLine, totalLine}
 use Rattle.line_listing.specs.Listing.{periodLines, pointLines, listingFrom, listing}
 use Rattle.line_listing.specs.ByBook.{linesOfPeriods, rising, bookListing}
-use Rattle.input_lines.specs.Lines.{linesFrom, linesOf}
-use Rattle.input_lines.specs.Part.{partOf}
+use Rattle.input_lines.specs.Pinned.Lines.{linesFrom, linesOf}
+use Rattle.input_lines.specs.Between.Begun.{begunOf}
 use Rattle.input_lines.specs.Machine.{said, afterLines, transcript}
 use Rattle.register.specs.Opens.{noRegister}
 use Rattle.input_desk.specs.Desk.{answerOf, deskAfter}
@@ -27,7 +28,7 @@ use Rattle.input_whole.specs.Examples.{TranscriptExamples}
 pub transcript-examples : TranscriptExamples
 unfolding leapRow monthLength next dateOf monthStart yearStart dayNumber isReal dayAnswer dateAnswer machines sumOf periodsIn
     bookPeriods bookAdvance spell fixed isSame moreOf numberOf fixedOf dayIn fieldOf fieldsOf sortsFrom kindIn wordEnd readLine answerLine periodLine
-    totalLine periodLines pointLines listingFrom listing linesOfPeriods rising bookListing linesFrom linesOf partOf said afterLines transcript
+    totalLine periodLines pointLines listingFrom listing linesOfPeriods rising bookListing linesFrom linesOf begunOf said afterLines transcript
     noRegister answerOf deskAfter startSession callsIn storyOf bookOutput
 transcript-examples =
     record {

@@ -10,19 +10,21 @@ use lib.Dec.{eqb}
 use lib.ListN.{length, take, drop}
 use lib.Seq.{take-append-seam, take-all, drop-length}
 use Rattle.rules.specs.declared.{Register.Register}
-use Rattle.line_text.specs.Appending.{put}
+use Rattle.line_text.specs.Between.Appending.{put}
 use Rattle.line_listing.specs.declared.{Listed.Listed}
 use Rattle.line_listing.specs.Listing.{listing, listingFrom}
 use Rattle.line_listing.specs.Pinned.Pieces.{piece}
 use Rattle.line_listing.specs.Pinned.Pieces as L
 use Rattle.line_listing.specs.Pinned.Pieces.{left}
 use Rattle.line_listing.proofs.Pieces.{pieces-join}
-use Rattle.input_lines.specs.declared.{Part.Part}
-use Rattle.input_lines.specs.Lines.{fitting, linesOf}
-use Rattle.input_lines.specs.Part.{capped, kept, partOf}
-use Rattle.input_lines.specs.Machine.{said, afterLines, Run, run}
+use Rattle.input_lines.specs.declared.{Begun.Begun}
+use Rattle.input_lines.specs.Between.Feeds.{fitting}
+use Rattle.input_lines.specs.Pinned.Lines.{linesOf}
+use Rattle.input_lines.specs.Between.Begun.{keptBytes, capped, kept, begunOf}
+use Rattle.input_lines.specs.Machine.{said, afterLines}
+use Rattle.input_lines.specs.Pinned.Runs.{Run, run}
 use Rattle.input_lines.proofs.Feeds.{fitting-all, fitting-le, fitting-some}
-use Rattle.input_lines.proofs.Parts.{kept-partOf}
+use Rattle.input_lines.proofs.KeptBytes.{kept-begun}
 use Rattle.input_lines.proofs.Runs.{run-append, run-part-le, run-lines, run-transcript, lastSaid, lastState}
 use Rattle.input_desk.specs.declared.{Desk.Desk}
 use Rattle.input_pieces.specs.declared.{Session.Session, Fed.Fed}
@@ -99,16 +101,16 @@ last-line d (b ∷ l) =
 
 -- ---- the whole input
 
-module _ (s : Session) (l : List ℕ) (is : s .part ≡ partOf l) (short : length l ≤ 97) where
+module _ (s : Session) (l : List ℕ) (is : s .part ≡ begunOf l) (short : length l ≤ keptBytes) where
   kept-is : kept (s .part) ≡ l
-  kept-is = ap kept is ∙ kept-partOf l short
+  kept-is = ap kept is ∙ kept-begun l short
 
   run-is : (input : List ℕ) → runFrom s input ≡ runOf (s .desk) l input
   run-is input = ap (λ (p : List ℕ). runOf (s .desk) p input) kept-is
 
   missing-is : missingFeed s ≡ missing l
-  unfolding partOf
-  missing-is = ap (λ (p : Part). cond (eqb (p .len) 0) [] (10 ∷ [])) is
+  unfolding begunOf
+  missing-is = ap (λ (p : Begun). cond (eqb (p .len) 0) [] (10 ∷ [])) is
 
 -- an input goes on where its first part stopped
 said-append : (d : Desk) (l a rest : List ℕ) →
@@ -128,7 +130,7 @@ pub record Runs (d : Desk) (l input w : List ℕ) (e : Desk) : Type 0 where
   pub desk : e ≡ deskBy d l input
   pub sized : Sized e
 
-through : {s : Session} {input w : List ℕ} {e : Desk} (l : List ℕ) → s .part ≡ partOf l → length l ≤ 97 → Sized (s .desk) →
+through : {s : Session} {input w : List ℕ} {e : Desk} (l : List ℕ) → s .part ≡ begunOf l → length l ≤ keptBytes → Sized (s .desk) →
     Through s input w e → Runs (s .desk) l input w e
 unfolding fedAs
 through {s} l is short sized (fed {piece = c} {rest = rest} {w = w} before after f h next) =
@@ -139,9 +141,9 @@ through {s} l is short sized (fed {piece = c} {rest = rest} {w = w} before after
     ap₂ (λ (k : ℕ) (o : List ℕ). take k o) (ap (λ (y : Fed). y .written) (h .result)) (h .bytes) ∙ put-start (r .out) before
     in
     let desk-is : f .session .desk ≡ r .state = ap (λ (y : Fed). y .session .desk) (h .result) in
-    let part-is : f .session .part ≡ partOf (r .part) = ap (λ (y : Fed). y .session .part) (h .result) in
+    let part-is : f .session .part ≡ begunOf (r .part) = ap (λ (y : Fed). y .session .part) (h .result) in
     let taken-is : take (f .taken) c ≡ a = ap (λ (y : Fed). take (y .taken) c) (h .result) in
-    let part-le : length (r .part) ≤ 97 = ap-le run (run-part-le nextDesk sayLine (s .desk) l a short) in
+    let part-le : length (r .part) ≤ keptBytes = ap-le run (run-part-le nextDesk sayLine (s .desk) l a short) in
     let sized′ : Sized (f .session .desk) = rw (desk-is, run) (run-sized (s .desk) l a sized) in
     let tail = through (r .part) part-is part-le sized′ next in
     record {
@@ -150,7 +152,7 @@ through {s} l is short sized (fed {piece = c} {rest = rest} {w = w} before after
       sized = tail .sized;
     }
   where
-    ap-le : {x y : Run Desk} → x ≡ y → length (y .part) ≤ 97 → length (x .part) ≤ 97
+    ap-le : {x y : Run Desk} → x ≡ y → length (y .part) ≤ keptBytes → length (x .part) ≤ keptBytes
     ap-le e k = rw e k
 through {s} l is short sized (ended before after f h room) =
     let r = fedRun s (missingFeed s) before in
@@ -171,7 +173,7 @@ through {s} l is short sized (ended before after f h room) =
       sized = rw (desk-is, run) (run-sized (s .desk) l (missing l) sized);
     }
 
--- a line says what its first 97 bytes say
+-- a line says what its first bytes, as many as are kept, say
 say-capped : (d : Desk) (l : List ℕ) → sayLine d (capped l) ≡ sayLine d l
 say-capped d l = rw (read-capped l)
 

@@ -10,9 +10,9 @@ use Rattle.rules.specs.Answers.{isAccepted}
 use Rattle.rules.specs.Rejections.{openingAnswer}
 use Rattle.rules.specs.Register.{catchUp, blankPoint, register, pointAt, advanced, says, acted, failedPoint, done, applied, opened}
 use Rattle.line_messages.specs.declared.{Message.Message}
-use Rattle.line_messages.specs.Reading.{readLine}
-use Rattle.input_lines.specs.Part.{capped}
-use Rattle.input_lines.specs.Machine.{behind, run}
+use Rattle.line_messages.specs.Pinned.Reading.{readLine}
+use Rattle.input_lines.specs.Between.Begun.{capped}
+use Rattle.input_lines.specs.Pinned.Runs.{behind, run}
 use Rattle.input_desk.specs.declared.{Desk.Desk}
 use Rattle.input_desk.specs.Desk.{desk, deskAfter}
 use Rattle.input_pieces.specs.Session.{nextDesk, sayLine, runOf}

@@ -16,11 +16,11 @@ use Rattle.agreement.proofs.Run.{run-agrees}
 use Rattle.agreement.proofs.Theorem.{day-book-agrees}
 use Rattle.line_messages.specs.declared.{Message.Message}
 use Rattle.line_messages.specs.Lines.{kindOf}
-use Rattle.line_messages.specs.Reading.{readLine}
+use Rattle.line_messages.specs.Pinned.Reading.{readLine}
 use Rattle.line_answers.specs.Answers.{answerLine}
 use Rattle.questions.proofs.Asking.{asking}
 use Rattle.line_listing.proofs.ByBook.{listing-by-book}
-use Rattle.input_lines.specs.Lines.{linesOf}
+use Rattle.input_lines.specs.Pinned.Lines.{linesOf}
 use Rattle.input_lines.specs.Machine.{said, afterLines, transcript}
 use Rattle.input_desk.specs.declared.{Desk.Desk}
 use Rattle.input_desk.specs.Desk.{desk, answerOf, deskAfter}

@@ -5,8 +5,8 @@ use mathlib.Core.Bool.{false, cond}
 use mathlib.Core.List.{List, [], _∷_}
 use lib.Dec.{eqb}
 use lib.ListN.{length}
-use Rattle.line_text.specs.Appending.{put}
-use Rattle.input_lines.specs.Part.{partOf}
+use Rattle.line_text.specs.Between.Appending.{put}
+use Rattle.input_lines.specs.Between.Begun.{begunOf}
 use Rattle.input_desk.specs.declared.{Desk.Desk}
 use Rattle.input_desk.specs.Desk.{desk}
 use Rattle.register.specs.Opens.{noRegister}
@@ -18,7 +18,7 @@ use Rattle.input_pieces.specs.declared.{Session.Session}
 
 -- Before any input: the register of a desk that is not ready is not looked at.
 unfoldable pub startSession : Session
-startSession = record { desk = desk false noRegister; part = partOf [] }
+startSession = record { desk = desk false noRegister; part = begunOf [] }
 
 -- The line feed that a last line lacks.
 abbrev pub missingFeed : Session → List ℕ

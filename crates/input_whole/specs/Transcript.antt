@@ -15,11 +15,11 @@ use Rattle.agreement.specs.Demand3.{Demand3}
 use Rattle.questions.specs.Asking.{Asked}
 use Rattle.line_messages.specs.declared.{Message.Message}
 use Rattle.line_messages.specs.Lines.{kindOf}
-use Rattle.line_messages.specs.Reading.{readLine}
+use Rattle.line_messages.specs.Pinned.Reading.{readLine}
 use Rattle.line_answers.specs.Answers.{answerLine}
 use Rattle.line_listing.specs.declared.{Listed.Listed}
 use Rattle.line_listing.specs.ByBook.{bookListing}
-use Rattle.input_lines.specs.Lines.{linesOf}
+use Rattle.input_lines.specs.Pinned.Lines.{linesOf}
 use Rattle.input_lines.specs.Machine.{said, afterLines, transcript}
 use Rattle.input_desk.specs.declared.{Desk.Desk}
 use Rattle.input_desk.specs.Desk.{desk, unreadable}

@@ -1,6 +1,6 @@
 // A whole input: before it, and at its end; and what `session` hands on for it, beside the day book (specs/Transcript).
 use input_desk::Desk;
-use input_lines::no_part;
+use input_lines::nothing_begun;
 use input_pieces::Fed;
 use input_pieces::Session;
 use input_pieces::feed;
@@ -22,7 +22,7 @@ pub fn start() -> Session
     };
     Session {
         desk: desk,
-        part: no_part(),
+        part: nothing_begun(),
     }
 }
 

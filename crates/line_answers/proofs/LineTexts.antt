@@ -15,7 +15,7 @@ use Rattle.line_text.proofs.Fixed.{fixed-append, fixed-length}
 use Rattle.line_text.proofs.DayTexts.{day-append, day-length}
 use Rattle.line_kinds.specs.declared.{Kind.Kind}
 use Rattle.line_kinds.specs.Kinds.{word}
-use Rattle.line_kinds.proofs.KindTable.{word-short}
+use Rattle.line_kinds.proofs.KindTable.{sound}
 use Rattle.line_answers.specs.Answers.{shownKind, verdict, dateShown, answerLine, periodLine, totalLine}
 
 -- a number of 64 bits has at most 20 digits
@@ -52,14 +52,9 @@ module _ (k : Kind) (a : Answer) where
       simp length-append at pieces ∙ omega arith
 
 -- the length of an answer line, as the code adds it up
-pub answer-size : (k : Kind) (a : Answer) (n : ℕ) (shown : Kind) (w d : ℕ) → n ≡ number a → shown ≡ shownKind k n →
-    w ≡ length (word shown) → d ≡ length (decimal n []) → length (answerLine k a) ≡ w + d + 13
-answer-size k a n shown w d hn hs hw hd =
-    let kind : shown ≡ shownKind k (number a) = hs ∙ ap (shownKind k) hn in
-    let name : w ≡ length (word (shownKind k (number a))) = hw ∙ ap (λ (x : Kind). length (word x)) kind in
-    let digits : d ≡ length (decimal (number a) []) = hd ∙ ap (λ (x : ℕ). length (decimal x [])) hn in
-    let all = answer-length k a in
-    omega arith
+pub answer-size : (k : Kind) (a : Answer) (n : ℕ) (shown : Kind) (size : ℕ) → n ≡ number a → shown ≡ shownKind k n →
+    size ≡ length (word shown) + length (decimal n []) + 13 → size ≡ length (answerLine k a)
+answer-size k a n shown size hn hs e = rw (answer-length k a, ← hn, ← hs) e
 
 -- a period line, piece by piece
 module _ (p : ℕ) (q : Period) where
@@ -105,7 +100,7 @@ module _ (p v : ℕ) where
 pub answer-short : (k : Kind) (a : Answer) (j : ℕ) → 0 < j → number a < 10 ^ j → length (answerLine k a) ≤ 21 + j
 answer-short k a j p h =
     let all = answer-length k a in
-    let name = word-short (shownKind k (number a)) in
+    let name = sound (shownKind k (number a)) .short in
     let digits = decimal-length j (number a) p h in
     omega arith
 

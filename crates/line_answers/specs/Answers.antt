@@ -33,6 +33,10 @@ sep l = 59 ∷ l
 abbrev pub feed : List ℕ
 feed = 10 ∷ []
 
+-- The most bytes that an answer line has; in the code `LONGEST_ANSWER`.
+abbrev pub longestAnswer : ℕ
+longestAnswer = 24
+
 -- 01: "Answer line: kind; 1 accepted or 0 rejected; number, 0 if accepted; a date".
 unfoldable pub answerLine : Kind → Answer → List ℕ
 answerLine k a =

@@ -1,7 +1,8 @@
 // The lines that are written: answers, and the closing lines with periods and totals. Each ends with a line feed.
+use dates::LAST_DAY;
 use line_kinds::Kind;
-use line_kinds::words::put_kind;
-use line_kinds::words::word_of;
+use line_kinds::put_kind;
+use line_kinds::row_of;
 use line_text::write::digit_count;
 use line_text::write::put_byte;
 use line_text::write::put_day;
@@ -10,14 +11,21 @@ use line_text::write::put_word;
 use rules::Answer;
 use rules::Period;
 ghost use mathlib.Core.Path.{_≡_};
+ghost use Prim.Native.Nat.{_+_};
 ghost use mathlib.Core.List.{[], _∷_};
-ghost use Rattle.line_text.specs.Appending.{Appended};
+ghost use lib.ListN.{length};
+ghost use Rattle.line_text.specs.Between.Appending.{Appended};
+ghost use Rattle.line_text.specs.Decimal.{decimal};
 ghost use Rattle.line_text.specs.Days.{dayText};
+ghost use Rattle.line_kinds.specs.Kinds.{word as Kinds·word};
 ghost use Rattle.rules.specs.Answers.{isAccepted, number, date};
 ghost use Rattle.line_answers.specs.Answers.{shownKind, verdict, dateShown, answerLine, periodLine, totalLine};
 
 // The first day past the calendar.
-const NO_DAY: u64 = 73049;
+const NO_DAY: u64 = LAST_DAY as u64 + 1;
+
+// The most bytes that an answer line has.
+pub const LONGEST_ANSWER: usize = 24;
 
 // The answer to a line of a kind.
 pub fn put_answer(out: &mut [u8], at: usize, kind: Kind, answer: Answer) -> usize
@@ -25,8 +33,7 @@ pub fn put_answer(out: &mut [u8], at: usize, kind: Kind, answer: Answer) -> usiz
 {
     let n = number_of(answer);
     let shown = shown_kind(kind, n);
-    let name = word_of(shown);
-    let size = name.len + digit_count(n as u64) + 13;
+    let size = answer_size(shown, n);
     if out.len() < at {
         return at;
     }
@@ -48,7 +55,7 @@ pub fn put_period(out: &mut [u8], at: usize, point: u64, period: Period) -> usiz
     let start = period.start as u64;
     let holder = period.holder as u64;
     let volume = period.volume;
-    let size = digit_count(point) + digit_count(holder) + digit_count(volume) + 12;
+    let size = period_size(point, period);
     if out.len() < at {
         return at;
     }
@@ -69,7 +76,7 @@ pub fn put_period(out: &mut [u8], at: usize, point: u64, period: Period) -> usiz
 pub fn put_total(out: &mut [u8], at: usize, point: u64, advance: u64) -> usize
     ensures { λ r. ⌜ Appended at (totalLine point advance) (now (out .entry)) (now (out .exit)) r ⌝ }
 {
-    let size = digit_count(point) + digit_count(advance) + 8;
+    let size = total_size(point, advance);
     if out.len() < at {
         return at;
     }
@@ -81,6 +88,28 @@ pub fn put_total(out: &mut [u8], at: usize, point: u64, advance: u64) -> usize
     let advance_at = put_byte(out, point_end, b';');
     let advance_end = put_number(out, advance_at, advance);
     put_byte(out, advance_end, b'\n')
+}
+
+// The lengths of the lines; that of an answer's by the kind and the number that it shows.
+fn answer_size(shown: Kind, n: u8) -> usize
+    ensures { λ r. ⌜ r ≡ length (Kinds·word shown) + length (decimal n []) + 13 ⌝ }
+{
+    let row = row_of(shown);
+    let word = row.word;
+    word.len + digit_count(n as u64) + 13
+}
+
+fn period_size(point: u64, period: Period) -> usize
+    ensures { λ r. ⌜ r ≡ length (periodLine point period) ⌝ }
+{
+    let holder = period.holder as u64;
+    digit_count(point) + digit_count(holder) + digit_count(period.volume) + 12
+}
+
+fn total_size(point: u64, advance: u64) -> usize
+    ensures { λ r. ⌜ r ≡ length (totalLine point advance) ⌝ }
+{
+    digit_count(point) + digit_count(advance) + 8
 }
 
 // The number of an answer, 0 if accepted.

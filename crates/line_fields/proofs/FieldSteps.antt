@@ -1,4 +1,4 @@
--- One field at a position, and one turn of reading a row of fields: what is left to read, and the place that its value
+-- One field at a position, and one turn of reading fields: what is left to read, and the place that its value
 -- takes.
 use Prim.Native.Nat.{ℕ, zero, suc, _+_, _-_, _<_, _≤_}
 use mathlib.Core.Path.{_≡_, refl, sym, ap, _∙_}
@@ -10,8 +10,9 @@ use lib.ListN.{length, take, drop, set, getD, replicate, drop-of-length-le}
 use lib.Seq.{drop-cons, drop-set-lt, take-suc-set}
 use borrow.Author.Tests.{le-leb, lt-leb, eq-eqb, ne-eqb}
 use Rattle.line_fields.specs.declared.{Sort.Sort, Shape.Shape, KnownDate.KnownDate}
-use Rattle.line_fields.specs.Fields.{fieldsOf, sortAt, sortsFrom, sortsOf, fieldsIn}
-use Rattle.line_fields.specs.With.{value, none, valueWith, fieldWith, rowRead, fieldsWith, rowWith}
+use Rattle.line_fields.specs.Pinned.Reading.{fieldsOf, fieldsIn}
+use Rattle.line_fields.specs.Between.Shapes.{sortAt, sortsFrom, sortsOf}
+use Rattle.line_fields.specs.Between.With.{value, none, valueWith, fieldWith, withAll, fieldsWith, fieldsInWith}
 
 -- one field: at the line's end, at another byte, and at its `;`
 pub field-end : (i : ℕ) (s : List ℕ) → length s ≤ i → (k : KnownDate) (t : Sort) → fieldWith k t (drop i s) ≡ none
@@ -46,7 +47,7 @@ sorts-none second n i h = let e : n - i ≡ 0 = omega arith in rw e
 
 module _ (k : KnownDate) (second n i : ℕ) (h : i < n) (acc l : List ℕ) where
   pub fields-bad : fieldWith k (sortAt second i) l ≡ none →
-      fieldsWith k (sortsFrom second i (n - i)) acc l ≡ rowRead false acc l k
+      fieldsWith k (sortsFrom second i (n - i)) acc l ≡ withAll false acc l k
   unfolding fieldsWith
   fields-bad e = rw (sorts-next second n i h, e)
 
@@ -57,7 +58,7 @@ module _ (k : KnownDate) (second n i : ℕ) (h : i < n) (acc l : List ℕ) where
   fields-on v r d e = rw (sorts-next second n i h, e)
 
 pub fields-done : (k : KnownDate) (second n i : ℕ) (acc l : List ℕ) → n ≤ i →
-    fieldsWith k (sortsFrom second i (n - i)) acc l ≡ rowRead true acc l k
+    fieldsWith k (sortsFrom second i (n - i)) acc l ≡ withAll true acc l k
 unfolding fieldsWith
 fields-done k second n i acc l h = rw (sorts-none second n i h)
 
@@ -75,13 +76,13 @@ zeros-left vs i v h n e =
 
 -- the result
 module _ (k : KnownDate) (s : Shape) (l : List ℕ) where
-  pub too-many : 7 < s .count → rowWith k s l ≡ rowRead false [] l k
-  unfolding rowWith
+  pub too-many : 7 < s .count → fieldsInWith k s l ≡ withAll false [] l k
+  unfolding fieldsInWith
   too-many h = rw (lt-leb (s .count) 7 h)
 
-  pub row-is : s .count ≤ 7 → rowWith k s l ≡ fieldsWith k (sortsOf s) [] l
-  unfolding rowWith
-  row-is h = rw (le-leb (s .count) 7 h)
+  pub fields-in-is : s .count ≤ 7 → fieldsInWith k s l ≡ fieldsWith k (sortsOf s) [] l
+  unfolding fieldsInWith
+  fields-in-is h = rw (le-leb (s .count) 7 h)
 
 pub fields-are : (s : Shape) (l : List ℕ) → s .count ≤ 7 → fieldsIn s l ≡ fieldsOf (sortsOf s) [] l
 unfolding fieldsIn

@@ -1,29 +1,33 @@
--- Reading the fields of a row and writing them are inverse, and a row's text is short.
-use Prim.Native.Nat.{ℕ, suc, _+_, _≤_, _^_}
+-- Reading the fields and writing them are inverse, and their text is short.
+use Prim.Native.Nat.{ℕ, zero, suc, _+_, _≤_, _^_}
 use mathlib.Core.Path.{_≡_, refl, sym, ap, _∙_}
 use mathlib.Core.Bool.{Bool, true, false, cond}
 use mathlib.Core.List.{List, [], _∷_, _++_, append-assoc, append-nil}
 use native.Mathlib.Omega.{arith}
 use lib.Dec.{eqb}
-use lib.ListN.{length, length-append}
+use lib.ListN.{length, getD, replicate, length-append}
+use lib.Seq.{getD-append-seam}
 use borrow.Author.Tests.{eqb-true, leb-true, ltb-true, le-leb, lt-ltb}
 use Rattle.dates.specs.Dates.{lastDay}
 use Rattle.dates.proofs.Every.{and-left, and-right}
 use Rattle.line_text.proofs.DayTexts.{day-append, day-length}
 use Rattle.line_text.proofs.Spelling.{decimal-append, decimal-length}
-use Rattle.line_values.specs.Numbers.{Read, number, bad}
+use Rattle.line_values.specs.Pinned.Numbers.{Parsed, number, bad}
 use Rattle.line_values.specs.OneText.{Stops}
 use Rattle.line_values.proofs.Numbers.{number-back, number-only}
 use Rattle.line_values.proofs.Days.{day-back, day-only}
 use Rattle.line_fields.specs.declared.{Sort.Sort}
-use Rattle.line_fields.specs.Fields.{fieldText, fits, fieldsText, fitAll, valueOf, fieldOf, values, andThen, fieldsOf}
+use Rattle.line_fields.specs.Fields.{Field, field, fieldText, fits, fieldsText, fitAll}
+use Rattle.line_fields.specs.Pinned.Reading.{valueOf, fieldOf, values, andThen, fieldsOf}
+use Rattle.line_fields.specs.Between.Shapes.{sortAt, sortsFrom, fieldsFrom, sortsIn, valuesIn}
 
 -- a field is followed by a `;` or by nothing
-fields-stop : (ks : List Sort) (ns : List ℕ) → Stops (fieldsText ks ns)
-fields-stop [] ns = tt
-fields-stop (k ∷ ks) [] = tt
-fields-stop (Sort.Date ∷ ks) (n ∷ ns) = refl
-fields-stop (Sort.Number ∷ ks) (n ∷ ns) = refl
+fields-stop : (fs : List Field) → Stops (fieldsText fs)
+fields-stop [] = tt
+fields-stop (f ∷ fs) = go (f .sort) where
+  go : (k : Sort) → Stops (fieldText k (f .value) (fieldsText fs))
+  go Sort.Date = refl
+  go Sort.Number = refl
 
 -- one field, written and read
 field-back : (k : Sort) (n : ℕ) (l : List ℕ) → fits k n ≡ true → Stops l → fieldOf k (fieldText k n l) ≡ number n l
@@ -46,16 +50,15 @@ field-only k n (c ∷ l) r e = go (eqb c 59) refl e where
   go false p f = absurd (let z : _≡_ {A = ℕ} 0 1 = cc in omega arith)
 
 -- all fields, written and read
-pub fields-back : (ks : List Sort) (acc ns : List ℕ) → fitAll ks ns ≡ true →
-    fieldsOf ks acc (fieldsText ks ns) ≡ values (acc ++ ns) []
+pub fields-back : (fs : List Field) (acc : List ℕ) → fitAll fs ≡ true →
+    fieldsOf (sortsIn fs) acc (fieldsText fs) ≡ values (acc ++ valuesIn fs) []
 unfolding fieldsOf fitAll
-fields-back [] acc [] h = rw append-nil
-fields-back [] acc (n ∷ ns) h = absurd (let z : _≡_ {A = ℕ} 0 1 = cc in omega arith)
-fields-back (k ∷ ks) acc [] h = absurd (let z : _≡_ {A = ℕ} 0 1 = cc in omega arith)
-fields-back (k ∷ ks) acc (n ∷ ns) h =
-    rw (field-back k n (fieldsText ks ns) (and-left (fits k n) (fitAll ks ns) h) (fields-stop ks ns))
-    (fields-back ks (acc ++ (n ∷ [])) ns (and-right (fits k n) (fitAll ks ns) h) ∙
-    ap (λ (vs : List ℕ). values vs []) (append-assoc acc (n ∷ []) ns))
+fields-back [] acc h = rw append-nil
+fields-back (f ∷ fs) acc h =
+    let fit = and-left (fits (f .sort) (f .value)) (fitAll fs) h in
+    rw (field-back (f .sort) (f .value) (fieldsText fs) fit (fields-stop fs))
+    (fields-back fs (acc ++ (f .value ∷ [])) (and-right (fits (f .sort) (f .value)) (fitAll fs) h) ∙
+    ap (λ (vs : List ℕ). values vs []) (append-assoc acc (f .value ∷ []) (valuesIn fs)))
 
 -- what stands behind a field does not change it
 pub field-append : (k : Sort) (n : ℕ) (l : List ℕ) → fieldText k n l ≡ fieldText k n [] ++ l
@@ -67,39 +70,68 @@ field-before k n l m =
     field-append k n (l ++ m) ∙ sym (append-assoc (fieldText k n []) l m) ∙
     ap (λ (x : List ℕ). x ++ m) (sym (field-append k n l))
 
--- all fields, read: their text, and what follows it
+-- all fields, read: they, and what follows their text
 pub record FieldsAre (ks : List Sort) (l r acc vs : List ℕ) : Type 0 where
-  pub ns : List ℕ
-  pub all : vs ≡ acc ++ ns
-  pub text : l ≡ fieldsText ks ns ++ r
-  pub fit : fitAll ks ns ≡ true
+  pub fields : List Field
+  pub sorts : sortsIn fields ≡ ks
+  pub all : vs ≡ acc ++ valuesIn fields
+  pub text : l ≡ fieldsText fields ++ r
+  pub fit : fitAll fields ≡ true
 
 pub fields-only : (ks : List Sort) (acc l vs r : List ℕ) → fieldsOf ks acc l ≡ values vs r → FieldsAre ks l r acc vs
 unfolding fieldsOf fitAll
 fields-only [] acc l vs r e =
-    record { ns = []; all = let q : acc ≡ vs = cc in sym q ∙ sym (append-nil acc); text = cc; fit = refl }
+    let q : acc ≡ vs = cc in
+    record { fields = []; sorts = refl; all = sym q ∙ sym (append-nil acc); text = cc; fit = refl }
 fields-only (k ∷ ks) acc l vs r e = go (λ n x. fields-only ks (acc ++ (n ∷ [])) x vs r) (fieldOf k l) refl e where
   go : ((n : ℕ) (x : List ℕ) → fieldsOf ks (acc ++ (n ∷ [])) x ≡ values vs r → FieldsAre ks x r (acc ++ (n ∷ [])) vs) →
-      (x : Read) → fieldOf k l ≡ x → andThen x (λ n x. fieldsOf ks (acc ++ (n ∷ [])) x) ≡ values vs r →
+      (x : Parsed) → fieldOf k l ≡ x → andThen x (λ n x. fieldsOf ks (acc ++ (n ∷ [])) x) ≡ values vs r →
       FieldsAre (k ∷ ks) l r acc vs
   go ih bad p e = absurd (let z : _≡_ {A = ℕ} 0 1 = cc in omega arith)
   go ih (number n x) p e =
       let f = field-only k n l x p in
       let w = ih n x e in
       record {
-        ns = n ∷ w .ns;
-        all = w .all ∙ append-assoc acc (n ∷ []) (w .ns);
-        text = f .0 ∙ ap (fieldText k n) (w .text) ∙ field-before k n (fieldsText ks (w .ns)) r;
+        fields = field k n ∷ w .fields;
+        sorts = ap (_∷_ k) (w .sorts);
+        all = w .all ∙ append-assoc acc (n ∷ []) (valuesIn (w .fields));
+        text = f .0 ∙ ap (fieldText k n) (w .text) ∙ field-before k n (fieldsText (w .fields)) r;
         fit = rw (f .1, w .fit);
       }
 
--- how many values there are
-pub fit-count : (ks : List Sort) (ns : List ℕ) → fitAll ks ns ≡ true → length ns ≡ length ks
-unfolding fitAll
-fit-count [] [] h = refl
-fit-count [] (n ∷ ns) h = absurd (let z : _≡_ {A = ℕ} 0 1 = cc in omega arith)
-fit-count (k ∷ ks) [] h = absurd (let z : _≡_ {A = ℕ} 0 1 = cc in omega arith)
-fit-count (k ∷ ks) (n ∷ ns) h = ap suc (fit-count ks ns (and-right (fits k n) (fitAll ks ns) h))
+-- the fields of a shape with these values: their sorts, and from the values back
+pub sorts-as : (second i n : ℕ) (vs : List ℕ) → sortsIn (fieldsFrom second i n vs) ≡ sortsFrom second i n
+unfolding fieldsFrom sortsFrom
+sorts-as second i zero vs = refl
+sorts-as second i (suc n) vs = ap (_∷_ (sortAt second i)) (sorts-as second (suc i) n vs)
+
+pub fields-of-values : (second n : ℕ) (fs : List Field) (acc : List ℕ) → sortsIn fs ≡ sortsFrom second (length acc) n →
+    fieldsFrom second (length acc) n (acc ++ valuesIn fs) ≡ fs
+unfolding fieldsFrom sortsFrom
+fields-of-values second zero [] acc e = refl
+fields-of-values second zero (f ∷ fs) acc e = absurd (let z : _≡_ {A = ℕ} 0 1 = cc in omega arith)
+fields-of-values second (suc n) [] acc e = absurd (let z : _≡_ {A = ℕ} 0 1 = cc in omega arith)
+fields-of-values second (suc n) (f ∷ fs) acc e =
+    let here : f .sort ≡ sortAt second (length acc) = cc in
+    let rest : sortsIn fs ≡ sortsFrom second (suc (length acc)) n = cc in
+    let long : length (acc ++ (f .value ∷ [])) ≡ suc (length acc) = length-append acc (f .value ∷ []) ∙ omega arith in
+    let ih = fields-of-values second n fs (acc ++ (f .value ∷ [])) (rest ∙ ap (λ (i : ℕ). sortsFrom second i n) (sym long)) in
+    rw (getD-append-seam acc (f .value) (valuesIn fs) 0, ← here)
+    (ap (_∷_ f) (rw (long, append-assoc) at ih))
+
+-- values with zeros behind them
+pub getD-zeros : (vs : List ℕ) (n i : ℕ) → getD (vs ++ replicate n 0) i 0 ≡ getD vs i 0
+getD-zeros [] zero i = refl
+getD-zeros [] (suc n) zero = refl
+getD-zeros [] (suc n) (suc i) = getD-zeros [] n i
+getD-zeros (v ∷ vs) n zero = refl
+getD-zeros (v ∷ vs) n (suc i) = getD-zeros vs n i
+
+pub fields-zeros : (second i n : ℕ) (vs : List ℕ) (k : ℕ) →
+    fieldsFrom second i n (vs ++ replicate k 0) ≡ fieldsFrom second i n vs
+unfolding fieldsFrom
+fields-zeros second i zero vs k = refl
+fields-zeros second i (suc n) vs k = rw (getD-zeros vs k i, fields-zeros second (suc i) n vs k)
 
 -- a field has at most nine bytes, or 13
 abbrev pub width : Sort → ℕ
@@ -114,12 +146,12 @@ pub field-short : (k : Sort) (n : ℕ) → fits k n ≡ true → length (fieldTe
 field-short Sort.Date n h = let e = day-length n in omega arith
 field-short Sort.Number n h = let e = decimal-length 12 n (omega arith) (ltb-true n (10 ^ 12) h) in omega arith
 
-pub fields-short : (ks : List Sort) (ns : List ℕ) → fitAll ks ns ≡ true → length (fieldsText ks ns) ≤ widths ks
+pub fields-short : (fs : List Field) → fitAll fs ≡ true → length (fieldsText fs) ≤ widths (sortsIn fs)
 unfolding fitAll
-fields-short [] ns h = omega arith
-fields-short (k ∷ ks) [] h = absurd (let z : _≡_ {A = ℕ} 0 1 = cc in omega arith)
-fields-short (k ∷ ks) (n ∷ ns) h =
-    let first = field-short k n (and-left (fits k n) (fitAll ks ns) h) in
-    let rest = fields-short ks ns (and-right (fits k n) (fitAll ks ns) h) in
-    let sum = ap length (field-append k n (fieldsText ks ns)) ∙ length-append (fieldText k n []) (fieldsText ks ns) in
+fields-short [] h = omega arith
+fields-short (f ∷ fs) h =
+    let first = field-short (f .sort) (f .value) (and-left (fits (f .sort) (f .value)) (fitAll fs) h) in
+    let rest = fields-short fs (and-right (fits (f .sort) (f .value)) (fitAll fs) h) in
+    let sum = ap length (field-append (f .sort) (f .value) (fieldsText fs)) ∙
+    length-append (fieldText (f .sort) (f .value) []) (fieldsText fs) in
     omega arith

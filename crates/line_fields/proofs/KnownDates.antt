@@ -13,14 +13,14 @@ use Rattle.dates.specs.Numbers.{dateAnswer}
 use Rattle.line_text.specs.Decimal.{fixed}
 use Rattle.line_text.specs.Days.{answerText, dayText}
 use Rattle.line_text.proofs.DayTexts.{day-append, day-length}
-use Rattle.line_values.specs.Words.{isSame}
-use Rattle.line_values.specs.Numbers.{Read, number, bad}
-use Rattle.line_values.specs.Days.{dayIn}
+use Rattle.line_values.specs.Pinned.Words.{isSame}
+use Rattle.line_values.specs.Pinned.Numbers.{Parsed, number, bad}
+use Rattle.line_values.specs.Pinned.Days.{dayIn}
 use Rattle.line_values.proofs.Days.{day-back, day-only}
 use Rattle.line_values.proofs.Steps.{other-length, same-words, same-self}
 use Rattle.line_fields.specs.declared.{KnownDate.KnownDate}
-use Rattle.line_fields.specs.Known.{packed, unpacked, knownText, firstKnown, IsKnown}
-use Rattle.line_fields.specs.With.{value, none, dateRead, dateWith}
+use Rattle.line_fields.specs.Between.Known.{packed, unpacked, knownText, firstKnown, IsKnown}
+use Rattle.line_fields.specs.Between.With.{value, none, dateRead, dateWith}
 
 -- each is a byte
 abbrev pub AreBytes : List ℕ → Type 0
@@ -95,7 +95,7 @@ first-right = record { inside = omega arith; text = refl }
 -- a text of fewer than eight bytes begins with no date
 day-short : (l : List ℕ) → length l < 8 → dayIn l ≡ bad
 day-short l h = go (dayIn l) refl where
-  go : (x : Read) → dayIn l ≡ x → dayIn l ≡ bad
+  go : (x : Parsed) → dayIn l ≡ x → dayIn l ≡ bad
   go bad e = e
   go (number n r) e =
       let long = ap length (day-only n l r e .0 ∙ day-append n r) ∙ length-append (dayText n []) r in

@@ -3,4 +3,4 @@ pub mod FieldSteps
 pub mod KnownDates
 pub mod Handed
 pub mod KnownStays
-pub mod RowsRead
+pub mod FieldsRead

@@ -1,4 +1,3 @@
-pub mod Known
 pub mod Fields
-pub mod With
-pub mod KnownStays
+pub mod Pinned
+pub mod Between

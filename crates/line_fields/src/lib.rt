@@ -1,14 +1,14 @@
 // The fields of a line behind its kind, and reading them. A position is an index of the line; a field is read from its
 // `;` on.
-use line_values::Field;
+use line_values::Found;
 use line_values::date_at;
 use line_values::number_at;
 ghost use mathlib.Core.Path.{_≡_};
 ghost use Prim.Native.Nat.{_+_, _≤_, _<_};
 ghost use lib.ListN.{length, take, drop};
-ghost use Rattle.line_fields.specs.Known.{packed, firstKnown};
-ghost use Rattle.line_fields.specs.Fields.{sortAt};
-ghost use Rattle.line_fields.specs.With.{numberWith, dateWith, fieldWith, stepAt, ReadRow};
+ghost use Rattle.line_fields.specs.Between.Known.{packed, firstKnown};
+ghost use Rattle.line_fields.specs.Between.Shapes.{sortAt};
+ghost use Rattle.line_fields.specs.Between.With.{numberWith, dateWith, fieldWith, foundWith, ReadsFields};
 
 // What a field holds: a date, whose value is its day, or a number.
 pub enum Sort {
@@ -16,7 +16,11 @@ pub enum Sort {
     Number,
 }
 
-// The fields of a line behind its kind: how many, at most 7. The first is a date, and so is the one at second.
+// The most fields that a line has.
+pub const MOST_FIELDS: usize = 7;
+
+// The fields of a line behind its kind: how many, at most MOST_FIELDS. The first is a date, and so is the one at
+// second.
 pub struct Shape {
     pub count: usize,
     pub second: usize,
@@ -29,14 +33,14 @@ pub struct KnownDate {
 }
 
 // Whether a line has all the fields of a shape, the position behind them, and the last date read.
-pub struct Row {
+pub struct LineFields {
     pub ok: bool,
     pub end: usize,
     pub known: KnownDate,
 }
 
 // A field's value, the position behind it and the last date read, or no such field.
-pub enum Step {
+pub enum FieldFound {
     On(u64, usize, KnownDate),
     Bad,
 }
@@ -53,32 +57,32 @@ pub fn first_known() -> KnownDate
 
 // The values of the fields of a shape that stand from a position on. Lines give the same date again and again:
 // one whose bytes are those of the last one read is not read anew.
-pub fn read_row(
+pub fn read_fields(
     line: &[u8],
     from: usize,
     shape: Shape,
     last: KnownDate,
-    values: &mut [u64; 7],
-) -> Row
-    ensures { λ r. ⌜ ReadRow last shape from (now (line .entry)) (now (values .entry)) (now (values .exit)) r ⌝ }
+    values: &mut [u64; MOST_FIELDS],
+) -> LineFields
+    ensures { λ r. ⌜ ReadsFields last shape from (now (line .entry)) (now (values .exit)) r ⌝ }
 {
     let count = shape.count;
     let second = shape.second;
     let mut known = last;
     let mut at = from;
-    if 7 < count {
-        return Row {
+    *values = [0; MOST_FIELDS];
+    if MOST_FIELDS < count {
+        return LineFields {
             ok: false,
             end: at,
             known,
         };
     }
-    *values = [0; 7];
     let mut i: usize = 0;
     while i < count {
         let sort = sort_at(second, i);
-        let Step::On(v, next, date) = field_at(line, at, sort, known) else {
-            return Row {
+        let FieldFound::On(v, next, date) = field_at(line, at, sort, known) else {
+            return LineFields {
                 ok: false,
                 end: at,
                 known,
@@ -89,7 +93,7 @@ pub fn read_row(
         known = date;
         i += 1;
     }
-    Row {
+    LineFields {
         ok: true,
         end: at,
         known,
@@ -110,14 +114,14 @@ pub fn sort_at(second: usize, i: usize) -> Sort
 }
 
 // A `;` and then a date or a number.
-fn field_at(s: &[u8], at: usize, sort: Sort, known: KnownDate) -> Step
-    ensures { λ r. ⌜ r ≡ stepAt at (drop at (now (s .entry))) (fieldWith known sort (drop at (now (s .entry)))) ⌝ }
+fn field_at(s: &[u8], at: usize, sort: Sort, known: KnownDate) -> FieldFound
+    ensures { λ r. ⌜ r ≡ foundWith at (drop at (now (s .entry))) (fieldWith known sort (drop at (now (s .entry)))) ⌝ }
 {
     if s.len() <= at {
-        return Step::Bad;
+        return FieldFound::Bad;
     }
     if s[at] != b';' {
-        return Step::Bad;
+        return FieldFound::Bad;
     }
     match sort {
         Sort::Date => known_date_at(s, at + 1, known),
@@ -126,33 +130,33 @@ fn field_at(s: &[u8], at: usize, sort: Sort, known: KnownDate) -> Step
 }
 
 // A number; the known date stays.
-fn known_number_at(s: &[u8], at: usize, known: KnownDate) -> Step
-    ensures { λ r. ⌜ r ≡ stepAt at (drop at (now (s .entry))) (numberWith known (drop at (now (s .entry)))) ⌝ }
+fn known_number_at(s: &[u8], at: usize, known: KnownDate) -> FieldFound
+    ensures { λ r. ⌜ r ≡ foundWith at (drop at (now (s .entry))) (numberWith known (drop at (now (s .entry)))) ⌝ }
 {
-    let Field::Value(v, end) = number_at(s, at) else {
-        return Step::Bad;
+    let Found::Value(v, end) = number_at(s, at) else {
+        return FieldFound::Bad;
     };
-    Step::On(v, end, known)
+    FieldFound::On(v, end, known)
 }
 
 // A date: the known one where the bytes are its, else one that is read and known from now on.
-fn known_date_at(s: &[u8], at: usize, known: KnownDate) -> Step
-    ensures { λ r. ⌜ r ≡ stepAt at (drop at (now (s .entry))) (dateWith known (drop at (now (s .entry)))) ⌝ }
+fn known_date_at(s: &[u8], at: usize, known: KnownDate) -> FieldFound
+    ensures { λ r. ⌜ r ≡ foundWith at (drop at (now (s .entry))) (dateWith known (drop at (now (s .entry)))) ⌝ }
 {
     if s.len() < at {
-        return Step::Bad;
+        return FieldFound::Bad;
     }
     if s.len() - at < 8 {
-        return Step::Bad;
+        return FieldFound::Bad;
     }
     let bytes = four_at(s, at) + 4_294_967_296 * four_at(s, at + 4);
     if bytes == known.bytes {
-        return Step::On(known.day, at + 8, known);
+        return FieldFound::On(known.day, at + 8, known);
     }
-    let Field::Value(day, end) = date_at(s, at) else {
-        return Step::Bad;
+    let Found::Value(day, end) = date_at(s, at) else {
+        return FieldFound::Bad;
     };
-    Step::On(day, end, KnownDate { bytes, day })
+    FieldFound::On(day, end, KnownDate { bytes, day })
 }
 
 // Four bytes as one number, the first the lowest.

@@ -1,7 +1,7 @@
 -- The examples of kinds, each by computing.
 use mathlib.Core.Path.{refl}
-use Rattle.line_values.specs.Words.{isSame}
-use Rattle.line_kinds.specs.Kinds.{kindIn}
+use Rattle.line_values.specs.Pinned.Words.{isSame}
+use Rattle.line_kinds.specs.Pinned.Naming.{kindIn}
 use Rattle.line_kinds.specs.Examples.{KindExamples}
 
 pub kind-examples : KindExamples

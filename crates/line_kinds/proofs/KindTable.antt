@@ -1,54 +1,51 @@
--- The words as the code holds them, and how many fields a kind has, kind by kind.
-use Prim.Native.Nat.{_≤_}
-use mathlib.Core.Path.{_≡_, refl}
+-- The table of kinds, kind by kind.
+use Prim.Native.Nat.{ℕ, _+_, _≤_}
+use mathlib.Core.Path.{_≡_, refl, sym}
+use mathlib.Core.Bool.{Bool, true, not, _&&_}
+use mathlib.Core.List.{List, [], _∷_}
+use lib.Dec.{eqb, lit≤}
+use lib.ListN.{length}
+use lib.Seq.{length-take-le}
 use native.Mathlib.Omega.{arith}
-use lib.Dec.{lit≤}
-use lib.ListN.{length, take}
-use Rattle.line_kinds.specs.declared.{Kind.Kind, Word.Word}
-use Rattle.line_kinds.specs.Kinds.{word, paddedWord, shapeOf}
+use Rattle.line_values.specs.Pinned.Words.{isSame}
+use Rattle.line_fields.specs.Between.Shapes.{mostFields, sortsFrom, sortsOf}
+use Rattle.line_fields.proofs.FieldTexts.{widths}
+use Rattle.line_kinds.specs.declared.{Kind.Kind, KindRow.KindRow}
+use Rattle.line_kinds.specs.Kinds.{rowOf, word, shapeOf}
+use Rattle.line_kinds.specs.Pinned.Naming.{kindIn, kindNamed}
 
--- a kind has at most seven fields
-pub few : (k : Kind) → shapeOf k .count ≤ 7
-few Kind.Set = lit≤ tt
-few Kind.Ctr = lit≤ tt
-few Kind.Def = lit≤ tt
-few Kind.Enr = lit≤ tt
-few Kind.Demmespc = lit≤ tt
-few Kind.I = lit≤ tt
-few Kind.Demcf = lit≤ tt
-few Kind.Adc = lit≤ tt
-few Kind.Ri = lit≤ tt
-few Kind.Cdt = lit≤ tt
-few Kind.Demmhs = lit≤ tt
-few Kind.Sus = lit≤ tt
-few Kind.Jour = lit≤ tt
-few Kind.Unknown = lit≤ tt
+-- a byte that does not stand in a text
+abbrev pub lacks : ℕ → List ℕ → Bool
+lacks b [] = true
+lacks b (c ∷ l) = not (eqb c b) && lacks b l
 
--- the word that the code holds is the kind's
-pub record Padded (k : Kind) (w : Word) : Type 0 where
-  pub word-is : take (w .len) (w .bytes) ≡ word k
-  pub inside : w .len ≤ length (w .bytes)
-  pub long : w .len ≡ length (word k)
-  pub short : w .len ≤ 8
+-- What holds of a kind's row: its word names it and has no `;` and no line feed; its sizes, for any fields that fit.
+pub record Sound (k : Kind) : Type 0 where
+  pub named : kindNamed (word k) ≡ k
+  pub one-word : lacks 59 (word k) ≡ true
+  pub in-line : lacks 10 (word k) ≡ true
+  pub few : shapeOf k .count ≤ mostFields
+  pub inside : rowOf k .word .len ≤ length (rowOf k .word .bytes)
+  pub short : length (word k) ≤ 8
+  pub small : length (word k) + widths (sortsOf (shapeOf k)) ≤ 90
 
-padded-is : (k : Kind) → Padded k (paddedWord k)
-padded-is Kind.Set = record { word-is = refl; inside = lit≤ tt; long = refl; short = lit≤ tt }
-padded-is Kind.Ctr = record { word-is = refl; inside = lit≤ tt; long = refl; short = lit≤ tt }
-padded-is Kind.Def = record { word-is = refl; inside = lit≤ tt; long = refl; short = lit≤ tt }
-padded-is Kind.Enr = record { word-is = refl; inside = lit≤ tt; long = refl; short = lit≤ tt }
-padded-is Kind.Demmespc = record { word-is = refl; inside = lit≤ tt; long = refl; short = lit≤ tt }
-padded-is Kind.I = record { word-is = refl; inside = lit≤ tt; long = refl; short = lit≤ tt }
-padded-is Kind.Demcf = record { word-is = refl; inside = lit≤ tt; long = refl; short = lit≤ tt }
-padded-is Kind.Adc = record { word-is = refl; inside = lit≤ tt; long = refl; short = lit≤ tt }
-padded-is Kind.Ri = record { word-is = refl; inside = lit≤ tt; long = refl; short = lit≤ tt }
-padded-is Kind.Cdt = record { word-is = refl; inside = lit≤ tt; long = refl; short = lit≤ tt }
-padded-is Kind.Demmhs = record { word-is = refl; inside = lit≤ tt; long = refl; short = lit≤ tt }
-padded-is Kind.Sus = record { word-is = refl; inside = lit≤ tt; long = refl; short = lit≤ tt }
-padded-is Kind.Jour = record { word-is = refl; inside = lit≤ tt; long = refl; short = lit≤ tt }
-padded-is Kind.Unknown = record { word-is = refl; inside = lit≤ tt; long = refl; short = lit≤ tt }
+pub sound : (k : Kind) → Sound k
+unfolding sortsFrom kindIn isSame
+sound Kind.Set = record { named = refl; one-word = refl; in-line = refl; few = lit≤ tt; inside = lit≤ tt; short = lit≤ tt; small = lit≤ tt }
+sound Kind.Ctr = record { named = refl; one-word = refl; in-line = refl; few = lit≤ tt; inside = lit≤ tt; short = lit≤ tt; small = lit≤ tt }
+sound Kind.Def = record { named = refl; one-word = refl; in-line = refl; few = lit≤ tt; inside = lit≤ tt; short = lit≤ tt; small = lit≤ tt }
+sound Kind.Enr = record { named = refl; one-word = refl; in-line = refl; few = lit≤ tt; inside = lit≤ tt; short = lit≤ tt; small = lit≤ tt }
+sound Kind.Demmespc = record { named = refl; one-word = refl; in-line = refl; few = lit≤ tt; inside = lit≤ tt; short = lit≤ tt; small = lit≤ tt }
+sound Kind.I = record { named = refl; one-word = refl; in-line = refl; few = lit≤ tt; inside = lit≤ tt; short = lit≤ tt; small = lit≤ tt }
+sound Kind.Demcf = record { named = refl; one-word = refl; in-line = refl; few = lit≤ tt; inside = lit≤ tt; short = lit≤ tt; small = lit≤ tt }
+sound Kind.Adc = record { named = refl; one-word = refl; in-line = refl; few = lit≤ tt; inside = lit≤ tt; short = lit≤ tt; small = lit≤ tt }
+sound Kind.Ri = record { named = refl; one-word = refl; in-line = refl; few = lit≤ tt; inside = lit≤ tt; short = lit≤ tt; small = lit≤ tt }
+sound Kind.Cdt = record { named = refl; one-word = refl; in-line = refl; few = lit≤ tt; inside = lit≤ tt; short = lit≤ tt; small = lit≤ tt }
+sound Kind.Demmhs = record { named = refl; one-word = refl; in-line = refl; few = lit≤ tt; inside = lit≤ tt; short = lit≤ tt; small = lit≤ tt }
+sound Kind.Sus = record { named = refl; one-word = refl; in-line = refl; few = lit≤ tt; inside = lit≤ tt; short = lit≤ tt; small = lit≤ tt }
+sound Kind.Jour = record { named = refl; one-word = refl; in-line = refl; few = lit≤ tt; inside = lit≤ tt; short = lit≤ tt; small = lit≤ tt }
+sound Kind.Unknown = record { named = refl; one-word = refl; in-line = refl; few = lit≤ tt; inside = lit≤ tt; short = lit≤ tt; small = lit≤ tt }
 
-pub word-padded : (k : Kind) (w : Word) → w ≡ paddedWord k → Padded k w
-word-padded k w e = rw e (padded-is k)
-
-pub word-short : (k : Kind) → length (word k) ≤ 8
-word-short k = let w = word-padded k (paddedWord k) refl in omega (arith, w .long, w .short)
+-- the word's length, as the code holds it
+pub word-long : (k : Kind) (row : KindRow) → row ≡ rowOf k → (row .word .len ≡ length (word k)) × (row .word .len ≤ 8)
+word-long k row e = let long = length-take-le _ _ (sound k .inside) in let s = sound k .short in rw e (sym long, omega arith)

@@ -5,7 +5,8 @@ use mathlib.Core.Path.{_≡_}
 use mathlib.Core.List.{List, []}
 use Rattle.line_text.specs.Ascii.{ascii}
 use Rattle.line_kinds.specs.declared.{Kind.Kind}
-use Rattle.line_kinds.specs.Kinds.{word, kindNamed}
+use Rattle.line_kinds.specs.Kinds.{word}
+use Rattle.line_kinds.specs.Pinned.Naming.{kindNamed}
 
 abbrev pub Names : List ℕ → Kind → Type 0
 Names w k = kindNamed w ≡ k

@@ -8,7 +8,7 @@ use native.Mathlib.Numerals.{add-one}
 use lib.ListN.{length, take, drop, getD}
 use Rattle.rules.specs.declared.{Point.Point, Register.Register}
 use Rattle.rules.specs.Register.{noPoint}
-use Rattle.line_text.specs.Appending.{AppendedWithin}
+use Rattle.line_text.specs.Between.Appending.{AppendedWithin}
 use Rattle.line_text.proofs.Appends.{room-put}
 use Rattle.line_listing.specs.declared.{Listed.Listed}
 use Rattle.line_listing.specs.Listing.{pointLines, listingFrom}

@@ -10,7 +10,7 @@ ghost use mathlib.Core.Path.{_≡_};
 ghost use Prim.Native.Nat.{_+_, _-_, _*_, _≤_, _<_};
 ghost use lib.ListN.{length};
 ghost use Rattle.rules.specs.Register.{period};
-ghost use Rattle.line_text.specs.Appending.{AppendedWithin};
+ghost use Rattle.line_text.specs.Between.Appending.{AppendedWithin};
 ghost use Rattle.line_answers.specs.Answers.{periodLine};
 ghost use Rattle.line_listing.specs.Listing.{periodLines, pointLines};
 ghost use Rattle.line_listing.specs.Pinned.Pieces.{taken, ListedFrom, linesBehind};

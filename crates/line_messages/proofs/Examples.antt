@@ -2,12 +2,13 @@
 use mathlib.Core.Path.{refl}
 use Rattle.dates.specs.Dates.{leapRow, monthLength}
 use Rattle.dates.specs.Numbers.{monthStart, yearStart, dayNumber, isReal, dayAnswer}
-use Rattle.line_values.specs.Words.{isSame}
-use Rattle.line_values.specs.Numbers.{moreOf, numberOf, fixedOf}
-use Rattle.line_values.specs.Days.{dayIn}
-use Rattle.line_fields.specs.Fields.{fieldOf, fieldsOf, sortsFrom}
-use Rattle.line_kinds.specs.Kinds.{kindIn}
-use Rattle.line_messages.specs.Reading.{wordEnd, readLine}
+use Rattle.line_values.specs.Pinned.Words.{isSame}
+use Rattle.line_values.specs.Pinned.Numbers.{moreOf, numberOf, fixedOf}
+use Rattle.line_values.specs.Pinned.Days.{dayIn}
+use Rattle.line_fields.specs.Pinned.Reading.{fieldOf, fieldsOf}
+use Rattle.line_fields.specs.Between.Shapes.{sortsFrom}
+use Rattle.line_kinds.specs.Pinned.Naming.{kindIn}
+use Rattle.line_messages.specs.Pinned.Reading.{wordEnd, readLine}
 use Rattle.line_messages.specs.Examples.{LineExamples}
 
 pub line-examples : LineExamples

@@ -1,5 +1,5 @@
 pub mod WordEnds
-pub mod Rows
+pub mod Saying
 pub mod OneLine
 pub mod LineTexts
 pub mod Examples

@@ -1,45 +1,60 @@
 -- What a line says, from what its parts say.
-use Prim.Native.Nat.{ℕ, zero, suc, _+_, _<_, _≤_}
-use mathlib.Core.Path.{_≡_, refl, sym, ap, ap₂, _∙_}
-use mathlib.Core.List.{List, _∷_}
-use native.Mathlib.Omega.{arith}
+use Prim.Native.Nat.{ℕ, _-_, _<_, _≤_}
+use mathlib.Core.Path.{_≡_, sym, ap, _∙_}
+use mathlib.Core.Bool.{true, false, cond}
+use mathlib.Core.List.{List, []}
 use borrow.Author.Tests.{le-leb}
 use lib.ListN.{length, take, drop, drop-of-length-le}
-use lib.Seq.{drop-cons, getD-take}
-use Rattle.line_fields.specs.declared.{Shape.Shape}
-use Rattle.line_fields.specs.Fields.{Values, values, fieldsIn}
+use lib.Seq.{drop-cons}
+use Rattle.line_text.specs.Longest.{longestLine}
+use Rattle.line_fields.specs.declared.{KnownDate.KnownDate, LineFields.LineFields}
+use Rattle.line_fields.specs.Between.Known.{IsKnown}
+use Rattle.line_fields.specs.Between.Shapes.{mostFields, sortsOf}
+use Rattle.line_fields.specs.Pinned.Reading.{values, unread, fieldsOf}
+use Rattle.line_fields.specs.Between.With.{AllWith, fieldsInWith, ReadsFields}
 use Rattle.line_fields.proofs.FieldSteps.{fields-are}
-use Rattle.line_kinds.specs.declared.{Kind.Kind}
-use Rattle.line_kinds.specs.Kinds.{kindNamed, shapeOf}
-use Rattle.line_kinds.proofs.KindTable.{few}
-use Rattle.line_messages.specs.declared.{Message.Message}
-use Rattle.line_messages.specs.Lines.{messageOf}
-use Rattle.line_messages.specs.Reading.{wordEnd, messageWith, readLine}
-use Rattle.line_messages.proofs.Rows.{firsts, own-enough}
+use Rattle.line_fields.proofs.FieldsRead.{fields-read}
+use Rattle.line_kinds.specs.declared.{Kind.Kind, KindRow.KindRow}
+use Rattle.line_kinds.specs.Kinds.{rowOf}
+use Rattle.line_kinds.specs.Pinned.Naming.{kindNamed}
+use Rattle.line_kinds.proofs.KindTable.{sound}
+use Rattle.line_messages.specs.declared.{Message.Message, LineMessage.LineMessage}
+use Rattle.line_messages.specs.Lines.{kindOf, Said}
+use Rattle.line_messages.specs.Pinned.Messages.{messageOf}
+use Rattle.line_messages.specs.Pinned.Reading.{wordEnd, messageWith, readLine}
+use Rattle.line_messages.specs.Between.Values.{lineMessage}
+use Rattle.line_messages.proofs.Saying.{says, message-zeros}
 
--- what a line says, from what its parts say
-pub line-with : (l : List ℕ) (e : ℕ) (k : Kind) (s : Shape) (x : Values) → length l ≤ 96 → e ≡ wordEnd l →
-    k ≡ kindNamed (take e l) →
-    s ≡ shapeOf k → fieldsIn s (drop e l) ≡ x → readLine l ≡ messageWith k x
-unfolding readLine
-line-with l e k s x h he hk hs hx =
-    let all = sym (fields-are (shapeOf k) (drop e l) (few k)) ∙ rw hs at hx in
-    rw (le-leb (length l) 96 h, ← he, ← hk, all)
+-- a message of a kind has that kind
+pub of-kind : (k : Kind) (v : List ℕ) (m : Message) → m ≡ messageOf k v →
+    _≡_ {A = LineMessage} (record { kind = k; message = m }) (lineMessage m)
+of-kind k v m e = let own : k ≡ kindOf m = sym (ap kindOf e ∙ ap (λ (s : Said). s .kind) (says k v)) in rw (← own)
 
--- a message is made of the first values only
-firsts-of-take : (m i n : ℕ) (v : List ℕ) → i + m ≤ n → firsts i m (take n v) ≡ firsts i m v
-firsts-of-take zero i n v h = refl
-firsts-of-take (suc m) i n v h = ap₂ _∷_ (getD-take n v i 0 (omega arith)) (firsts-of-take m (suc i) n v (omega arith))
+-- what is read of a line's word and fields
+module _ (l : List ℕ) (e : ℕ) (k : Kind) (row : KindRow) (v : List ℕ) (r : LineFields) (last : KnownDate)
+    (short : length l ≤ longestLine) (he : e ≡ wordEnd l) (hk : k ≡ kindNamed (take e l)) (hr : row ≡ rowOf k)
+    (read : ReadsFields last (row .shape) e l v r) (known : IsKnown last) where
+  abbrev x : AllWith
+  x = fieldsInWith last (row .shape) (drop e l)
 
-pub message-first : (k : Kind) (v : List ℕ) → messageOf k (take (shapeOf k .count) v) ≡ messageOf k v
-message-first k v =
-    sym (own-enough k (take (shapeOf k .count) v)) ∙
-    ap (messageOf k) (firsts-of-take (shapeOf k .count) 0 (shapeOf k .count) v (omega arith)) ∙ own-enough k v
+  line-is : readLine l ≡ messageWith k (cond (r .ok) (values (x .read) (drop (r .end) l)) unread)
+  unfolding readLine
+  line-is =
+      let all =
+      ap (λ (q : KindRow). fieldsOf (sortsOf (q .shape)) [] (drop e l)) (sym hr) ∙
+      sym (fields-are (row .shape) (drop e l) (rw hr (sound k .few))) ∙ fields-read last (row .shape) e l v r read known in
+      rw (le-leb (length l) longestLine short, ← he, ← hk, all)
 
--- with text behind its fields, and with none
-pub with-more : (k : Kind) (vs l : List ℕ) (at : ℕ) → at < length l → messageWith k (values vs (drop at l)) ≡ Message.Unreadable
-with-more k vs l at h = rw (drop-cons l at 0 h)
+  -- not all of its fields, text behind them, and none
+  pub line-bad : r .ok ≡ false → lineMessage Message.Unreadable ≡ lineMessage (readLine l)
+  line-bad ok = ap lineMessage (sym (line-is ∙ rw ok))
 
-pub with-all : (k : Kind) (s : Shape) (v l : List ℕ) (at : ℕ) → s ≡ shapeOf k → length l ≤ at →
-    messageWith k (values (take (s .count) v) (drop at l)) ≡ messageOf k v
-with-all k s v l at e h = rw (drop-of-length-le l h, e) (message-first k v)
+  pub line-more : r .ok ≡ true → r .end < length l → lineMessage Message.Unreadable ≡ lineMessage (readLine l)
+  line-more ok h = ap lineMessage (sym (line-is ∙ rw (ok, drop-cons l (r .end) 0 h)))
+
+  pub line-all : r .ok ≡ true → length l ≤ r .end → (m : Message) → m ≡ messageOf k v →
+      _≡_ {A = LineMessage} (record { kind = k; message = m }) (lineMessage (readLine l))
+  line-all ok h m e =
+      let all : readLine l ≡ messageOf k (x .read) = line-is ∙ rw (ok, drop-of-length-le l h) in
+      let own = e ∙ ap (messageOf k) (read .values) ∙ message-zeros k (x .read) (mostFields - length (x .read)) ∙ sym all in
+      of-kind k v m e ∙ ap lineMessage own

@@ -7,8 +7,8 @@ use lib.ListN.{replicate}
 use Rattle.rules.specs.declared.{Action.Action, PointAction.PointAction}
 use Rattle.line_text.specs.Ascii.{ascii}
 use Rattle.line_messages.specs.declared.{Message.Message}
-use Rattle.line_messages.specs.Lines.{ask, askAt}
-use Rattle.line_messages.specs.Reading.{readLine}
+use Rattle.line_messages.specs.Pinned.Messages.{ask, askAt}
+use Rattle.line_messages.specs.Pinned.Reading.{readLine}
 
 abbrev pub opening : ℕ → ℕ → ℕ → ℕ → ℕ → ℕ → Message
 opening d w a b default resort =

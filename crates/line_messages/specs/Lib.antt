@@ -1,5 +1,6 @@
 pub mod Lines
-pub mod Reading
 pub mod Writing
+pub mod Pinned
 pub mod OneLine
+pub mod Between
 pub mod Examples

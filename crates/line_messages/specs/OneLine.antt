@@ -7,7 +7,7 @@ use mathlib.Core.List.{List}
 use lib.ListN.{length}
 use Rattle.line_messages.specs.declared.{Message.Message}
 use Rattle.line_messages.specs.Lines.{lineOf}
-use Rattle.line_messages.specs.Reading.{readLine}
+use Rattle.line_messages.specs.Pinned.Reading.{readLine}
 use Rattle.line_messages.specs.Writing.{isWritable, textOf}
 
 pub record OneLine : Type 0 where

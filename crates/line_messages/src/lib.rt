@@ -1,9 +1,11 @@
 // Message lines: what a line says, and reading one.
+use line_fields::MOST_FIELDS;
 use line_fields::first_known;
-use line_fields::read_row;
+use line_fields::read_fields;
 use line_kinds::Kind;
-use line_kinds::words::kind_named;
-use line_kinds::words::shape_of;
+use line_kinds::kind_named;
+use line_kinds::row_of;
+use line_text::LONGEST_LINE;
 use rules::Action;
 use rules::Call;
 use rules::Opening;
@@ -11,8 +13,9 @@ use rules::PointAction;
 ghost use mathlib.Core.Path.{_≡_};
 ghost use Prim.Native.Nat.{_≤_};
 ghost use lib.ListN.{length};
-ghost use Rattle.line_messages.specs.Lines.{ask, askAt, messageOf};
-ghost use Rattle.line_messages.specs.Reading.{wordEnd, readLine};
+ghost use Rattle.line_messages.specs.Pinned.Messages.{ask, askAt, messageOf};
+ghost use Rattle.line_messages.specs.Pinned.Reading.{wordEnd, readLine};
+ghost use Rattle.line_messages.specs.Between.Values.{lineMessage};
 
 // What a line says: an opening, one of the twelve calls, or nothing that can be read.
 pub enum Message {
@@ -21,34 +24,48 @@ pub enum Message {
     Unreadable,
 }
 
-// A line's kind and the values of its fields; the places past its fields hold 0.
-pub struct Parts {
+// What a line says, with its kind: Unknown for one that cannot be read.
+pub struct LineMessage {
     pub kind: Kind,
-    pub values: [u64; 7],
+    pub message: Message,
 }
 
-// The most bytes that a line can have without its line feed.
-const LONGEST: usize = 96;
+// A message's kind and the values of its fields; the places past its fields hold 0.
+pub struct Values {
+    pub kind: Kind,
+    pub values: [u64; MOST_FIELDS],
+}
 
 // What a line says, without its line feed.
-pub fn read_line(line: &[u8]) -> Message
-    ensures { λ r. ⌜ r ≡ readLine (now (line .entry)) ⌝ }
+pub fn read_line(line: &[u8]) -> LineMessage
+    ensures { λ r. ⌜ r ≡ lineMessage (readLine (now (line .entry))) ⌝ }
 {
-    if LONGEST < line.len() {
-        return Message::Unreadable;
+    if LONGEST_LINE < line.len() {
+        return unreadable();
     }
     let end = word_end(line);
     let kind = kind_named(&line[..end]);
-    let shape = shape_of(kind);
-    let mut values = [0u64; 7];
-    let row = read_row(line, end, shape, first_known(), &mut values);
-    if !row.ok {
-        return Message::Unreadable;
+    let row = row_of(kind);
+    let shape = row.shape;
+    let mut values = [0u64; MOST_FIELDS];
+    let fields = read_fields(line, end, shape, first_known(), &mut values);
+    if !fields.ok {
+        return unreadable();
     }
-    if row.end < line.len() {
-        return Message::Unreadable;
+    if fields.end < line.len() {
+        return unreadable();
     }
-    message_of(kind, values)
+    let message = message_of(kind, values);
+    LineMessage { kind, message }
+}
+
+fn unreadable() -> LineMessage
+    ensures { λ r. ⌜ r ≡ lineMessage Message.Unreadable ⌝ }
+{
+    LineMessage {
+        kind: Kind::Unknown,
+        message: Message::Unreadable,
+    }
 }
 
 // The end of a line's first word: its first `;`, or its end.
@@ -66,7 +83,7 @@ fn word_end(line: &[u8]) -> usize
 }
 
 // What a line of a kind with these values says.
-pub fn message_of(kind: Kind, v: [u64; 7]) -> Message
+pub fn message_of(kind: Kind, v: [u64; MOST_FIELDS]) -> Message
     ensures { λ r. ⌜ r ≡ messageOf kind v ⌝ }
 {
     let today = v[0];

@@ -1,7 +1,6 @@
 -- The next line, read where it stands: a kind's word, its fields and then a line feed are the line of its message.
 use Prim.Native.Nat.{ℕ, suc, _+_, _-_, _<_, _≤_}
 use mathlib.Core.Path.{_≡_, refl, sym, ap, ap₂, _∙_}
-use mathlib.Core.Logic.{_⊎_, inl, inr, ⊎-elim}
 use mathlib.Core.Bool.{Bool, true, false, cond, _&&_}
 use mathlib.Core.List.{List, [], _∷_, _++_, append-assoc, append-nil}
 use native.Mathlib.Omega.{arith}
@@ -10,25 +9,29 @@ use lib.Dec.{leb, eqb}
 use lib.ListN.{length, take, drop, getD, length-append, length-drop, take-append-drop, drop-of-length-le}
 use lib.Seq.{drop-cons, take-at, take-length}
 use borrow.Author.Tests.{eqb-true, eq-eqb, ne-eqb}
-use Rattle.line_values.specs.Words.{isSame}
-use Rattle.line_fields.specs.Fields.{values, unread, fieldsText, sortsFrom, sortsOf, fieldsOf}
-use Rattle.line_fields.specs.Known.{IsKnown}
-use Rattle.line_fields.specs.With.{RowRead}
+use Rattle.line_values.specs.Pinned.Words.{isSame}
+use Rattle.line_fields.specs.Pinned.Reading.{values, unread, fieldsOf}
+use Rattle.line_fields.specs.Fields.{fieldsText}
+use Rattle.line_fields.specs.Between.Shapes.{sortsFrom, sortsOf}
+use Rattle.line_fields.specs.Between.Known.{IsKnown}
+use Rattle.line_fields.specs.Between.With.{AllWith}
 use Rattle.line_fields.specs.declared.{KnownDate.KnownDate}
 use Rattle.line_fields.proofs.FieldSteps.{fields-are}
-use Rattle.line_fields.proofs.FieldTexts.{fields-only}
+use Rattle.line_fields.proofs.FieldTexts.{FieldsAre, fields-only}
 use Rattle.line_fields.proofs.KnownStays.{known-stays}
 use Rattle.line_kinds.specs.declared.{Kind.Kind}
-use Rattle.line_kinds.specs.Kinds.{word, kinds, kindIn, kindNamed, shapeOf}
-use Rattle.line_kinds.proofs.KindTable.{few}
-use Rattle.line_kinds.proofs.Naming.{Found, named, unnamed, found}
-use Rattle.input_lines.specs.Lines.{untilFeed}
+use Rattle.line_kinds.specs.Kinds.{word, shapeOf}
+use Rattle.line_kinds.specs.Pinned.Naming.{kinds, kindIn, kindNamed}
+use Rattle.line_kinds.proofs.KindTable.{sound}
+use Rattle.line_kinds.proofs.Naming.{NamedBy, named, unnamed, found}
+use Rattle.input_lines.specs.Between.Feeds.{untilFeed}
 use Rattle.line_messages.specs.declared.{Message.Message}
-use Rattle.line_messages.specs.Lines.{messageOf}
-use Rattle.line_messages.specs.Reading.{wordEnd, readLine}
-use Rattle.line_messages.proofs.OneLine.{line-is, its-line-back}
-use Rattle.line_next.specs.declared.{Taken.Taken}
-use Rattle.line_next.specs.NextLine.{firstLine, feedFirst, stopAt, firstKind, firstRow, taken, takenBy, nextLine, IsNext, NextIsLine}
+use Rattle.line_messages.specs.Between.Values.{lineMessage}
+use Rattle.line_messages.specs.Pinned.Messages.{messageOf}
+use Rattle.line_messages.specs.Pinned.Reading.{wordEnd, readLine}
+use Rattle.line_messages.proofs.OneLine.{line-is, line-back}
+use Rattle.line_next.specs.declared.{NextLine.NextLine}
+use Rattle.line_next.specs.Between.NextLine.{firstLine, feedFirst, stopAt, firstKind, firstFields, taken, takenBy, nextLine, IsNext, NextIsLine}
 use Rattle.line_next.proofs.PlainTexts.{Plain, plain-end, plain-append, plain-fields, plain-word}
 
 -- one step of looking for the end of a word, and of a line
@@ -82,27 +85,6 @@ word-whole (c ∷ l) = go (word-whole l) (eqb c 59) (eqb c 10) refl where
   go ih false true p = refl
   go ih false false p = rw p (ap suc ih)
 
--- a kind is Unknown or not
-known-or : (k : Kind) → (k ≡ Kind.Unknown) ⊎ (k ≡ Kind.Unknown → ⊥)
-known-or Kind.Set = inr (λ e. let z : _≡_ {A = ℕ} 0 1 = cc in omega arith)
-known-or Kind.Ctr = inr (λ e. let z : _≡_ {A = ℕ} 0 1 = cc in omega arith)
-known-or Kind.Def = inr (λ e. let z : _≡_ {A = ℕ} 0 1 = cc in omega arith)
-known-or Kind.Enr = inr (λ e. let z : _≡_ {A = ℕ} 0 1 = cc in omega arith)
-known-or Kind.Demmespc = inr (λ e. let z : _≡_ {A = ℕ} 0 1 = cc in omega arith)
-known-or Kind.I = inr (λ e. let z : _≡_ {A = ℕ} 0 1 = cc in omega arith)
-known-or Kind.Demcf = inr (λ e. let z : _≡_ {A = ℕ} 0 1 = cc in omega arith)
-known-or Kind.Adc = inr (λ e. let z : _≡_ {A = ℕ} 0 1 = cc in omega arith)
-known-or Kind.Ri = inr (λ e. let z : _≡_ {A = ℕ} 0 1 = cc in omega arith)
-known-or Kind.Cdt = inr (λ e. let z : _≡_ {A = ℕ} 0 1 = cc in omega arith)
-known-or Kind.Demmhs = inr (λ e. let z : _≡_ {A = ℕ} 0 1 = cc in omega arith)
-known-or Kind.Sus = inr (λ e. let z : _≡_ {A = ℕ} 0 1 = cc in omega arith)
-known-or Kind.Jour = inr (λ e. let z : _≡_ {A = ℕ} 0 1 = cc in omega arith)
-known-or Kind.Unknown = inl refl
-
-word-found : (w : List ℕ) (k : Kind) → Found w k → (k ≡ Kind.Unknown → ⊥) → w ≡ word k
-word-found w k (named q) h = q
-word-found w k unnamed h = absurd (h refl)
-
 -- a text of one line, its line feed, and more
 first-line : (t r l : List ℕ) → Plain t → l ≡ t ++ r → feedFirst r ≡ true →
     (firstLine l ≡ t) × (length l ≡ untilFeed l + length r)
@@ -131,42 +113,30 @@ feed-some : (r : List ℕ) → feedFirst r ≡ true → 0 < length r
 feed-some [] h = absurd (let z : _≡_ {A = ℕ} 0 1 = cc in omega arith)
 feed-some (c ∷ r) h = omega arith
 
--- the line of a word, a row of fields and a line feed
-module _ (l : List ℕ) (n : ℕ) (k : Kind) (vs r : List ℕ) (hn : n ≡ stopAt l) (hk : k ≡ kindNamed (take n l))
-    (hf : fieldsOf (sortsOf (shapeOf k)) [] (drop n l) ≡ values vs r) (feed : feedFirst r ≡ true) where
-  known-line : (k ≡ Kind.Unknown → ⊥) → (readLine (firstLine l) ≡ messageOf k vs) × (length l ≡ untilFeed l + length r)
-  known-line h =
-      let q = word-found (take n l) k (rw (← hk) at (found kinds (take n l))) h in
+-- the line of a word, of fields and a line feed
+module _ (l : List ℕ) (n : ℕ) (vs r : List ℕ) (hn : n ≡ stopAt l) (feed : feedFirst r ≡ true) where
+  fields-line : (k : Kind) → NamedBy (take n l) k → k ≡ kindNamed (take n l) →
+      fieldsOf (sortsOf (shapeOf k)) [] (drop n l) ≡ values vs r →
+      (readLine (firstLine l) ≡ messageOf k vs) × (length l ≡ untilFeed l + length r)
+  unfolding fieldsOf sortsFrom
+  fields-line k (named q) hk hf =
       let a = fields-only (sortsOf (shapeOf k)) [] (drop n l) vs r hf in
-      let T = fieldsText (sortsOf (shapeOf k)) (a .ns) in
+      let T = fieldsText (a .fields) in
       let whole : l ≡ (word k ++ T) ++ r =
       sym (take-append-drop n l) ∙ ap₂ _++_ q (a .text) ∙ sym (append-assoc (word k) T r) in
-      let plain = plain-append (word k) T (plain-word k) (plain-fields (sortsOf (shapeOf k)) (a .ns)) in
+      let plain = plain-append (word k) T (plain-word (word k) (sound k .in-line)) (plain-fields (a .fields)) in
       let first = first-line (word k ++ T) r l plain whole feed in
-      let own = line-is (word k ++ T) T k vs refl (record {
-        ns = a .ns;
-        all = a .all;
-        text =
-            sym (append-nil T);
-        fit = a .fit;
-      }) h in
-      (ap readLine (first .0 ∙ own .0) ∙ its-line-back (messageOf k vs) (own .1), first .1)
-
-  unknown-line : k ≡ Kind.Unknown → (readLine (firstLine l) ≡ messageOf k vs) × (length l ≡ untilFeed l + length r)
-  unfolding fieldsOf sortsFrom
-  unknown-line u =
-      let read : values [] (drop n l) ≡ values vs r = rw u at hf in
-      let rest : drop n l ≡ r = cc in
+      let alone : FieldsAre (sortsOf (shapeOf k)) T [] [] vs =
+      record { fields = a .fields; sorts = a .sorts; all = a .all; text = sym (append-nil T); fit = a .fit } in
+      let own = line-is (word k ++ T) T k vs refl alone in
+      (ap readLine (first .0 ∙ own .0) ∙ line-back (messageOf k vs) (own .1), first .1)
+  fields-line k unnamed hk hf =
+      let rest : drop n l ≡ r = let read : values [] (drop n l) ≡ values vs r = hf in cc in
       let end = word-is-line l (rw (← hn, rest) feed) in
       let long = sym (ap length rest) ∙ length-drop n l in
-      let name : kindNamed (take (stopAt l) l) ≡ Kind.Unknown = rw (← hn) (sym hk ∙ u) in (
-        rw (end, u) (no-line (take (stopAt l) l) (word-whole l) name),
-        let some = feed-some r feed in let here =
-            hn ∙ sym end in omega arith,
-      )
-
-  row-line : (readLine (firstLine l) ≡ messageOf k vs) × (length l ≡ untilFeed l + length r)
-  row-line = ⊎-elim unknown-line known-line (known-or k)
+      let some = feed-some r feed in
+      let here = hn ∙ sym end in
+      (rw end (no-line (take (stopAt l) l) (word-whole l) (rw (← hn) (sym hk))), omega arith)
 
 -- with a right known date
 pub empty-line : readLine [] ≡ Message.Unreadable
@@ -177,16 +147,16 @@ module _ (k : KnownDate) (buf : List ℕ) (from : ℕ) (right : IsKnown k) where
   abbrev text : List ℕ
   text = drop from buf
 
-  abbrev x : RowRead
-  x = firstRow k text
+  abbrev x : AllWith
+  x = firstFields k text
 
   is-known : IsKnown (x .known)
   is-known = known-stays .right k (shapeOf (firstKind text)) (drop (stopAt text) text) right
 
   -- its fields are those that are read without a known date
-  row-of : x .ok ≡ true → fieldsOf (sortsOf (shapeOf (firstKind text))) [] (drop (stopAt text) text) ≡ values (x .read) (x .rest)
-  row-of e =
-      sym (fields-are (shapeOf (firstKind text)) (drop (stopAt text) text) (few (firstKind text))) ∙
+  fields-of : x .ok ≡ true → fieldsOf (sortsOf (shapeOf (firstKind text))) [] (drop (stopAt text) text) ≡ values (x .read) (x .rest)
+  fields-of e =
+      sym (fields-are (shapeOf (firstKind text)) (drop (stopAt text) text) (sound (firstKind text) .few)) ∙
       sym (known-stays .same k (shapeOf (firstKind text)) (drop (stopAt text) text) right) ∙
       ap (λ (b : Bool). cond b (values (x .read) (x .rest)) unread) e
 
@@ -196,14 +166,14 @@ module _ (k : KnownDate) (buf : List ℕ) (from : ℕ) (right : IsKnown k) where
         IsNext buf from (cond (a && b) (taken (messageOf (firstKind text) (x .read)) (from + (length text - length (x .rest))) (x .known))
         (taken (readLine (firstLine text)) (from + untilFeed text) (x .known)))
     go true true p q =
-        let w = row-line text (stopAt text) (firstKind text) (x .read) (x .rest) refl refl (row-of p) q in
-        record { message = sym (w .0); end = ap (λ (n : ℕ). from + n) (omega arith); known = is-known }
-    go true false p q = record { message = refl; end = refl; known = is-known }
-    go false b p q = record { message = refl; end = refl; known = is-known }
+        let w = fields-line text (stopAt text) (x .read) (x .rest) refl q (firstKind text) (found kinds (take (stopAt text) text)) refl (fields-of p) in
+        record { read = ap lineMessage (sym (w .0)); end = ap (λ (n : ℕ). from + n) (omega arith); known = is-known }
+    go true false p q = record { read = refl; end = refl; known = is-known }
+    go false b p q = record { read = refl; end = refl; known = is-known }
 
 pub next-is-line : NextIsLine
 unfolding nextLine
 next-is-line k buf from right = next-is k buf from right
 
-pub next-right : (k : KnownDate) (buf : List ℕ) (from : ℕ) (t : Taken) → t ≡ nextLine k buf from → IsKnown k → IsNext buf from t
+pub next-right : (k : KnownDate) (buf : List ℕ) (from : ℕ) (t : NextLine) → t ≡ nextLine k buf from → IsKnown k → IsNext buf from t
 next-right k buf from t e right = rw e (next-is-line k buf from right)

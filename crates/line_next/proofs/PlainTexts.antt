@@ -1,7 +1,7 @@
 -- No line feed stands in the line of a message, so the line ends where its fields do.
 use Prim.Native.Nat.{ℕ, zero, suc, _+_, _/_, _%_}
 use mathlib.Core.Path.{_≡_, refl, ap}
-use mathlib.Core.Bool.{Bool, true, false, cond}
+use mathlib.Core.Bool.{Bool, true, false, cond, not, _&&_}
 use mathlib.Core.List.{List, [], _∷_, _++_}
 use native.Mathlib.Omega.{arith}
 use lib.Dec.{ltb, eqb}
@@ -12,10 +12,9 @@ use Rattle.dates.specs.Numbers.{dateAnswer}
 use Rattle.line_text.specs.Decimal.{spell, fixed}
 use Rattle.line_text.specs.Days.{answerText, dayText}
 use Rattle.line_fields.specs.declared.{Sort.Sort}
-use Rattle.line_fields.specs.Fields.{fieldsText}
-use Rattle.line_kinds.specs.declared.{Kind.Kind}
-use Rattle.line_kinds.specs.Kinds.{word}
-use Rattle.input_lines.specs.Lines.{untilFeed}
+use Rattle.line_fields.specs.Fields.{Field, fieldText, fieldsText}
+use Rattle.line_kinds.proofs.KindTable.{lacks}
+use Rattle.input_lines.specs.Between.Feeds.{untilFeed}
 
 abbrev pub Plain : List ℕ → Type 0
 Plain [] = Unit {0}
@@ -54,24 +53,16 @@ plain-day n l p = go (dateAnswer n) where
   go (DateAnswer.On x) = plain-fixed 4 (x .year) _ (plain-fixed 2 (x .month) _ (plain-fixed 2 (x .day) l p))
   go DateAnswer.OffCalendar = plain-fixed 8 0 l p
 
-pub plain-fields : (ks : List Sort) (ns : List ℕ) → Plain (fieldsText ks ns)
-plain-fields [] ns = tt
-plain-fields (k ∷ ks) [] = tt
-plain-fields (Sort.Date ∷ ks) (n ∷ ns) = (refl, plain-day n (fieldsText ks ns) (plain-fields ks ns))
-plain-fields (Sort.Number ∷ ks) (n ∷ ns) = (refl, plain-number 20 n (fieldsText ks ns) (plain-fields ks ns))
+pub plain-fields : (fs : List Field) → Plain (fieldsText fs)
+plain-fields [] = tt
+plain-fields (f ∷ fs) = go (plain-fields fs) (f .sort) where
+  go : Plain (fieldsText fs) → (k : Sort) → Plain (fieldText k (f .value) (fieldsText fs))
+  go p Sort.Date = (refl, plain-day (f .value) (fieldsText fs) p)
+  go p Sort.Number = (refl, plain-number 20 (f .value) (fieldsText fs) p)
 
-pub plain-word : (k : Kind) → Plain (word k)
-plain-word Kind.Set = (refl, (refl, (refl, tt)))
-plain-word Kind.Ctr = (refl, (refl, (refl, tt)))
-plain-word Kind.Def = (refl, (refl, (refl, tt)))
-plain-word Kind.Enr = (refl, (refl, (refl, tt)))
-plain-word Kind.Demmespc = (refl, (refl, (refl, (refl, (refl, (refl, (refl, (refl, tt))))))))
-plain-word Kind.I = (refl, tt)
-plain-word Kind.Demcf = (refl, (refl, (refl, (refl, (refl, tt)))))
-plain-word Kind.Adc = (refl, (refl, (refl, tt)))
-plain-word Kind.Ri = (refl, (refl, tt))
-plain-word Kind.Cdt = (refl, (refl, (refl, tt)))
-plain-word Kind.Demmhs = (refl, (refl, (refl, (refl, (refl, (refl, tt))))))
-plain-word Kind.Sus = (refl, (refl, (refl, tt)))
-plain-word Kind.Jour = (refl, (refl, (refl, (refl, tt))))
-plain-word Kind.Unknown = (refl, tt)
+pub plain-word : (w : List ℕ) → lacks 10 w ≡ true → Plain w
+plain-word [] h = tt
+plain-word (c ∷ w) h = go (plain-word w) (eqb c 10) refl h where
+  go : (lacks 10 w ≡ true → Plain w) → (b : Bool) → eqb c 10 ≡ b → (not b && lacks 10 w) ≡ true → (eqb c 10 ≡ false) × Plain w
+  go ih true e q = absurd (let z : _≡_ {A = ℕ} 0 1 = cc in omega arith)
+  go ih false e q = (e, ih q)

@@ -1,1 +1,1 @@
-pub mod NextLine
+pub mod Between

@@ -1,57 +1,62 @@
 // Reading the next line of a buffer, without looking for its end first.
 use input_lines::line_end;
 use line_fields::KnownDate;
-use line_fields::read_row;
-use line_kinds::words::kind_named;
-use line_kinds::words::shape_of;
+use line_fields::MOST_FIELDS;
+use line_fields::read_fields;
+use line_kinds::Kind;
+use line_kinds::kind_named;
+use line_kinds::row_of;
+use line_messages::LineMessage;
 use line_messages::Message;
 use line_messages::message_of;
 use line_messages::read_line;
 ghost use mathlib.Core.Path.{_≡_};
 ghost use Prim.Native.Nat.{_+_, _≤_};
 ghost use lib.ListN.{length, drop};
-ghost use Rattle.line_next.specs.NextLine.{feedFirst, stopAt, nextLine};
+ghost use Rattle.line_next.specs.Between.NextLine.{feedFirst, stopAt, nextLine};
 
-// What the next line says, the position of its end, and the last date read.
-pub struct Taken {
-    pub message: Message,
+// What the next line says, with its kind, the position of its end, and the last date read.
+pub struct NextLine {
+    pub read: LineMessage,
     pub end: usize,
     pub known: KnownDate,
 }
 
 // The line that begins at a position: up to its line feed, or to the buffer's end.
-pub fn next_line(buf: &[u8], from: usize, last: KnownDate) -> Taken
+pub fn next_line(buf: &[u8], from: usize, last: KnownDate) -> NextLine
     ensures { λ r. ⌜ r ≡ nextLine last (now (buf .entry)) from ⌝ }
 {
     if buf.len() < from {
-        return Taken {
+        let none = LineMessage {
+            kind: Kind::Unknown,
             message: Message::Unreadable,
+        };
+        return NextLine {
+            read: none,
             end: from,
             known: last,
         };
     }
     let word_end = word_end_from(buf, from);
     let kind = kind_named(&buf[from..word_end]);
-    let shape = shape_of(kind);
-    let mut values = [0u64; 7];
-    let row = read_row(buf, word_end, shape, last, &mut values);
-    let known = row.known;
-    if row.ok {
-        if is_feed(buf, row.end) {
-            return Taken {
-                message: message_of(kind, values),
-                end: row.end,
+    let row = row_of(kind);
+    let shape = row.shape;
+    let mut values = [0u64; MOST_FIELDS];
+    let fields = read_fields(buf, word_end, shape, last, &mut values);
+    let known = fields.known;
+    if fields.ok {
+        if is_feed(buf, fields.end) {
+            let message = message_of(kind, values);
+            return NextLine {
+                read: LineMessage { kind, message },
+                end: fields.end,
                 known,
             };
         }
     }
     let end = line_end(buf, from);
-    let message = read_line(&buf[from..end]);
-    Taken {
-        message,
-        end,
-        known,
-    }
+    let read = read_line(&buf[from..end]);
+    NextLine { read, end, known }
 }
 
 // A line feed stands at a position.

@@ -1,15 +1,15 @@
 -- Texts put into a buffer one behind the other, and what a writer's contract says where there is room.
-use Prim.Native.Nat.{ℕ, _+_, _<_, _≤_}
+use Prim.Native.Nat.{ℕ, zero, suc, _+_, _-_, _<_, _≤_}
 use mathlib.Core.Path.{_≡_, refl, sym, ap, _∙_}
 use mathlib.Core.Bool.{Bool, true, false, cond}
 use mathlib.Core.List.{List, [], _++_, append-assoc}
 use native.Mathlib.Omega.{arith}
-use native.Mathlib.Nat.{add-zero, add-assoc}
+use native.Mathlib.Nat.{add-zero, zero-add, add-assoc}
 use borrow.Author.Tests.{le-leb, lt-leb, leb-true, leb-false}
 use lib.Dec.{leb}
-use lib.ListN.{length, take, drop, length-append, take-append-drop}
+use lib.ListN.{length, take, drop, replicate, length-append, length-replicate, take-append-drop}
 use lib.Seq.{take-at, drop-at, length-take-le, drop-drop, take-length, sets, sets-eq, length-sets, paste}
-use Rattle.line_text.specs.Appending.{put, Appended}
+use Rattle.line_text.specs.Between.Appending.{put, Appended}
 
 -- putting a text is storing its bytes
 pub put-sets : (at : ℕ) (t o : List ℕ) → at + length t ≤ length o → sets o at t ≡ put at t o
@@ -118,6 +118,24 @@ rest-done at t o at₁ u o₁ at₂ o₂ p w =
 pub rest-none : (at : ℕ) (t o : List ℕ) (at₁ : ℕ) (o₁ : List ℕ) → Rest at t o at₁ [] o₁ → Appended at t o o₁ at₁
 rest-none at t o at₁ o₁ p =
     appended at t o o₁ at₁ (p .fits) (sym (put-none at₁ o₁) ∙ p .same) (omega (arith, p .end))
+
+-- two texts, put one behind the other into zeros
+drop-zeros : (n k : ℕ) → drop k (replicate {A = ℕ} n 0) ≡ replicate (n - k) 0
+drop-zeros n zero = let e : n - 0 ≡ n = omega arith in rw e
+drop-zeros zero (suc k) = let e : 0 - suc k ≡ 0 = omega arith in rw e
+drop-zeros (suc n) (suc k) = let e : suc n - suc k ≡ n - k = omega arith in rw e (drop-zeros n k)
+
+put-zeros : (n : ℕ) (t : List ℕ) → put 0 t (replicate n 0) ≡ t ++ replicate (n - length t) 0
+unfolding put
+put-zeros n t = rw (zero-add (length t), drop-zeros n (length t))
+
+pub zeros-put : (n : ℕ) (t u o₁ o₂ : List ℕ) (a b : ℕ) → length (t ++ u) ≤ n → Appended 0 t (replicate n 0) o₁ a →
+    Appended a u o₁ o₂ b → (b ≡ length (t ++ u)) × (o₂ ≡ (t ++ u) ++ replicate (n - length (t ++ u)) 0)
+zeros-put n t u o₁ o₂ a b h v w =
+    let room : 0 + length (t ++ u) ≤ length (replicate {A = ℕ} n 0) = omega (arith, length-replicate {A = ℕ} n 0) in
+    let next = rest-next 0 (t ++ u) _ 0 t u _ a o₁ (rest-start 0 (t ++ u) (replicate n 0) room) v in
+    let all = room-put 0 (t ++ u) _ o₂ b (rest-done 0 (t ++ u) _ a u o₁ b o₂ next w) room in
+    (all .1 ∙ zero-add (length (t ++ u)), all .0 ∙ put-zeros n (t ++ u))
 
 -- what every writer keeps, and what stands before its next position
 module _ (at : ℕ) (t o o′ : List ℕ) (r : ℕ) (w : Appended at t o o′ r) where

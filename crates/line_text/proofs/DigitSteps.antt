@@ -8,7 +8,7 @@ use lib.Seq.{drop-cons, getD-set-same, drop-set-lt, take-set-le, take-take, set-
 use Rattle.dates.specs.declared.{Date.Date}
 use Rattle.line_text.specs.Decimal.{decimal, fixed}
 use Rattle.line_text.specs.Days.{dateText}
-use Rattle.line_text.specs.Appending.{put}
+use Rattle.line_text.specs.Between.Appending.{put}
 use Rattle.line_text.proofs.Spelling.{decimal-one, decimal-step, decimal-append, count-one, count-step, count-some}
 use Rattle.line_text.proofs.Appends.{put-sets}
 

@@ -7,7 +7,7 @@ use native.Mathlib.Omega.{arith}
 use borrow.Author.Tests.{leb-true, leb-false}
 use lib.Dec.{leb}
 use lib.ListN.{length, length-append}
-use Rattle.line_text.specs.Appending.{Appended, AppendedWithin}
+use Rattle.line_text.specs.Between.Appending.{Appended, AppendedWithin}
 use Rattle.line_text.proofs.Appends.{put-append, put-none, put-length, appended, appended-length, room-put, no-room}
 
 -- nothing is put yet

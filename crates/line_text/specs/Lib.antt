@@ -1,4 +1,5 @@
 pub mod Ascii
 pub mod Decimal
 pub mod Days
-pub mod Appending
+pub mod Longest
+pub mod Between

@@ -8,7 +8,7 @@ ghost use mathlib.Core.List.{[], _∷_};
 ghost use lib.ListN.{length};
 ghost use Rattle.line_text.specs.Decimal.{decimal};
 ghost use Rattle.line_text.specs.Days.{dateText, dayText};
-ghost use Rattle.line_text.specs.Appending.{Appended};
+ghost use Rattle.line_text.specs.Between.Appending.{Appended};
 
 // A byte.
 pub fn put_byte(out: &mut [u8], at: usize, b: u8) -> usize

@@ -12,8 +12,8 @@ use Rattle.dates.proofs.Real.{real-is}
 use Rattle.dates.proofs.OneToOne.{one-to-one}
 use Rattle.line_text.specs.Decimal.{fixed}
 use Rattle.line_text.specs.Days.{dateText, dayText}
-use Rattle.line_values.specs.Numbers.{fixedOf, Read, number, bad}
-use Rattle.line_values.specs.Days.{andThen, dayRead, dayIn}
+use Rattle.line_values.specs.Pinned.Numbers.{fixedOf, Parsed, number, bad}
+use Rattle.line_values.specs.Pinned.Days.{andThen, dayRead, dayIn}
 use Rattle.line_values.proofs.Fixed.{fixed-back, fixed-only}
 
 -- the text of a day of the calendar is that of its date
@@ -70,18 +70,18 @@ module _ (n : ℕ) (l r : List ℕ) where
     never w = absurd (let z : _≡_ {A = ℕ} 0 1 = cc in omega arith)
 
     day : (y m : ℕ) (l₁ l₂ : List ℕ) → fixedOf 4 0 l ≡ number y l₁ → fixedOf 2 0 l₁ ≡ number m l₂ →
-        (x : Read) → fixedOf 2 0 l₂ ≡ x → andThen x (λ d l₃. dayRead (dayAnswer y m d) l₃) ≡ number n r →
+        (x : Parsed) → fixedOf 2 0 l₂ ≡ x → andThen x (λ d l₃. dayRead (dayAnswer y m d) l₃) ≡ number n r →
         (l ≡ dayText n r) × (n ≤ lastDay)
     day y m l₁ l₂ ey em bad p w = never w
     day y m l₁ l₂ ey em (number d l₃) p w = date-was y m d l₁ l₂ l₃ ey em p w
 
-    month : (y : ℕ) (l₁ : List ℕ) → fixedOf 4 0 l ≡ number y l₁ → (x : Read) → fixedOf 2 0 l₁ ≡ x →
+    month : (y : ℕ) (l₁ : List ℕ) → fixedOf 4 0 l ≡ number y l₁ → (x : Parsed) → fixedOf 2 0 l₁ ≡ x →
         andThen x (λ m l₂. andThen (fixedOf 2 0 l₂) (λ d l₃. dayRead (dayAnswer y m d) l₃)) ≡ number n r →
         (l ≡ dayText n r) × (n ≤ lastDay)
     month y l₁ ey bad p w = never w
     month y l₁ ey (number m l₂) p w = day y m l₁ l₂ ey p (fixedOf 2 0 l₂) refl w
 
-    year : (x : Read) → fixedOf 4 0 l ≡ x →
+    year : (x : Parsed) → fixedOf 4 0 l ≡ x →
         andThen x (λ y l₁. andThen (fixedOf 2 0 l₁) (λ m l₂. andThen (fixedOf 2 0 l₂) (λ d l₃. dayRead (dayAnswer y m d) l₃))) ≡
         number n r → (l ≡ dayText n r) × (n ≤ lastDay)
     year bad p w = never w

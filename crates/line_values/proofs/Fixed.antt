@@ -7,7 +7,7 @@ use native.Mathlib.Omega.{arith}
 use native.Mathlib.Nat.{add-zero, zero-add}
 use lib.Arith.{digits-div, digits-mod}
 use Rattle.line_text.specs.Decimal.{fixed}
-use Rattle.line_values.specs.Numbers.{fixedOf, number, bad, isDigit}
+use Rattle.line_values.specs.Pinned.Numbers.{fixedOf, number, bad, isDigit}
 use Rattle.line_values.proofs.Numbers.{is-digit, digit-range}
 
 fixed-digit : (j v d : ℕ) (l : List ℕ) → d < 10 → fixedOf (suc j) v ((48 + d) ∷ l) ≡ fixedOf j (v * 10 + d) l

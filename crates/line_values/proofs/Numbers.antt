@@ -10,7 +10,7 @@ use borrow.Author.Tests.{ltb-true, ltb-false, leb-true, lt-ltb, le-ltb, le-leb, 
 use Rattle.dates.proofs.Every.{and-left, and-right}
 use Rattle.line_text.specs.Decimal.{spell, decimal}
 use Rattle.line_text.proofs.Spelling.{spell-room}
-use Rattle.line_values.specs.Numbers.{number, bad, isDigit, moreOf, numberOf}
+use Rattle.line_values.specs.Pinned.Numbers.{number, bad, isDigit, moreOf, numberOf}
 use Rattle.line_values.specs.OneText.{Stops}
 
 -- 0 is read by itself: no digit follows it

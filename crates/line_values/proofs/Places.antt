@@ -9,9 +9,10 @@ use lib.ListN.{length, drop, length-append, length-drop}
 use lib.Seq.{drop-drop, drop-at}
 use Rattle.dates.specs.declared.{DayAnswer.DayAnswer}
 use Rattle.dates.specs.Numbers.{dayAnswer}
-use Rattle.line_values.specs.declared.{Field.Field}
-use Rattle.line_values.specs.Numbers.{Read, number, bad, isDigit, moreOf, numberOf, fixedOf, fieldAt, numberAt}
-use Rattle.line_values.specs.Days.{andThen, dayRead, dayIn}
+use Rattle.line_values.specs.declared.{Found.Found}
+use Rattle.line_values.specs.Pinned.Numbers.{Parsed, number, bad, isDigit, moreOf, numberOf, fixedOf}
+use Rattle.line_values.specs.Between.Places.{foundAt, numberAt}
+use Rattle.line_values.specs.Pinned.Days.{andThen, dayRead, dayIn}
 
 -- l ends with r
 pub record Ends (l r : List ℕ) : Type 0 where
@@ -32,19 +33,19 @@ pub ends-short : (l r : List ℕ) → Ends l r → length r ≤ length l
 ends-short l r e = let sum = ap length (e .whole) ∙ length-append (e .read) r in omega arith
 
 -- what was read leaves the end of the text
-abbrev pub Leaves : List ℕ → Read → Type 0
+abbrev pub Leaves : List ℕ → Parsed → Type 0
 Leaves l (number n r) = Ends l r
 Leaves l bad = Unit {0}
 
-leaves-on : (l m : List ℕ) (x : Read) → Ends l m → Leaves m x → Leaves l x
+leaves-on : (l m : List ℕ) (x : Parsed) → Ends l m → Leaves m x → Leaves l x
 leaves-on l m (number n r) a b = ends-on l m r a b
 leaves-on l m bad a b = tt
 
-leaves-cons : (c : ℕ) (l : List ℕ) (x : Read) → Leaves l x → Leaves (c ∷ l) x
+leaves-cons : (c : ℕ) (l : List ℕ) (x : Parsed) → Leaves l x → Leaves (c ∷ l) x
 leaves-cons c l (number n r) e = ends-cons c l r e
 leaves-cons c l bad e = tt
 
-leaves-then : (l : List ℕ) (x : Read) (f : ℕ → List ℕ → Read) → Leaves l x → ((n : ℕ) (r : List ℕ) → Leaves r (f n r)) →
+leaves-then : (l : List ℕ) (x : Parsed) (f : ℕ → List ℕ → Parsed) → Leaves l x → ((n : ℕ) (r : List ℕ) → Leaves r (f n r)) →
     Leaves l (andThen x f)
 leaves-then l (number n r) f a b = leaves-on l r (f n r) a (b n r)
 leaves-then l bad f a b = tt
@@ -112,15 +113,15 @@ end-place s at r e =
     )
 
 -- what is handed back: a value and the position behind it, or none
-pub field-value : (s : List ℕ) (at i v : ℕ) (x : Read) → x ≡ number v (drop i s) → Within s at i →
-    Field.Value v i ≡ fieldAt at (drop at s) x
-field-value s at i v x e w = ap (Field.Value v) (sym (place s at i w)) ∙ ap (fieldAt at (drop at s)) (sym e)
+pub field-value : (s : List ℕ) (at i v : ℕ) (x : Parsed) → x ≡ number v (drop i s) → Within s at i →
+    Found.Value v i ≡ foundAt at (drop at s) x
+field-value s at i v x e w = ap (Found.Value v) (sym (place s at i w)) ∙ ap (foundAt at (drop at s)) (sym e)
 
-pub field-bad : (s : List ℕ) (at : ℕ) (x : Read) → x ≡ bad → Field.Bad ≡ fieldAt at (drop at s) x
-field-bad s at x e = ap (fieldAt at (drop at s)) (sym e)
+pub field-bad : (s : List ℕ) (at : ℕ) (x : Parsed) → x ≡ bad → Found.Bad ≡ foundAt at (drop at s) x
+field-bad s at x e = ap (foundAt at (drop at s)) (sym e)
 
 -- and what was read, from what is handed back
-value-was : (s : List ℕ) (at i v : ℕ) (x : Read) → Leaves (drop at s) x → fieldAt at (drop at s) x ≡ Field.Value v i →
+value-was : (s : List ℕ) (at i v : ℕ) (x : Parsed) → Leaves (drop at s) x → foundAt at (drop at s) x ≡ Found.Value v i →
     (x ≡ number v (drop i s)) × Within s at i
 value-was s at i v (number n r) e p =
     let same : n ≡ v = cc in
@@ -129,35 +130,35 @@ value-was s at i v (number n r) e p =
     (ap (λ (m : ℕ). number m r) same ∙ ap (number v) (sym (w .0) ∙ ap (λ (j : ℕ). drop j s) there), rw there at (w .1))
 value-was s at i v bad e p = absurd (let z : _≡_ {A = ℕ} 0 1 = cc in omega arith)
 
-bad-was : (at : ℕ) (l : List ℕ) (x : Read) → fieldAt at l x ≡ Field.Bad → x ≡ bad
+bad-was : (at : ℕ) (l : List ℕ) (x : Parsed) → foundAt at l x ≡ Found.Bad → x ≡ bad
 bad-was at l (number n r) p = absurd (let z : _≡_ {A = ℕ} 0 1 = cc in omega arith)
 bad-was at l bad p = refl
 
-pub fixed-was : (k : ℕ) (s : List ℕ) (at i v : ℕ) (f : Field) → f ≡ fieldAt at (drop at s) (fixedOf k 0 (drop at s)) →
-    f ≡ Field.Value v i → (fixedOf k 0 (drop at s) ≡ number v (drop i s)) × Within s at i
+pub fixed-was : (k : ℕ) (s : List ℕ) (at i v : ℕ) (f : Found) → f ≡ foundAt at (drop at s) (fixedOf k 0 (drop at s)) →
+    f ≡ Found.Value v i → (fixedOf k 0 (drop at s) ≡ number v (drop i s)) × Within s at i
 fixed-was k s at i v f e p =
     value-was s at i v (fixedOf k 0 (drop at s)) (fixed-leaves k 0 (drop at s)) (sym e ∙ p)
 
-pub fixed-was-bad : (k : ℕ) (s : List ℕ) (at : ℕ) (f : Field) → f ≡ fieldAt at (drop at s) (fixedOf k 0 (drop at s)) →
-    f ≡ Field.Bad → fixedOf k 0 (drop at s) ≡ bad
+pub fixed-was-bad : (k : ℕ) (s : List ℕ) (at : ℕ) (f : Found) → f ≡ foundAt at (drop at s) (fixedOf k 0 (drop at s)) →
+    f ≡ Found.Bad → fixedOf k 0 (drop at s) ≡ bad
 fixed-was-bad k s at f e p = bad-was at (drop at s) (fixedOf k 0 (drop at s)) (sym e ∙ p)
 
 -- what is read behind one byte more
-field-step : (s : List ℕ) (at : ℕ) (x : Read) → at < length s → Leaves (drop (at + 1) s) x →
-    fieldAt (at + 1) (drop (at + 1) s) x ≡ fieldAt at (drop at s) x
+field-step : (s : List ℕ) (at : ℕ) (x : Parsed) → at < length s → Leaves (drop (at + 1) s) x →
+    foundAt (at + 1) (drop (at + 1) s) x ≡ foundAt at (drop at s) x
 field-step s at (number v r) h e =
     let short = ends-short (drop (at + 1) s) r e in
     let here = length-drop at s in
     let there = length-drop (at + 1) s in
-    ap (Field.Value v) (omega arith)
+    ap (Found.Value v) (omega arith)
 field-step s at bad h e = refl
 
-pub number-field : (s : List ℕ) (at v : ℕ) (f : Field) → at < length s →
+pub number-field : (s : List ℕ) (at v : ℕ) (f : Found) → at < length s →
     numberOf (drop at s) ≡ moreOf v (drop (at + 1) s) →
-    f ≡ fieldAt (at + 1) (drop (at + 1) s) (moreOf v (drop (at + 1) s)) → f ≡ numberAt s at
+    f ≡ foundAt (at + 1) (drop (at + 1) s) (moreOf v (drop (at + 1) s)) → f ≡ numberAt s at
 number-field s at v f h e p =
     p ∙ field-step s at (moreOf v (drop (at + 1) s)) h (more-leaves v (drop (at + 1) s)) ∙
-    ap (fieldAt at (drop at s)) (sym e)
+    ap (foundAt at (drop at s)) (sym e)
 
 -- one position after another
 pub within-self : (s : List ℕ) (at : ℕ) → Within s at at

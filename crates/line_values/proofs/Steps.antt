@@ -13,9 +13,9 @@ use borrow.Author.Tests.{lt-ltb, le-ltb, le-leb, lt-leb, eqb-true, eq-eqb, ne-eq
 use Rattle.dates.specs.declared.{DayAnswer.DayAnswer}
 use Rattle.dates.specs.Numbers.{dayAnswer}
 use Rattle.dates.proofs.Every.{and-left, and-right}
-use Rattle.line_values.specs.Words.{isSame}
-use Rattle.line_values.specs.Numbers.{number, bad, isDigit, moreOf, numberOf, fixedOf}
-use Rattle.line_values.specs.Days.{dayRead, dayIn}
+use Rattle.line_values.specs.Pinned.Words.{isSame}
+use Rattle.line_values.specs.Pinned.Numbers.{number, bad, isDigit, moreOf, numberOf, fixedOf}
+use Rattle.line_values.specs.Pinned.Days.{dayRead, dayIn}
 
 -- the tests of a digit
 pub below-digit : (c : ℕ) → c < 48 → isDigit c ≡ false

@@ -1,4 +1,3 @@
-pub mod Words
-pub mod Numbers
-pub mod Days
+pub mod Pinned
 pub mod OneText
+pub mod Between

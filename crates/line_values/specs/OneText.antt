@@ -7,8 +7,8 @@ use mathlib.Core.List.{List, [], _∷_}
 use Rattle.dates.specs.Dates.{lastDay}
 use Rattle.line_text.specs.Decimal.{decimal}
 use Rattle.line_text.specs.Days.{dayText}
-use Rattle.line_values.specs.Numbers.{number, numberOf, isDigit}
-use Rattle.line_values.specs.Days.{dayIn}
+use Rattle.line_values.specs.Pinned.Numbers.{number, numberOf, isDigit}
+use Rattle.line_values.specs.Pinned.Days.{dayIn}
 
 -- A text that does not go on with a digit.
 abbrev pub Stops : List ℕ → Type 0

@@ -7,9 +7,9 @@ use native.Mathlib.Omega.{arith}
 use borrow.Author.Tests.{leb-true, leb-false}
 use lib.Dec.{leb}
 use lib.ListN.{length, take, drop, length-take, length-drop}
-use Rattle.line_text.specs.Appending.{Appended}
+use Rattle.line_text.specs.Between.Appending.{Appended}
 use Rattle.line_text.proofs.Appends.{room-put, no-room, appended-length}
-use Rattle.input_lines.specs.Lines.{untilFeed}
+use Rattle.input_lines.specs.Between.Feeds.{untilFeed}
 use Rattle.input_lines.proofs.Feeds.{until-le, fitting-le}
 use Rattle.input_pieces.specs.declared.{Session.Session, Fed.Fed}
 use Rattle.input_pieces.specs.Session.{FedBy, fedAs, takenOf}

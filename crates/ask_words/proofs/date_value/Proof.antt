@@ -1,7 +1,7 @@
 -- The value of a word that is a date.
 use mathlib.Core.Path.{ap, _∙_}
 use lib.ListN.{length}
-use Rattle.line_values.specs.Days.{dayIn}
+use Rattle.line_values.specs.Pinned.Days.{dayIn}
 use Rattle.line_values.proofs.Places.{day-leaves}
 use Rattle.ask_words.specs.Asked.{dateValue}
 use Rattle.ask_words.specs.Between.Whole.{wholeOf}

@@ -1,7 +1,7 @@
 -- The value of a word that is a number.
 use mathlib.Core.Path.{ap, _∙_}
 use lib.ListN.{length}
-use Rattle.line_values.specs.Numbers.{numberOf}
+use Rattle.line_values.specs.Pinned.Numbers.{numberOf}
 use Rattle.line_values.proofs.Places.{number-leaves}
 use Rattle.ask_words.specs.Asked.{numberValue}
 use Rattle.ask_words.specs.Between.Whole.{wholeOf}

@@ -4,7 +4,7 @@ use Rattle.input_lines.proofs.append_to.Tie as tie
 use mathlib.Core.Path.{sym}
 use lib.Seq.{length-take-le}
 use native.Mathlib.Omega.{arith}
-use Rattle.input_lines.proofs.Parts.{part-appended}
+use Rattle.input_lines.proofs.KeptBytes.{begun-appended}
 
 slice-aggregate-put-word-2 : tie.Need-slice-aggregate-put-word-2
 slice-aggregate-put-word-2 c =
@@ -17,7 +17,7 @@ slice-aggregate-put-word-4 c =
 
 returns : tie.Need-returns
 returns c =
-    part-appended ((c .before .before .before .before .before .before .before .before .before .before .before) .args .t1)
+    begun-appended ((c .before .before .before .before .before .before .before .before .before .before .before) .args .t1)
     ((c .before .before .before .before .before .before .before .before .before .before .before) .args .more .now)
     ((c .before .before .before .before .before .before .before .before .before .before .before) .args .len)
     ((c .before .before .before .before .before .before .before .before .before .smaller) .result)

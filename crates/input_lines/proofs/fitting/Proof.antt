@@ -6,7 +6,7 @@ use mathlib.Core.Path.{_≡_, sym, _∙_}
 use lib.ListN.{length, drop, length-drop}
 use native.Mathlib.Omega.{arith}
 use native.Mathlib.Numerals.{add-one}
-use Rattle.input_lines.specs.Lines.{fitting}
+use Rattle.input_lines.specs.Between.Feeds.{fitting}
 use Rattle.input_lines.proofs.Feeds.{fitting-all, fitting-over, fitting-next, fitting-le}
 
 abbrev Inv-loop : tie.InvT-loop

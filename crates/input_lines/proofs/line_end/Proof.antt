@@ -6,7 +6,7 @@ use mathlib.Core.Path.{_≡_, refl}
 use lib.ListN.{length, drop, length-drop}
 use native.Mathlib.Omega.{arith}
 use native.Mathlib.Numerals.{add-one}
-use Rattle.input_lines.specs.Lines.{untilFeed}
+use Rattle.input_lines.specs.Between.Feeds.{untilFeed}
 use Rattle.input_lines.proofs.Feeds.{until-here, until-later, until-le}
 
 abbrev Inv-loop : tie.InvT-loop

@@ -7,4 +7,4 @@ use Rattle.input_whole.specs.Ends.{startSession}
 pub start-spec : {M : Type 1} → statement M
 start-spec =
     tie.close (tie.spec (λ c κs. search needs) (λ c κs. search needs)
-    (λ c. unfold startSession in rw (c .before .no-register .ensures, c .no-part .ensures)))
+    (λ c. unfold startSession in rw (c .before .no-register .ensures, c .nothing-begun .ensures)))

@@ -1,4 +1,4 @@
--- `answer_lines::day_shown` meets its contract: the first day past the calendar is written 00000000.
+-- `line_answers::day_shown` meets its contract: the first day past the calendar is written 00000000.
 use Rattle.dates.specs.Numbers.{dateAnswer}
 use Rattle.line_text.specs.Decimal.{fixed}
 use borrow.Author.Needs.{needs}

@@ -1,5 +1,5 @@
--- `answer_lines::put_answer` meets its contract: the line is put piece by piece, where there is room for all of it.
-use Prim.Native.Nat.{ℕ}
+-- `line_answers::put_answer` meets its contract: the line is put piece by piece, where there is room for all of it.
+use Prim.Native.Nat.{ℕ, _+_, _≤_}
 use mathlib.Core.Path.{ap, _∙_}
 use mathlib.Core.List.{List, [], _∷_}
 use native.Mathlib.Omega.{arith}
@@ -9,58 +9,24 @@ use Rattle.line_text.specs.Decimal.{decimal}
 use Rattle.line_text.proofs.Appends.{not-appended, rest-start, rest-next, rest-done}
 use Rattle.line_kinds.specs.Kinds.{word}
 use Rattle.line_answers.specs.Answers.{shownKind, verdict, dateShown, answerLine}
-use Rattle.line_kinds.proofs.KindTable.{word-padded}
-use Rattle.line_answers.proofs.LineTexts.{digits-few, answerPieces, answer-pieces, answer-size}
+use Rattle.line_answers.proofs.LineTexts.{answerPieces, answer-pieces, answer-size}
 use borrow.Author.Needs.{needs}
 use Rattle.line_answers.proofs.put_answer.Statement.{statement}
 use Rattle.line_answers.proofs.put_answer.Tie as tie
 
-add-size : tie.Need-add-size
-add-size c =
-    let c₂ = c .before .before in
-    let c₃ = c₂ .before in
-    let c₄ = c₃ .before in
-    let few = digits-few (c₄ .number-of .result) (omega arith) in
-    let digits = c .before .digit-count .ensures in
-    let name = word-padded (c₃ .shown-kind .result) _ (c₂ .word-of .ensures) .short in omega arith
-
-add-size-2 : tie.Need-add-size-2
-add-size-2 c =
-    let c₂ = c .before .before in
-    let c₃ = c₂ .before in
-    let c₄ = c₃ .before in
-    let few = digits-few (c₄ .number-of .result) (omega arith) in
-    let digits = c .before .digit-count .ensures in
-    let name = word-padded (c₃ .shown-kind .result) _ (c₂ .word-of .ensures) .short in omega arith
-
 returns : tie.Need-returns
 returns c =
     let c₂ = c .before .before in
-    let c₃ = c₂ .before in
-    let c₄ = c₃ .before in
-    let c₅ = c₄ .before in
-    let c₇ = c₅ .before .before in
-    let a = c₇ .args in
-    let n = c₅ .number-of in
-    let k = c₄ .shown-kind in
-    let name = word-padded (k .result) _ (c₃ .word-of .ensures) .long in
-    let size = answer-size (a .kind) (a .answer) (n .result) (k .result) _ _ (n .ensures) (k .ensures) name
-    (c₂ .digit-count .ensures) in
+    let a = c₂ .before .before .before .args in
+    let size = answer-size (a .kind) (a .answer) _ _ _ (c₂ .before .number-of .ensures) (c₂ .shown-kind .ensures) (c .before .answer-size .ensures) in
     not-appended (a .at) (answerLine (a .kind) (a .answer)) (a .out .now) (omega arith)
 
 returns-2 : tie.Need-returns-2
 returns-2 c =
     let c₃ = c .before .before .before in
-    let c₄ = c₃ .before in
-    let c₅ = c₄ .before in
-    let c₆ = c₅ .before in
-    let c₈ = c₆ .before .before in
-    let a = c₈ .args in
-    let n = c₆ .number-of in
-    let k = c₅ .shown-kind in
-    let name = word-padded (k .result) _ (c₄ .word-of .ensures) .long in
-    let size = answer-size (a .kind) (a .answer) (n .result) (k .result) _ _ (n .ensures) (k .ensures) name
-    (c₃ .digit-count .ensures) in
+    let a = c₃ .before .before .before .args in
+    let size = answer-size (a .kind) (a .answer) _ _ _ (c₃ .before .number-of .ensures) (c₃ .shown-kind .ensures)
+    (c .before .before .answer-size .ensures) in
     not-appended (a .at) (answerLine (a .kind) (a .answer)) (a .out .now) (omega arith)
 
 returns-3 : tie.Need-returns-3
@@ -72,26 +38,18 @@ returns-3 c =
     let c₁₅ = c₁₁ .before .before .before .before in
     let c₁₉ = c₁₅ .before .before .before .before in
     let c₂₃ = c₁₉ .before .before .before .before in
-    let c₂₅ = c₂₃ .before .before in
-    let c₂₆ = c₂₅ .before in
-    let c₂₈ = c₂₆ .before .before in
-    let c₂₉ = c₂₈ .before in
-    let c₃₀ = c₂₉ .before in
-    let c₃₁ = c₃₀ .before in
-    let c₃₃ = c₃₁ .before .before in
-    let a = c₃₃ .args in
-    let n = c₃₁ .number-of in
-    let k = c₃₀ .shown-kind in
-    let name = word-padded (k .result) _ (c₂₉ .word-of .ensures) .long in
-    let size = answer-size (a .kind) (a .answer) (n .result) (k .result) _ _ (n .ensures) (k .ensures) name
-    (c₂₈ .digit-count .ensures) in
+    let c₂₇ = c₂₃ .before .before .before .before in
+    let n = c₂₇ .before .before .number-of in
+    let k = c₂₇ .before .shown-kind in
+    let a = c₂₇ .before .before .before .before .args in
     let pieces = answer-pieces (a .kind) (a .answer) in
     let shown = k .ensures ∙ ap (shownKind (a .kind)) (n .ensures) in
     let t = answerPieces (a .kind) (a .answer) in
     let o = a .out .now in
-    let before = c₂₆ .if1 .left in
-    let behind = c₂₅ .if2 .left in
-    let s₀ = rest-start (a .at) t o (omega (arith, ap length pieces)) in
+    let size = answer-size (a .kind) (a .answer) _ _ _ (n .ensures) (k .ensures) (c₂₇ .answer-size .ensures) in
+    let fits : a .at + length t ≤ length o =
+    omega (arith, ap length pieces, c₂₃ .before .before .before .if1 .left, c₂₃ .before .before .if2 .left) in
+    let s₀ = rest-start (a .at) t o fits in
     let w = word (shownKind (a .kind) (number (a .answer))) in
     let s₁ = rest-next (a .at) t o _ w _ _ _ _ s₀ (rw shown at (c₂₃ .put-kind .ensures)) in
     let v : List ℕ = 59 ∷ verdict (isAccepted (a .answer)) ∷ 59 ∷ [] in
@@ -105,7 +63,7 @@ returns-3 c =
 
 pub put-answer-spec : {M : Type 1} → statement M
 put-answer-spec =
-    tie.close (tie.spec (λ c κs. search needs) (λ c κs. search needs) (λ c κs. search needs) (λ c. search needs)
-    (λ c κs. search needs) add-size add-size-2 returns (λ c. search needs) returns-2 (λ c κs. search needs)
-    (λ c κs. search needs) (λ c. search needs) (λ c κs. search needs) (λ c κs. search needs) (λ c κs. search needs)
-    (λ c κs. search needs) (λ c κs. search needs) (λ c. search needs) returns-3)
+    tie.close (tie.spec (λ c κs. search needs) (λ c κs. search needs) (λ c κs. search needs) returns
+    (λ c. search needs) returns-2 (λ c κs. search needs) (λ c κs. search needs) (λ c. search needs)
+    (λ c κs. search needs) (λ c κs. search needs) (λ c κs. search needs) (λ c κs. search needs) (λ c κs. search needs)
+    (λ c. search needs) returns-3)

@@ -1,4 +1,5 @@
--- `answer_lines::put_period` meets its contract: the line is put piece by piece, where there is room for all of it.
+-- `line_answers::put_period` meets its contract: the line is put piece by piece, where there is room for all of it.
+use Prim.Native.Nat.{_+_, _≤_}
 use mathlib.Core.Path.{ap}
 use mathlib.Core.List.{[], _∷_}
 use native.Mathlib.Omega.{arith}
@@ -7,59 +8,20 @@ use Rattle.line_text.specs.Decimal.{decimal}
 use Rattle.line_text.specs.Days.{dayText}
 use Rattle.line_text.proofs.Appends.{not-appended, rest-start, rest-next, rest-done}
 use Rattle.line_answers.specs.Answers.{periodLine}
-use Rattle.line_answers.proofs.LineTexts.{digits-few, periodPieces, period-pieces, period-length}
+use Rattle.line_answers.proofs.LineTexts.{periodPieces, period-pieces}
 use borrow.Author.Needs.{needs}
 use Rattle.line_answers.proofs.put_period.Statement.{statement}
 use Rattle.line_answers.proofs.put_period.Tie as tie
 
-add-size : tie.Need-add-size
-add-size c =
-    let a = c .before .before .before .before .before .args in
-    let p = c .before .digit-count .ensures in
-    let h = c .digit-count2 .ensures in
-    let few-p = digits-few (a .point) (omega arith) in
-    let few-h = digits-few (a .period .holder) (omega arith) in
-    omega arith
-
-add-size-2 : tie.Need-add-size-2
-add-size-2 c =
-    let a = c .before .before .before .before .before .before .args in
-    let p = c .before .before .digit-count .ensures in
-    let h = c .before .digit-count2 .ensures in
-    let v = c .digit-count3 .ensures in
-    let few-p = digits-few (a .point) (omega arith) in
-    let few-h = digits-few (a .period .holder) (omega arith) in
-    let few-v = digits-few (a .period .volume) (omega arith) in
-    omega arith
-
-add-size-3 : tie.Need-add-size-3
-add-size-3 c =
-    let a = c .before .before .before .before .before .before .args in
-    let p = c .before .before .digit-count .ensures in
-    let h = c .before .digit-count2 .ensures in
-    let v = c .digit-count3 .ensures in
-    let few-p = digits-few (a .point) (omega arith) in
-    let few-h = digits-few (a .period .holder) (omega arith) in
-    let few-v = digits-few (a .period .volume) (omega arith) in
-    omega arith
-
 returns : tie.Need-returns
 returns c =
-    let a = c .before .before .before .before .before .before .before .args in
-    let p = c .before .before .before .digit-count .ensures in
-    let h = c .before .before .digit-count2 .ensures in
-    let v = c .before .digit-count3 .ensures in
-    let size = period-length (a .point) (a .period) in
-    not-appended (a .at) (periodLine (a .point) (a .period)) (a .out .now) (omega arith)
+    let a = c .before .before .before .before .before .args in
+    not-appended (a .at) (periodLine (a .point) (a .period)) (a .out .now) (omega (arith, c .before .period-size .ensures))
 
 returns-2 : tie.Need-returns-2
 returns-2 c =
-    let a = c .before .before .before .before .before .before .before .before .args in
-    let p = c .before .before .before .before .digit-count .ensures in
-    let h = c .before .before .before .digit-count2 .ensures in
-    let v = c .before .before .digit-count3 .ensures in
-    let size = period-length (a .point) (a .period) in
-    not-appended (a .at) (periodLine (a .point) (a .period)) (a .out .now) (omega arith)
+    let a = c .before .before .before .before .before .before .args in
+    not-appended (a .at) (periodLine (a .point) (a .period)) (a .out .now) (omega (arith, c .before .before .period-size .ensures))
 
 returns-3 : tie.Need-returns-3
 returns-3 c =
@@ -71,23 +33,14 @@ returns-3 c =
     let c₂₂ = c₁₈ .before .before .before .before in
     let c₂₆ = c₂₂ .before .before .before .before in
     let c₃₀ = c₂₆ .before .before .before .before in
-    let c₃₂ = c₃₀ .before .before in
-    let c₃₃ = c₃₂ .before in
-    let c₃₄ = c₃₃ .before in
-    let c₃₅ = c₃₄ .before in
-    let c₃₆ = c₃₅ .before in
-    let c₄₀ = c₃₆ .before .before .before .before in
-    let a = c₄₀ .args in
-    let p = c₃₆ .digit-count .ensures in
-    let h = c₃₅ .digit-count2 .ensures in
-    let v = c₃₄ .digit-count3 .ensures in
-    let size = period-length (a .point) (a .period) in
+    let c₃₄ = c₃₀ .before .before .before .before in
+    let a = c₃₄ .before .before .before .before .args in
     let pieces = period-pieces (a .point) (a .period) in
     let t = periodPieces (a .point) (a .period) in
     let o = a .out .now in
-    let before = c₃₃ .if1 .left in
-    let behind = c₃₂ .if2 .left in
-    let s₀ = rest-start (a .at) t o (omega (arith, ap length pieces)) in
+    let fits : a .at + length t ≤ length o =
+    omega (arith, ap length pieces, c₃₄ .period-size .ensures, c₃₀ .before .before .before .if1 .left, c₃₀ .before .before .if2 .left) in
+    let s₀ = rest-start (a .at) t o fits in
     let s₁ = rest-next (a .at) t o _ (decimal (a .point) []) _ _ _ _ s₀ (c₃₀ .put-number .ensures) in
     let s₂ = rest-next (a .at) t o _ (59 ∷ []) _ _ _ _ s₁ (c₂₆ .put-byte .ensures) in
     let s₃ = rest-next (a .at) t o _ (dayText (a .period .start) []) _ _ _ _ s₂ (c₂₂ .put-day .ensures) in
@@ -99,7 +52,7 @@ returns-3 c =
 
 pub put-period-spec : {M : Type 1} → statement M
 put-period-spec =
-    tie.close (tie.spec (λ c. search needs) (λ c. search needs) (λ c κs. search needs) (λ c κs. search needs) add-size
-    (λ c κs. search needs) add-size-2 add-size-3 returns (λ c. search needs) returns-2 (λ c κs. search needs)
-    (λ c κs. search needs) (λ c κs. search needs) (λ c κs. search needs) (λ c κs. search needs) (λ c κs. search needs)
-    (λ c κs. search needs) (λ c κs. search needs) (λ c. search needs) returns-3)
+    tie.close (tie.spec (λ c. search needs) (λ c. search needs) (λ c κs. search needs) returns (λ c. search needs)
+    returns-2 (λ c κs. search needs) (λ c κs. search needs) (λ c κs. search needs) (λ c κs. search needs)
+    (λ c κs. search needs) (λ c κs. search needs) (λ c κs. search needs) (λ c κs. search needs) (λ c. search needs)
+    returns-3)

@@ -1,4 +1,4 @@
--- `answer_lines::put_verdict` meets its contract: three bytes.
+-- `line_answers::put_verdict` meets its contract: three bytes.
 use borrow.Author.Needs.{needs}
 use Rattle.line_answers.proofs.put_verdict.Statement.{statement}
 use Rattle.line_answers.proofs.put_verdict.Tie as tie

@@ -1,4 +1,4 @@
--- `answer_lines::shown_kind` meets its contract: only 31 hides the kind.
+-- `line_answers::shown_kind` meets its contract: only 31 hides the kind.
 use borrow.Author.Tests.{eq-eqb, ne-eqb}
 use Rattle.line_answers.proofs.shown_kind.Statement.{statement}
 use Rattle.line_answers.proofs.shown_kind.Tie as tie

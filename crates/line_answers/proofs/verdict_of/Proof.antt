@@ -1,4 +1,4 @@
--- `answer_lines::verdict_of` meets its contract, answer by answer.
+-- `line_answers::verdict_of` meets its contract, answer by answer.
 use borrow.Author.Needs.{needs}
 use Rattle.line_answers.proofs.verdict_of.Statement.{statement}
 use Rattle.line_answers.proofs.verdict_of.Tie as tie

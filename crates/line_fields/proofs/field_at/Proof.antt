@@ -1,4 +1,4 @@
--- `fields::field_at` meets its contract: a `;`, and then what the sort asks for.
+-- `line_fields::field_at` meets its contract: a `;`, and then what the sort asks for.
 use Rattle.line_fields.specs.declared.{Sort.Sort}
 use Rattle.line_fields.proofs.FieldSteps.{field-end, field-other}
 use Rattle.line_fields.proofs.Handed.{step-none, field-step}

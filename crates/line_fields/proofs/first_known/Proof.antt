@@ -1,4 +1,4 @@
--- `fields::first_known` meets its contract: the bytes are those of 20000101.
+-- `line_fields::first_known` meets its contract: the bytes are those of 20000101.
 use mathlib.Core.Path.{refl}
 use Rattle.line_fields.proofs.first_known.Statement.{statement}
 use Rattle.line_fields.proofs.first_known.Tie as tie

@@ -1,4 +1,4 @@
--- `fields::four_at` meets its contract: four bytes, one after the other.
+-- `line_fields::four_at` meets its contract: four bytes, one after the other.
 use native.Mathlib.Omega.{arith}
 use Rattle.line_fields.proofs.KnownDates.{four-bytes}
 use borrow.Author.Needs.{needs}

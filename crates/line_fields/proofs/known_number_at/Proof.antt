@@ -1,7 +1,7 @@
--- `fields::known_number_at` meets its contract: the number, and the date that was known.
+-- `line_fields::known_number_at` meets its contract: the number, and the date that was known.
 use lib.ListN.{drop}
-use Rattle.line_values.specs.Numbers.{numberOf}
-use Rattle.line_fields.proofs.Handed.{number-step, number-none}
+use Rattle.line_values.specs.Pinned.Numbers.{numberOf}
+use Rattle.line_fields.proofs.Handed.{found-value, found-none}
 use borrow.Author.Needs.{needs}
 use Rattle.line_fields.proofs.known_number_at.Statement.{statement}
 use Rattle.line_fields.proofs.known_number_at.Tie as tie
@@ -11,14 +11,14 @@ returns c =
     let c₂ = c .before .before in
     let a = c₂ .before .before .args in
     let l = drop (a .at) (a .s .now) in
-    number-none (a .at) l _ (a .known) (numberOf l) (c₂ .number-at .ensures) (c .enum-told .given .1)
+    found-none (a .at) l _ (λ n. a .known) (numberOf l) (c₂ .number-at .ensures) (c .enum-told .given .1)
 
 returns-2 : tie.Need-returns-2
 returns-2 c =
     let c₃ = c .before .before .before in
     let a = c₃ .before .before .args in
     let l = drop (a .at) (a .s .now) in
-    number-step (a .at) l _ (a .known) _ _ (numberOf l) (c₃ .number-at .ensures) (c .before .v .given .1)
+    found-value (a .at) l _ (λ n. a .known) _ _ (numberOf l) (c₃ .number-at .ensures) (c .before .v .given .1)
 
 pub known-number-at-spec : {M : Type 1} → statement M
 known-number-at-spec =

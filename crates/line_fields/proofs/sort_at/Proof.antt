@@ -1,4 +1,4 @@
--- `fields::sort_at` meets its contract, test by test.
+-- `line_fields::sort_at` meets its contract, test by test.
 use native.Mathlib.Omega.{arith}
 use borrow.Author.Tests.{eq-eqb, ne-eqb}
 use Rattle.line_fields.proofs.sort_at.Statement.{statement}

@@ -1,6 +1,6 @@
 -- The lines of the periods passed so far stand behind the position.
 use borrow.Author.Needs.{needs}
-use Rattle.line_text.specs.Appending.{AppendedWithin}
+use Rattle.line_text.specs.Between.Appending.{AppendedWithin}
 use Rattle.line_listing.proofs.put_periods.Statement.{statement}
 use Rattle.line_listing.proofs.put_periods.Tie as tie
 use Prim.Native.Nat.{_+_, _-_, _*_, _≤_}

@@ -5,7 +5,7 @@ use mathlib.Core.Path.{_≡_}
 use mathlib.Core.List.{List, [], _∷_, _++_}
 use lib.ListN.{length, take, drop}
 use Rattle.rules.specs.declared.{Point.Point, Register.Register}
-use Rattle.line_text.specs.Appending.{put}
+use Rattle.line_text.specs.Between.Appending.{put}
 use Rattle.line_listing.specs.declared.{Listed.Listed}
 use Rattle.line_listing.specs.Listing.{listingFrom, listing}
 

@@ -1,4 +1,4 @@
--- `message::message_of` meets its contract, kind by kind.
+-- `line_messages::message_of` meets its contract, kind by kind.
 
 use borrow.Author.Needs.{needs}
 use Rattle.line_messages.proofs.message_of.Statement.{statement}

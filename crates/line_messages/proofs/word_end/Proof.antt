@@ -1,9 +1,9 @@
--- `message::word_end` meets its contract: the bytes passed, and the word's end from here on, are the word's end.
+-- `line_messages::word_end` meets its contract: the bytes passed, and the word's end from here on, are the word's end.
 use Prim.Native.Nat.{_≤_, _+_, _-_}
 use mathlib.Core.Path.{_≡_}
 use native.Mathlib.Omega.{arith}
 use lib.ListN.{length, drop}
-use Rattle.line_messages.specs.Reading.{wordEnd}
+use Rattle.line_messages.specs.Pinned.Reading.{wordEnd}
 use Rattle.line_messages.proofs.WordEnds.{end-here, end-past, end-none}
 use borrow.Author.Needs.{needs}
 use Rattle.line_messages.proofs.word_end.Statement.{statement}

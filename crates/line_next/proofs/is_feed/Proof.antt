@@ -1,4 +1,4 @@
--- `next_line::is_feed` meets its contract: the byte at the position, where there is one.
+-- `line_next::is_feed` meets its contract: the byte at the position, where there is one.
 use mathlib.Core.Path.{sym}
 use Rattle.line_next.proofs.NextLines.{feed-off, feed-at}
 use borrow.Author.Needs.{needs}

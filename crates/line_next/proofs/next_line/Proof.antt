@@ -1,8 +1,8 @@
--- `next_line::next_line` meets its contract: by its fields where they end at a line feed, else by its end.
+-- `line_next::next_line` meets its contract: by its fields where they end at a line feed, else by its end.
 use mathlib.Core.Path.{_≡_, sym, _∙_}
 use mathlib.Core.Logic.{⊎-elim}
 use mathlib.Core.Bool.{false, _&&_}
-use Rattle.line_next.specs.NextLine.{feedFirst}
+use Rattle.line_next.specs.Between.NextLine.{feedFirst}
 use Rattle.line_next.proofs.Handed.{next-off, next-by-end, next-by-fields}
 use borrow.Author.Needs.{needs}
 use Rattle.line_next.proofs.next_line.Statement.{statement}
@@ -13,44 +13,35 @@ use native.Mathlib.Omega.{arith}
 
 returns-2 : tie.Need-returns-2
 returns-2 c =
-    let c₂ = c .before .before in
-    let c₃ = c₂ .before in
-    let c₅ = c₃ .before .before in
-    let c₇ = c₅ .before .before in
-    let c₈ = c₇ .before in
-    let c₁₀ = c₈ .before .before in
-    let c₁₁ = c₁₀ .before in
-    let c₁₃ = c₁₁ .before .before in
-    let a = c₁₃ .args in
-    let feed = sym (c₂ .is-feed .ensures) ∙ c .before .if3 .taken in
-    rw (c .message-of .ensures)
-    (next-by-fields (a .last) (a .buf .now) (a .from) (c₁₀ .word-end-from .result) (c₈ .kind-named .result)
-    (c₇ .shape-of .result) _ _ (c₅ .read-row .result) (c₁₀ .word-end-from .ensures .0) (c₁₀ .word-end-from .ensures .1)
-    (c₈ .kind-named .ensures) (c₇ .shape-of .ensures) (c₅ .read-row .ensures) (c₃ .if2 .taken) feed)
+    let c₅ = c .before .before .before .before .before in
+    let c₈ = c₅ .before .before .before in
+    let c₁₁ = c₈ .before .before .before in
+    let a = c₁₁ .before .before .before .args in
+    let feed = sym (c .before .before .is-feed .ensures) ∙ c .before .if3 .taken in
+    next-by-fields (a .last) (a .buf .now) (a .from) _ _ _ _ _ (c₁₁ .word-end-from .ensures .0)
+    (c₁₁ .word-end-from .ensures .1) (c₈ .before .kind-named .ensures) (c₈ .row-of .ensures) (c₅ .read-fields .ensures)
+    (c .before .before .before .if2 .taken) feed _ (c .message-of .ensures)
 
 part-read-line-end : tie.Need-part-read-line-end
 part-read-line-end c =
-    let c₉ = c .before .before .before .before .before .before .before .before .before in
-    let a = c₉ .before .before .args in
+    let c₁₀ = c .before .before .before .before .before .before .before .before .before .before in
+    let a = c₁₀ .before .before .args in
     let until = until-le (drop (a .from) (a .buf .now)) in
-    omega (arith, c .line-end .ensures, c₉ .if1 .left, until, length-drop (a .from) (a .buf .now))
+    omega (arith, c .line-end .ensures, c₁₀ .if1 .left, until, length-drop (a .from) (a .buf .now))
 
 returns-3 : tie.Need-returns-3
 returns-3 c =
-    let c₂ = c .before .before in
-    let c₃ = c₂ .before in
+    let c₃ = c .before .before .before in
     let c₅ = c₃ .before .before in
-    let c₇ = c₅ .before .before in
-    let c₈ = c₇ .before in
-    let c₁₀ = c₈ .before .before in
-    let a = c₁₀ .before .before .before .args in
-    let row = c₅ .read-row .result in
-    let other : (row .ok && feedFirst (drop (row .end) (a .buf .now))) ≡ false =
+    let c₈ = c₅ .before .before .before in
+    let c₁₁ = c₈ .before .before .before in
+    let a = c₁₁ .before .before .before .args in
+    let r = c₅ .read-fields .result in
+    let other : (r .ok && feedFirst (drop (r .end) (a .buf .now))) ≡ false =
     ⊎-elim (λ w. rw (w .0 .taken, sym (w .1 .ensures) ∙ w .2 .left)) (λ w. rw (w .left)) (c₃ .if2 .came) in
-    next-by-end (a .last) (a .buf .now) (a .from) (c₁₀ .word-end-from .result) (c₈ .kind-named .result)
-    (c₇ .shape-of .result) _ _ row (c₁₀ .word-end-from .ensures .0) (c₁₀ .word-end-from .ensures .1)
-    (c₈ .kind-named .ensures) (c₇ .shape-of .ensures) (c₅ .read-row .ensures) other _ _ (c₂ .line-end .ensures)
-    (c .read-line .ensures)
+    next-by-end (a .last) (a .buf .now) (a .from) _ _ _ _ r (c₁₁ .word-end-from .ensures .0)
+    (c₁₁ .word-end-from .ensures .1) (c₈ .before .kind-named .ensures) (c₈ .row-of .ensures) (c₅ .read-fields .ensures) other
+    _ _ (c .before .before .line-end .ensures) (c .read-line .ensures)
 
 pub next-line-spec : {M : Type 1} → statement M
 next-line-spec =

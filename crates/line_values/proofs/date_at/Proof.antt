@@ -1,4 +1,4 @@
--- `reading::date_at` meets its contract: the year, the month, the day, and then the calendar.
+-- `line_values::date_at` meets its contract: the year, the month, the day, and then the calendar.
 use mathlib.Core.Path.{sym, _∙_}
 use Rattle.line_values.proofs.Places.{field-value, field-bad, fixed-was, fixed-was-bad, within-on}
 use Rattle.line_values.proofs.Steps.{day-no-year, day-no-month, day-no-day, day-is}

@@ -1,4 +1,4 @@
--- `reading::digit` meets its contract.
+-- `line_values::digit` meets its contract.
 use native.Mathlib.Omega.{arith}
 use borrow.Author.Needs.{needs}
 use Rattle.line_values.proofs.digit.Statement.{statement}

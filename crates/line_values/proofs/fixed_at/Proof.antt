@@ -1,9 +1,9 @@
--- `reading::fixed_at` meets its contract: what is read from the first digit is what is read from here on.
+-- `line_values::fixed_at` meets its contract: what is read from the first digit is what is read from here on.
 use Prim.Native.Nat.{_≤_, _<_, _+_, _-_, _^_}
 use mathlib.Core.Path.{_≡_, refl, _∙_}
 use native.Mathlib.Omega.{arith}
 use lib.ListN.{length, drop, length-drop}
-use Rattle.line_values.specs.Numbers.{fixedOf}
+use Rattle.line_values.specs.Pinned.Numbers.{fixedOf}
 use Rattle.line_values.proofs.Places.{field-value, field-bad}
 use Rattle.line_values.proofs.Steps.{below-digit, above-digit, in-digit, fixed-none, fixed-on, fixed-few, fixed-end, fixed-small, fixed-grows}
 use borrow.Author.Needs.{needs}

@@ -1,9 +1,9 @@
--- `reading::more_digits` meets its contract: what is read from the first digit is what is read from here on.
+-- `line_values::more_digits` meets its contract: what is read from the first digit is what is read from here on.
 use Prim.Native.Nat.{_<_, _-_, _^_}
 use mathlib.Core.Path.{_≡_, refl, _∙_}
 use native.Mathlib.Omega.{arith}
 use lib.ListN.{length, drop}
-use Rattle.line_values.specs.Numbers.{moreOf}
+use Rattle.line_values.specs.Pinned.Numbers.{moreOf}
 use Rattle.line_values.proofs.Places.{Within, field-value, field-bad, within-self, within-next}
 use Rattle.line_values.proofs.Steps.{below-digit, above-digit, in-digit, more-end, more-stop, more-full, more-on}
 use borrow.Author.Needs.{needs}

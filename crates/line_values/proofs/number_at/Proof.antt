@@ -1,8 +1,8 @@
--- `reading::number_at` meets its contract: the first byte decides.
+-- `line_values::number_at` meets its contract: the first byte decides.
 use Prim.Native.Nat.{ℕ, _+_}
 use mathlib.Core.Path.{sym, ap, _∙_}
 use lib.ListN.{drop}
-use Rattle.line_values.specs.Numbers.{moreOf}
+use Rattle.line_values.specs.Pinned.Numbers.{moreOf}
 use Rattle.line_values.proofs.Places.{field-value, field-bad, number-field, within-self, within-next}
 use Rattle.line_values.proofs.Steps.{below-digit, above-digit, in-digit, number-end, number-zero, number-none, number-more}
 use borrow.Author.Needs.{needs}

@@ -1,9 +1,9 @@
--- `reading::same` meets its contract: what is left to compare says whether the words are the same.
+-- `line_values::same` meets its contract: what is left to compare says whether the words are the same.
 use Prim.Native.Nat.{_≤_, _-_}
 use mathlib.Core.Path.{_≡_, refl, _∙_, sym}
 use native.Mathlib.Omega.{arith}
 use lib.ListN.{length, drop}
-use Rattle.line_values.specs.Words.{isSame}
+use Rattle.line_values.specs.Pinned.Words.{isSame}
 use Rattle.line_values.proofs.Steps.{other-length, same-on, same-off, same-end}
 use borrow.Author.Needs.{needs}
 use Rattle.line_values.proofs.same.Statement.{statement}

@@ -1,4 +1,4 @@
--- `message_lines::fits` meets its contract, sort by sort.
+-- `line_writing::fits` meets its contract, sort by sort.
 use borrow.Author.Needs.{needs}
 use Rattle.line_writing.proofs.fits.Statement.{statement}
 use Rattle.line_writing.proofs.fits.Tie as tie

@@ -1,27 +1,32 @@
--- `message_lines::is_writable` meets its contract: the parts' values fit.
-use mathlib.Core.Path.{_≡_, sym, _∙_}
+-- `line_writing::is_writable` meets its contract: the fields fit.
+use mathlib.Core.Path.{_≡_, sym, ap, _∙_}
 use mathlib.Core.Logic.{⊎-elim}
 use native.Mathlib.Omega.{arith}
-use Rattle.line_kinds.proofs.KindTable.{few}
+use Rattle.line_fields.specs.Fields.{fitAll}
 use Rattle.line_messages.specs.declared.{Message.Message}
 use Rattle.line_messages.specs.Writing.{isWritable}
-use Rattle.line_messages.proofs.Rows.{writable-parts}
+use Rattle.line_messages.proofs.OneLine.{writable-is}
+use Rattle.line_writing.proofs.WrittenLines.{few-values, values-are}
 use borrow.Author.Needs.{needs}
 use Rattle.line_writing.proofs.is_writable.Statement.{statement}
 use Rattle.line_writing.proofs.is_writable.Tie as tie
 
+fit-all-requires : tie.Need-fit-all-requires
+fit-all-requires c κs =
+    let c₃ = c .before .before .before in
+    few-values (c₃ .before .before .args .m) _ _ (c₃ .values-of .ensures) (c .before .row-of .ensures)
+
 returns-2 : tie.Need-returns-2
 returns-2 c =
-    let c₃ = c .before .before .before in
-    let c₄ = c₃ .before in
-    let c₅ = c₄ .before in
-    let a = c₅ .args in
-    let parts = c₃ .parts-of .ensures in
-    let read : a .m ≡ Message.Unreadable → ⊥ = λ e. ⊎-elim (λ z. omega arith) (λ z. omega arith) (rw e at (c₄ .match .keys2)) in
-    c .fit-all .ensures ∙ rw (c .before .shape-of .ensures, parts) (sym (writable-parts (a .m) read))
+    let c₂ = c .before .before in
+    let c₄ = c₂ .before .before in
+    let m = c₄ .before .before .args .m in
+    let read : m ≡ Message.Unreadable → ⊥ =
+    λ e. ⊎-elim (λ z. omega arith) (λ z. omega arith) (rw e at (c₄ .before .match .keys2)) in
+    c .fit-all .ensures ∙ ap fitAll (values-are m _ _ (c₄ .values-of .ensures) (c₂ .row-of .ensures)) ∙
+    sym (writable-is m read)
 
 pub is-writable-spec : {M : Type 1} → statement M
 is-writable-spec =
     tie.close (tie.spec (λ c. search needs) (λ c. unfold isWritable in rw (c .enum-told .given .1))
-    (λ c κs. search needs) (λ c κs. search needs)
-    (λ c κs. rw (c .shape-of .ensures) (few (c .before .before .parts-of .result .kind))) returns-2)
+    (λ c κs. search needs) (λ c κs. search needs) fit-all-requires returns-2)

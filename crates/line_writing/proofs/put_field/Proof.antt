@@ -1,38 +1,27 @@
--- `message_lines::put_field` meets its contract: the `;`, and then what the sort asks for.
-use mathlib.Core.List.{[], _∷_}
-use native.Mathlib.Omega.{arith}
-use Rattle.line_text.proofs.Appends.{rest-start, rest-next, rest-done}
-use Rattle.line_fields.specs.declared.{Sort.Sort}
-use Rattle.line_fields.specs.Fields.{fieldText}
-use Rattle.line_fields.proofs.FieldTexts.{field-short}
+-- `line_writing::put_field` meets its contract: the `;`, and then what the sort asks for.
+use Rattle.line_writing.proofs.FieldLoops.{field-put}
 use borrow.Author.Needs.{needs}
 use Rattle.line_writing.proofs.put_field.Statement.{statement}
 use Rattle.line_writing.proofs.put_field.Tie as tie
 
 returns : tie.Need-returns
 returns c =
-    let a = c .before .before .before .before .before .before .before .before .before .before .before .args in
-    let p = c .before .before .before .before .before .before .before .before .before .before .before .pre in
-    let told = c .before .before .before .before .enum-told .given .1 in
-    let short = field-short Sort.Date (a .n) (rw told at (p .0)) in
+    let c₄ = c .before .before .before .before in
+    let c₈ = c₄ .before .before .before .before in
+    let s = c₈ .before .before .before in
+    let told = c₄ .enum-told .given .1 in
     rw told
-    (rest-done (a .at) (fieldText Sort.Date (a .n) []) (a .out .now) _ _ _ _ _
-    (rest-next (a .at) (fieldText Sort.Date (a .n) []) (a .out .now) (a .at) (59 ∷ []) _ (a .out .now) _ _
-    (rest-start (a .at) (fieldText Sort.Date (a .n) []) (a .out .now) (omega arith))
-    (c .before .before .before .before .before .before .before .before .put-byte .ensures))
+    (field-put (s .args .at) _ (s .args .out .now) _ _ _ _ (rw told at (s .pre)) (c₈ .put-byte .ensures)
     (c .before .before .put-day .ensures))
 
 returns-2 : tie.Need-returns-2
 returns-2 c =
-    let a = c .before .before .before .before .before .before .before .before .before .before .before .args in
-    let p = c .before .before .before .before .before .before .before .before .before .before .before .pre in
-    let told = c .before .before .before .before .enum-told2 .given .1 in
-    let short = field-short Sort.Number (a .n) (rw told at (p .0)) in
+    let c₄ = c .before .before .before .before in
+    let c₈ = c₄ .before .before .before .before in
+    let s = c₈ .before .before .before in
+    let told = c₄ .enum-told2 .given .1 in
     rw told
-    (rest-done (a .at) (fieldText Sort.Number (a .n) []) (a .out .now) _ _ _ _ _
-    (rest-next (a .at) (fieldText Sort.Number (a .n) []) (a .out .now) (a .at) (59 ∷ []) _ (a .out .now) _ _
-    (rest-start (a .at) (fieldText Sort.Number (a .n) []) (a .out .now) (omega arith))
-    (c .before .before .before .before .before .before .before .before .put-byte .ensures))
+    (field-put (s .args .at) _ (s .args .out .now) _ _ _ _ (rw told at (s .pre)) (c₈ .put-byte .ensures)
     (c .before .before .put-number .ensures))
 
 pub put-field-spec : {M : Type 1} → statement M

@@ -3,13 +3,13 @@ use mathlib.Core.Path.{sym, _∙_}
 use lib.ListN.{length, drop, length-drop}
 use lib.Seq.{take-all}
 use native.Mathlib.Omega.{arith}
-use Rattle.line_fields.specs.Known.{IsKnown}
+use Rattle.line_fields.specs.Between.Known.{IsKnown}
 use Rattle.line_fields.proofs.KnownStays.{first-is-known}
 use Rattle.line_next.proofs.NextLines.{next-right}
-use Rattle.input_lines.specs.Part.{kept}
+use Rattle.input_lines.specs.Between.Begun.{kept}
 use Rattle.input_desk.specs.Desk.{desk}
 use Rattle.input_quick.proofs.Places.{place-lt, supplier-lt}
-use Rattle.input_pieces.proofs.Turns.{Going, line-read}
+use Rattle.input_pieces.proofs.Turns.{Going, line-read, said-is}
 use Rattle.input_pieces.proofs.InTables.{registerIn, Tables, daily-turn, point-turn, register-turn, tables-start, tables-end, tables-set, tables-set-kept}
 use borrow.Author.Needs.{needs}
 use Rattle.input_pieces.proofs.pieces.answer_lines.Statement.{statement}
@@ -58,43 +58,43 @@ returns c =
     (take-all (length (s .piece .now) - l .at) (drop (l .at) (s .piece .now)) (omega (arith, length-drop (l .at) (s .piece .now)))) ((c .at-end) .ensures)
 
 sub-whole-message : tie.Need-sub-whole-message Inv-loop μ-loop
-sub-whole-message c = omega (arith, next-right _ _ _ _ ((c .before .next-line) .ensures) ((c .before .before .before .loop) .inv .1) .end)
+sub-whole-message c = omega (arith, next-right _ _ _ _ ((c .before .before .next-line) .ensures) ((c .before .before .before .before .loop) .inv .1) .end)
 
 part-whole-message-start : tie.Need-part-whole-message-start Inv-loop μ-loop
-part-whole-message-start c = omega (arith, next-right _ _ _ _ ((c .before .next-line) .ensures) ((c .before .before .before .loop) .inv .1) .end)
+part-whole-message-start c = omega (arith, next-right _ _ _ _ ((c .before .before .next-line) .ensures) ((c .before .before .before .before .loop) .inv .1) .end)
 
 add-at : tie.Need-add-at Inv-loop μ-loop
 add-at c =
     omega (
       arith,
-      (c .before .before .before .if1) .left,
-      (c .before .before .before .before .before .before .before .before .before .before .before .before .before .before .before .before .before .before .before .before) .good,
+      (c .before .before .before .before .if1) .left,
+      (c .before .before .before .before .before .before .before .before .before .before .before .before .before .before .before .before .before .before .before .before .before) .good,
     )
 
 mul-n : tie.Need-mul-n Inv-loop μ-loop
-mul-n c = omega (arith, (c .place-of) .ensures, place-lt ((c .before .before .before .before .whole-message) .result))
+mul-n c = omega (arith, (c .place-of) .ensures, place-lt ((c .before .before .before .before .whole-message) .result .message))
 
 array-read-n : tie.Need-array-read-n Inv-loop μ-loop
-array-read-n c = omega (arith, (c .place-of) .ensures, place-lt ((c .before .before .before .before .whole-message) .result))
+array-read-n c = omega (arith, (c .place-of) .ensures, place-lt ((c .before .before .before .before .whole-message) .result .message))
 
 mul-f : tie.Need-mul-f Inv-loop μ-loop
-mul-f c = omega (arith, (c .before .place-of) .ensures, place-lt ((c .before .before .before .before .before .whole-message) .result))
+mul-f c = omega (arith, (c .before .place-of) .ensures, place-lt ((c .before .before .before .before .before .whole-message) .result .message))
 
 array-copy-out-f : tie.Need-array-copy-out-f Inv-loop μ-loop
-array-copy-out-f c = omega (arith, (c .before .place-of) .ensures, place-lt ((c .before .before .before .before .before .whole-message) .result))
+array-copy-out-f c = omega (arith, (c .before .place-of) .ensures, place-lt ((c .before .before .before .before .before .whole-message) .result .message))
 
 mul-q : tie.Need-mul-q Inv-loop μ-loop
-mul-q c = omega (arith, (c .before .before .place-of) .ensures, place-lt ((c .before .before .before .before .before .before .whole-message) .result))
+mul-q c = omega (arith, (c .before .before .place-of) .ensures, place-lt ((c .before .before .before .before .before .before .whole-message) .result .message))
 
 index-1-q : tie.Need-index-1-q Inv-loop μ-loop
-index-1-q c = omega (arith, (c .before .before .place-of) .ensures, place-lt ((c .before .before .before .before .before .before .whole-message) .result))
+index-1-q c = omega (arith, (c .before .before .place-of) .ensures, place-lt ((c .before .before .before .before .before .before .whole-message) .result .message))
 
 mul-fields : tie.Need-mul-fields Inv-loop μ-loop
 mul-fields c =
     omega (
       arith,
       (c .before .before .before .before .before .before .before .place-of) .ensures,
-      place-lt ((c .before .before .before .before .before .before .before .before .before .before .before .whole-message) .result),
+      place-lt ((c .before .before .before .before .before .before .before .before .before .before .before .whole-message) .result .message),
     )
 
 array-set-from-fields : tie.Need-array-set-from-fields Inv-loop μ-loop
@@ -102,7 +102,7 @@ array-set-from-fields c =
     omega (
       arith,
       (c .before .before .before .before .before .before .before .place-of) .ensures,
-      place-lt ((c .before .before .before .before .before .before .before .before .before .before .before .whole-message) .result),
+      place-lt ((c .before .before .before .before .before .before .before .before .before .before .before .whole-message) .result .message),
     )
 
 mul-q-read : tie.Need-mul-q-read Inv-loop μ-loop
@@ -110,7 +110,7 @@ mul-q-read c =
     omega (
       arith,
       (c .before .before .before .before .before .before .before .place-of) .ensures,
-      place-lt ((c .before .before .before .before .before .before .before .before .before .before .before .whole-message) .result),
+      place-lt ((c .before .before .before .before .before .before .before .before .before .before .before .whole-message) .result .message),
     )
 
 index-1-q-read : tie.Need-index-1-q-read Inv-loop μ-loop
@@ -118,7 +118,7 @@ index-1-q-read c =
     omega (
       arith,
       (c .before .before .before .before .before .before .before .place-of) .ensures,
-      place-lt ((c .before .before .before .before .before .before .before .before .before .before .before .whole-message) .result),
+      place-lt ((c .before .before .before .before .before .before .before .before .before .before .before .whole-message) .result .message),
     )
 
 loop-less : tie.Need-loop-less Inv-loop μ-loop
@@ -138,15 +138,16 @@ loop-again c =
     (c .before .before .before .before .before .before .before .before .before .before .before .before .before .before .before .before .before .before .before .before .next-line) in
     let read = next-right _ _ _ _ (line .ensures) (l .inv .1) in
     let m =
-    (c .before .before .before .before .before .before .before .before .before .before .before .before .before .before .before .before .before .whole-message)
+    (c .before .before .before .before .before .before .before .before .before .before .before .before .before .before .before .before .whole-message)
     in
     let piece =
-    (c .before .before .before .before .before .before .before .before .before .before .before .before .before .before .before .before .before .before .before .before .before .before .before .before .before .before .before .before .before .before .before .before .before .before .before .before) .args .piece .now in (
+    (c .before .before .before .before .before .before .before .before .before .before .before .before .before .before .before .before .before .before .before .before .before .before .before .before .before .before .before .before .before .before .before .before .before .before .before .before) .args .piece .now in
+    let s = said-is (m .result) _ (m .ensures (line-read piece (l .at) (line .result .end) (line .result .read) (read .end) (read .read))) in (
       daily-turn piece
-          ((c .before .before .before .before .before .before .before .before .before .before .before .before .before .before .before .before .before .before .before .before .before .before .before .before .before .before .before .before .before .before .before .before .before .before .before .before) .args .out .now) _ _ (l .out) (l .part) (l .ready) (l .set) (l .day) (l .contracts) (l .fields) (l .counts) (l .slots) (l .quiet) (l .at) (l .written) (l .inv .0) (l .inv .2) (line .result .end) (read .end) ((c .before .before .before .before .before .before .before .before .before .before .before .before .before .before .before .before .before .before .before .if1) .left) (m .result) (m .ensures (line-read piece (l .at) (line .result .end) (line .result .message) (read .end) (read .message))) (sym ((c .before .before .before .before .before .before .before .before .before .before .before .before .before .before .before .is-quick) .ensures) ∙ (c .before .before .before .before .before .before .before .before .before .before .before .before .before .before .if2) .taken) ((c .before .before .before .before .before .before .before .before .before .before .before .before .before .place-of) .result) ((c .before .before .before .before .before .before .before .before .before .before .before .before .newest-place) .result) ((c .before .before .before .before .before .before .before .before .before .before .before .before .before .place-of) .ensures) ((c .before .before .before .before .before .before .before .before .before .before .before .before .newest-place) .ensures) _ ((c .before .before .before .before .before .before .before .before .before .daily-of) .result) ((c .before .before .before .before .before .before .before .before .before .daily-of) .ensures) ((c .before .before .before .before .before .before .before .before .if3) .taken) ((c .before .before .before .before .before .day-after) .result) ((c .before .before .before .before .before .day-after) .ensures) ((c .before .before .put-answer) .last .0) ((c .before .before .put-answer) .result) (rw (← ((c .before .before .before .kind-of) .ensures)) ((c .before .before .put-answer) .ensures)),
+          ((c .before .before .before .before .before .before .before .before .before .before .before .before .before .before .before .before .before .before .before .before .before .before .before .before .before .before .before .before .before .before .before .before .before .before .before .before) .args .out .now) _ _ (l .out) (l .part) (l .ready) (l .set) (l .day) (l .contracts) (l .fields) (l .counts) (l .slots) (l .quiet) (l .at) (l .written) (l .inv .0) (l .inv .2) (line .result .end) (read .end) ((c .before .before .before .before .before .before .before .before .before .before .before .before .before .before .before .before .before .before .before .if1) .left) (m .result .message) (s .0) (sym ((c .before .before .before .before .before .before .before .before .before .before .before .before .before .before .is-quick) .ensures) ∙ (c .before .before .before .before .before .before .before .before .before .before .before .before .before .if2) .taken) ((c .before .before .before .before .before .before .before .before .before .before .before .before .place-of) .result) ((c .before .before .before .before .before .before .before .before .before .before .before .newest-place) .result) ((c .before .before .before .before .before .before .before .before .before .before .before .before .place-of) .ensures) ((c .before .before .before .before .before .before .before .before .before .before .before .newest-place) .ensures) _ ((c .before .before .before .before .before .before .before .before .daily-of) .result) ((c .before .before .before .before .before .before .before .before .daily-of) .ensures) ((c .before .before .before .before .before .before .before .if3) .taken) ((c .before .before .before .before .day-after) .result) ((c .before .before .before .before .day-after) .ensures) ((c .before .before .put-answer) .last .0) ((c .before .before .put-answer) .result) (rw (s .1) at ((c .before .before .put-answer) .ensures)),
       read .known,
       tables-set-kept (l .fields) (l .counts) (l .slots)
-          ((c .before .before .before .before .before .before .before .before .before .before .before .before .before .place-of) .result) _ _ (l .inv .2),
+          ((c .before .before .before .before .before .before .before .before .before .before .before .before .place-of) .result) _ _ (l .inv .2),
     )
 
 mul-ps : tie.Need-mul-ps Inv-loop μ-loop
@@ -154,7 +155,7 @@ mul-ps c =
     omega (
       arith,
       (c .before .before .before .before .before .before .place-of) .ensures,
-      place-lt ((c .before .before .before .before .before .before .before .before .before .before .whole-message) .result),
+      place-lt ((c .before .before .before .before .before .before .before .before .before .before .whole-message) .result .message),
     )
 
 array-copy-out-ps : tie.Need-array-copy-out-ps Inv-loop μ-loop
@@ -162,7 +163,7 @@ array-copy-out-ps c =
     omega (
       arith,
       (c .before .before .before .before .before .before .place-of) .ensures,
-      place-lt ((c .before .before .before .before .before .before .before .before .before .before .whole-message) .result),
+      place-lt ((c .before .before .before .before .before .before .before .before .before .before .whole-message) .result .message),
     )
 
 mul-fields-2 : tie.Need-mul-fields-2 Inv-loop μ-loop
@@ -171,7 +172,7 @@ mul-fields-2 c =
       arith,
       (c .before .before .before .before .before .before .before .before .before .before .before .before .before .before .place-of) .ensures,
       place-lt
-          ((c .before .before .before .before .before .before .before .before .before .before .before .before .before .before .before .before .before .before .whole-message) .result),
+          ((c .before .before .before .before .before .before .before .before .before .before .before .before .before .before .before .before .before .before .whole-message) .result .message),
     )
 
 array-set-from-fields-2 : tie.Need-array-set-from-fields-2 Inv-loop μ-loop
@@ -180,7 +181,7 @@ array-set-from-fields-2 c =
       arith,
       (c .before .before .before .before .before .before .before .before .before .before .before .before .before .before .place-of) .ensures,
       place-lt
-          ((c .before .before .before .before .before .before .before .before .before .before .before .before .before .before .before .before .before .before .whole-message) .result),
+          ((c .before .before .before .before .before .before .before .before .before .before .before .before .before .before .before .before .before .before .whole-message) .result .message),
     )
 
 mul-counts : tie.Need-mul-counts Inv-loop μ-loop
@@ -189,7 +190,7 @@ mul-counts c =
       arith,
       (c .before .before .before .before .before .before .before .before .before .before .before .before .before .before .place-of) .ensures,
       place-lt
-          ((c .before .before .before .before .before .before .before .before .before .before .before .before .before .before .before .before .before .before .whole-message) .result),
+          ((c .before .before .before .before .before .before .before .before .before .before .before .before .before .before .before .before .before .before .whole-message) .result .message),
     )
 
 array-write-counts : tie.Need-array-write-counts Inv-loop μ-loop
@@ -198,7 +199,7 @@ array-write-counts c =
       arith,
       (c .before .before .before .before .before .before .before .before .before .before .before .before .before .before .place-of) .ensures,
       place-lt
-          ((c .before .before .before .before .before .before .before .before .before .before .before .before .before .before .before .before .before .before .whole-message) .result),
+          ((c .before .before .before .before .before .before .before .before .before .before .before .before .before .before .before .before .before .before .whole-message) .result .message),
     )
 
 mul-slots : tie.Need-mul-slots Inv-loop μ-loop
@@ -207,7 +208,7 @@ mul-slots c =
       arith,
       (c .before .before .before .before .before .before .before .before .before .before .before .before .before .before .place-of) .ensures,
       place-lt
-          ((c .before .before .before .before .before .before .before .before .before .before .before .before .before .before .before .before .before .before .whole-message) .result),
+          ((c .before .before .before .before .before .before .before .before .before .before .before .before .before .before .before .before .before .before .whole-message) .result .message),
     )
 
 array-set-from-slots : tie.Need-array-set-from-slots Inv-loop μ-loop
@@ -216,7 +217,7 @@ array-set-from-slots c =
       arith,
       (c .before .before .before .before .before .before .before .before .before .before .before .before .before .before .place-of) .ensures,
       place-lt
-          ((c .before .before .before .before .before .before .before .before .before .before .before .before .before .before .before .before .before .before .whole-message) .result),
+          ((c .before .before .before .before .before .before .before .before .before .before .before .before .before .before .before .before .before .before .whole-message) .result .message),
     )
 
 array-read-signed-after : tie.Need-array-read-signed-after Inv-loop μ-loop
@@ -225,7 +226,7 @@ array-read-signed-after c =
       arith,
       (c .before .before .before .before .before .before .before .before .before .supplier-of) .ensures,
       supplier-lt
-          ((c .before .before .before .before .before .before .before .before .before .before .before .before .before .before .before .before .before .before .before .whole-message) .result),
+          ((c .before .before .before .before .before .before .before .before .before .before .before .before .before .before .before .before .before .before .before .whole-message) .result .message),
     )
 
 array-write-contracts : tie.Need-array-write-contracts Inv-loop μ-loop
@@ -234,7 +235,7 @@ array-write-contracts c =
       arith,
       (c .before .before .before .before .before .before .before .before .before .before .supplier-of) .ensures,
       supplier-lt
-          ((c .before .before .before .before .before .before .before .before .before .before .before .before .before .before .before .before .before .before .before .before .whole-message) .result),
+          ((c .before .before .before .before .before .before .before .before .before .before .before .before .before .before .before .before .before .before .before .before .whole-message) .result .message),
     )
 
 loop-less-2 : tie.Need-loop-less-2 Inv-loop μ-loop
@@ -254,14 +255,15 @@ loop-again-2 c =
     (c .before .before .before .before .before .before .before .before .before .before .before .before .before .before .before .before .before .before .before .before .before .before .before .before .before .before .before .before .next-line) in
     let read = next-right _ _ _ _ (line .ensures) (l .inv .1) in
     let m =
-    (c .before .before .before .before .before .before .before .before .before .before .before .before .before .before .before .before .before .before .before .before .before .before .before .before .before .whole-message) in
+    (c .before .before .before .before .before .before .before .before .before .before .before .before .before .before .before .before .before .before .before .before .before .before .before .before .whole-message) in
     let piece =
-    (c .before .before .before .before .before .before .before .before .before .before .before .before .before .before .before .before .before .before .before .before .before .before .before .before .before .before .before .before .before .before .before .before .before .before .before .before .before .before .before .before .before .before .before .before) .args .piece .now in (
+    (c .before .before .before .before .before .before .before .before .before .before .before .before .before .before .before .before .before .before .before .before .before .before .before .before .before .before .before .before .before .before .before .before .before .before .before .before .before .before .before .before .before .before .before .before) .args .piece .now in
+    let s = said-is (m .result) _ (m .ensures (line-read piece (l .at) (line .result .end) (line .result .read) (read .end) (read .read))) in (
       point-turn piece
-          ((c .before .before .before .before .before .before .before .before .before .before .before .before .before .before .before .before .before .before .before .before .before .before .before .before .before .before .before .before .before .before .before .before .before .before .before .before .before .before .before .before .before .before .before .before) .args .out .now) _ _ (l .out) (l .part) (l .ready) (l .set) (l .day) (l .contracts) (l .fields) (l .counts) (l .slots) (l .quiet) (l .at) (l .written) (l .inv .0) (l .inv .2) (line .result .end) (read .end) ((c .before .before .before .before .before .before .before .before .before .before .before .before .before .before .before .before .before .before .before .before .before .before .before .before .before .before .before .if1) .left) (m .result) (m .ensures (line-read piece (l .at) (line .result .end) (line .result .message) (read .end) (read .message))) (sym ((c .before .before .before .before .before .before .before .before .before .before .before .before .before .before .before .before .before .before .before .before .before .before .before .is-quick) .ensures) ∙ (c .before .before .before .before .before .before .before .before .before .before .before .before .before .before .before .before .before .before .before .before .before .before .if2) .taken) ((c .before .before .before .before .before .before .before .before .before .before .before .before .before .before .before .before .before .before .before .before .before .place-of) .result) ((c .before .before .before .before .before .before .before .before .before .before .before .before .before .before .before .supplier-of) .result) ((c .before .before .before .before .before .before .before .before .before .before .before .before .before .before .before .before .before .before .before .before .before .place-of) .ensures) ((c .before .before .before .before .before .before .before .before .before .before .before .before .before .before .before .supplier-of) .ensures) _ ((c .before .before .before .before .before .before .before .before .before .before .before .before .before .joined) .result) ((c .before .before .before .before .before .before .before .before .before .before .before .before .before .joined) .ensures) ((c .before .before .before .before .before .before .before .before .before .before .before .before .turn-of) .result) ((c .before .before .before .before .before .before .before .before .before .before .before .before .turn-of) .ensures) ((c .before .before .before .before .before .before .day-after2) .result) ((c .before .before .before .before .before .before .day-after2) .ensures) ((c .before .before .before .before .before .signed-after) .result) ((c .before .before .before .before .before .signed-after) .ensures) ((c .before .before .before .before .before .before .before .quiet-with) .result) ((c .before .before .before .before .before .before .before .quiet-with) .ensures) ((c .before .before .put-answer2) .last .0) ((c .before .before .put-answer2) .result) (rw (← ((c .before .before .before .kind-of2) .ensures)) ((c .before .before .put-answer2) .ensures)),
+          ((c .before .before .before .before .before .before .before .before .before .before .before .before .before .before .before .before .before .before .before .before .before .before .before .before .before .before .before .before .before .before .before .before .before .before .before .before .before .before .before .before .before .before .before .before) .args .out .now) _ _ (l .out) (l .part) (l .ready) (l .set) (l .day) (l .contracts) (l .fields) (l .counts) (l .slots) (l .quiet) (l .at) (l .written) (l .inv .0) (l .inv .2) (line .result .end) (read .end) ((c .before .before .before .before .before .before .before .before .before .before .before .before .before .before .before .before .before .before .before .before .before .before .before .before .before .before .before .if1) .left) (m .result .message) (s .0) (sym ((c .before .before .before .before .before .before .before .before .before .before .before .before .before .before .before .before .before .before .before .before .before .before .is-quick) .ensures) ∙ (c .before .before .before .before .before .before .before .before .before .before .before .before .before .before .before .before .before .before .before .before .before .if2) .taken) ((c .before .before .before .before .before .before .before .before .before .before .before .before .before .before .before .before .before .before .before .before .place-of) .result) ((c .before .before .before .before .before .before .before .before .before .before .before .before .before .before .supplier-of) .result) ((c .before .before .before .before .before .before .before .before .before .before .before .before .before .before .before .before .before .before .before .before .place-of) .ensures) ((c .before .before .before .before .before .before .before .before .before .before .before .before .before .before .supplier-of) .ensures) _ ((c .before .before .before .before .before .before .before .before .before .before .before .before .joined) .result) ((c .before .before .before .before .before .before .before .before .before .before .before .before .joined) .ensures) ((c .before .before .before .before .before .before .before .before .before .before .before .turn-of) .result) ((c .before .before .before .before .before .before .before .before .before .before .before .turn-of) .ensures) ((c .before .before .before .before .before .day-after2) .result) ((c .before .before .before .before .before .day-after2) .ensures) ((c .before .before .before .before .signed-after) .result) ((c .before .before .before .before .signed-after) .ensures) ((c .before .before .before .before .before .before .quiet-with) .result) ((c .before .before .before .before .before .before .quiet-with) .ensures) ((c .before .before .put-answer2) .last .0) ((c .before .before .put-answer2) .result) (rw (s .1) at ((c .before .before .put-answer2) .ensures)),
       read .known,
       tables-set (l .fields) (l .counts) (l .slots)
-          ((c .before .before .before .before .before .before .before .before .before .before .before .before .before .before .before .before .before .before .before .before .before .place-of) .result) _ _ _ (l .inv .2),
+          ((c .before .before .before .before .before .before .before .before .before .before .before .before .before .before .before .before .before .before .before .before .place-of) .result) _ _ _ (l .inv .2),
     )
 
 loop-less-3 : tie.Need-loop-less-3 Inv-loop μ-loop
@@ -281,11 +283,12 @@ loop-again-3 c =
     (c .before .before .before .before .before .before .before .before .before .before .before .before .before .before .before .before .before .before .before .before .before .before .next-line) in
     let read = next-right _ _ _ _ (line .ensures) (l .inv .1) in
     let m =
-    (c .before .before .before .before .before .before .before .before .before .before .before .before .before .before .before .before .before .before .before .whole-message) in
+    (c .before .before .before .before .before .before .before .before .before .before .before .before .before .before .before .before .before .before .whole-message) in
     let piece =
-    (c .before .before .before .before .before .before .before .before .before .before .before .before .before .before .before .before .before .before .before .before .before .before .before .before .before .before .before .before .before .before .before .before .before .before .before .before .before .before) .args .piece .now in (
+    (c .before .before .before .before .before .before .before .before .before .before .before .before .before .before .before .before .before .before .before .before .before .before .before .before .before .before .before .before .before .before .before .before .before .before .before .before .before .before) .args .piece .now in
+    let s = said-is (m .result) _ (m .ensures (line-read piece (l .at) (line .result .end) (line .result .read) (read .end) (read .read))) in (
       register-turn piece
-          ((c .before .before .before .before .before .before .before .before .before .before .before .before .before .before .before .before .before .before .before .before .before .before .before .before .before .before .before .before .before .before .before .before .before .before .before .before .before .before) .args .out .now) _ _ (l .out) (l .part) (l .ready) (l .set) (l .day) (l .contracts) (l .fields) (l .counts) (l .slots) (l .quiet) (l .at) (l .written) (l .inv .0) (l .inv .2) (line .result .end) (read .end) ((c .before .before .before .before .before .before .before .before .before .before .before .before .before .before .before .before .before .before .before .before .before .if1) .left) (m .result) (m .ensures (line-read piece (l .at) (line .result .end) (line .result .message) (read .end) (read .message))) ((c .before .before .before .before .before .before .before .before .before .before .before .before .before .before .before .register-of2) .result) ((c .before .before .before .before .before .before .before .before .before .before .before .before .before .before .before .register-of2) .ensures) ((c .before .before .before .before .before .before .before .before .before .before .before .before .before .before .respond) .result) ((c .before .before .before .before .before .before .before .before .before .before .before .before .before .before .respond) .ensures) ((c .before .before .before .before .before .before .before .before .fields-of2) .result) ((c .before .before .before .before .before .before .before .counts-of2) .result) ((c .before .before .before .before .before .before .slots-of2) .result) ((c .before .before .before .before .before .before .before .before .fields-of2) .ensures, (c .before .before .before .before .before .before .before .counts-of2) .ensures, (c .before .before .before .before .before .before .slots-of2) .ensures) ((c .before .before .before .before .before .first-due2) .result) ((c .before .before .before .before .before .first-due2) .ensures) ((c .before .before .put-answer3) .last .0) ((c .before .before .put-answer3) .result) (rw (← ((c .before .before .before .kind-of3) .ensures)) ((c .before .before .put-answer3) .ensures)),
+          ((c .before .before .before .before .before .before .before .before .before .before .before .before .before .before .before .before .before .before .before .before .before .before .before .before .before .before .before .before .before .before .before .before .before .before .before .before .before .before) .args .out .now) _ _ (l .out) (l .part) (l .ready) (l .set) (l .day) (l .contracts) (l .fields) (l .counts) (l .slots) (l .quiet) (l .at) (l .written) (l .inv .0) (l .inv .2) (line .result .end) (read .end) ((c .before .before .before .before .before .before .before .before .before .before .before .before .before .before .before .before .before .before .before .before .before .if1) .left) (m .result .message) (s .0) ((c .before .before .before .before .before .before .before .before .before .before .before .before .before .before .register-of2) .result) ((c .before .before .before .before .before .before .before .before .before .before .before .before .before .before .register-of2) .ensures) ((c .before .before .before .before .before .before .before .before .before .before .before .before .before .respond) .result) ((c .before .before .before .before .before .before .before .before .before .before .before .before .before .respond) .ensures) ((c .before .before .before .before .before .before .before .fields-of2) .result) ((c .before .before .before .before .before .before .counts-of2) .result) ((c .before .before .before .before .before .slots-of2) .result) ((c .before .before .before .before .before .before .before .fields-of2) .ensures, (c .before .before .before .before .before .before .counts-of2) .ensures, (c .before .before .before .before .before .slots-of2) .ensures) ((c .before .before .before .before .first-due2) .result) ((c .before .before .before .before .first-due2) .ensures) ((c .before .before .put-answer3) .last .0) ((c .before .before .put-answer3) .result) (rw (s .1) at ((c .before .before .put-answer3) .ensures)),
       read .known,
       (search needs, search needs, search needs),
     )
@@ -313,17 +316,15 @@ answer-lines-spec =
     (λ c κs. search needs) (λ c κs. search needs) loop-holds (λ c κs. search needs) (λ c κs. search needs)
     (λ c. search needs) (λ c. search needs) (λ c. search needs) (λ c κs. search needs)
     (λ c. (c .before .before .before .before .before .before .loop) .inv .0 .size) returns sub-whole-message
-    part-whole-message-start (λ c. omega (arith, (c .if1) .left)) (λ c κs. search needs) add-at (λ c κs. search needs)
+    part-whole-message-start (λ c. omega (arith, (c .before .if1) .left)) (λ c κs. search needs) add-at (λ c κs. search needs)
     (λ c κs. search needs) mul-n array-read-n (λ c κs. search needs) mul-f array-copy-out-f mul-q
     (λ c. omega (arith, (c .before .newest-place) .ensures)) index-1-q
     (λ c. omega (arith, (c .before .newest-place) .ensures)) (λ c κs. search needs) mul-fields array-set-from-fields
     mul-q-read (λ c. omega (arith, (c .before .before .before .before .before .before .newest-place) .ensures))
     index-1-q-read (λ c. omega (arith, (c .before .before .before .before .before .before .newest-place) .ensures))
-    (λ c κs. search needs) (λ c κs. search needs) (λ c κs. search needs) loop-less loop-again (λ c κs. search needs)
+    (λ c κs. search needs) (λ c κs. search needs) loop-less loop-again (λ c κs. search needs)
     mul-ps array-copy-out-ps (λ c κs. search needs) (λ c κs. search needs) (λ c κs. search needs) mul-fields-2
     array-set-from-fields-2 mul-counts array-write-counts mul-slots array-set-from-slots (λ c κs. search needs)
-    array-read-signed-after (λ c κs. search needs) array-write-contracts (λ c κs. search needs) (λ c κs. search needs)
-    loop-less-2 loop-again-2 (λ c κs. search needs) (λ c κs. search needs) (λ c κs. search needs)
-    (λ c κs. search needs) (λ c κs. search needs) (λ c κs. search needs) (λ c κs. search needs) (λ c κs. search needs)
-    loop-less-3 loop-again-3 (λ c κs. search needs) (λ c. search needs) (λ c. search needs) (λ c. search needs)
+    array-read-signed-after (λ c κs. search needs) array-write-contracts (λ c κs. search needs) loop-less-2 loop-again-2 (λ c κs. search needs) (λ c κs. search needs) (λ c κs. search needs)
+    (λ c κs. search needs) (λ c κs. search needs) (λ c κs. search needs) (λ c κs. search needs) loop-less-3 loop-again-3 (λ c κs. search needs) (λ c. search needs) (λ c. search needs) (λ c. search needs)
     (λ c κs. search needs) (λ c. (c .before .before .before .before .loop) .inv .0 .size) returns-2)

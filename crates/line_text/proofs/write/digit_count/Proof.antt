@@ -1,4 +1,4 @@
--- `text::write::digit_count` meets its contract: the digits counted and those left are the digits in all.
+-- `line_text::write::digit_count` meets its contract: the digits counted and those left are the digits in all.
 use Prim.Native.Nat.{_<_, _+_, _^_}
 use mathlib.Core.Path.{_≡_}
 use mathlib.Core.List.{[]}

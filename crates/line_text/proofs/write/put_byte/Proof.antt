@@ -1,4 +1,4 @@
--- `text::write::put_byte` meets its contract: one store, or none.
+-- `line_text::write::put_byte` meets its contract: one store, or none.
 use mathlib.Core.Path.{refl}
 use mathlib.Core.List.{[], _∷_}
 use native.Mathlib.Omega.{arith}

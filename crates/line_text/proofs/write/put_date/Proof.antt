@@ -1,4 +1,4 @@
--- `text::write::put_date` meets its contract: eight stores, or none.
+-- `line_text::write::put_date` meets its contract: eight stores, or none.
 use mathlib.Core.List.{[]}
 use native.Mathlib.Omega.{arith}
 use lib.ListN.{length-set}

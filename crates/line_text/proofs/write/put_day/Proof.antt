@@ -1,4 +1,4 @@
--- `text::write::put_day` meets its contract: the calendar's answer, written.
+-- `line_text::write::put_day` meets its contract: the calendar's answer, written.
 use mathlib.Core.Path.{sym, _∙_}
 use Rattle.line_text.specs.Decimal.{fixed}
 use borrow.Author.Needs.{needs}

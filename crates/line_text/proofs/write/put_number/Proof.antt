@@ -1,4 +1,4 @@
--- `text::write::put_number` meets its contract: the digits that stand already, and those left, are the number's.
+-- `line_text::write::put_number` meets its contract: the digits that stand already, and those left, are the number's.
 use Prim.Native.Nat.{ℕ, _≤_, _+_}
 use mathlib.Core.Path.{refl, ap, _∙_}
 use mathlib.Core.List.{[]}

@@ -1,4 +1,4 @@
--- `text::write::put_word` meets its contract: the bytes copied so far stand behind the position.
+-- `line_text::write::put_word` meets its contract: the bytes copied so far stand behind the position.
 use Prim.Native.Nat.{_≤_, _+_, _-_}
 use mathlib.Core.Path.{_≡_, refl, ap, _∙_}
 use native.Mathlib.Omega.{arith}

@@ -1,0 +1,3 @@
+-- Definitions that only pass between crates. Definitions only.
+pub mod Feeds
+pub mod Begun

@@ -1,0 +1,2 @@
+-- Readers that a theorem pins to the texts: they need not be believed. Definitions only.
+pub mod Reading

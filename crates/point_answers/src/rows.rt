@@ -28,7 +28,9 @@ use rules::View;
 ghost use mathlib.Core.Path.{_≡_};
 ghost use mathlib.Core.Bool.{Bool};
 ghost use mathlib.Core.List.{List};
-ghost use Rattle.rules.specs.Rejections.{_⇒_, lastResortNear, tooLate};
+ghost use Prim.Native.Nat.{ℕ};
+ghost use lib.ListN.{drop};
+ghost use Rattle.rules.specs.Rejections.{_⇒_, firstOf, rowsAt, lastResortNear, tooLate};
 ghost use Rattle.point_answers.specs.Between.{after, answerAt, answerIn};
 
 // What an answer looks at: the settings, the register's day, who is under contract, today, the point's number, and
@@ -188,8 +190,6 @@ pub(crate) fn reading(day: u32, today: u64, p: u64, d: u64, x: u64, z: u64, f: F
     ensures { λ r. ⌜ ((S : Settings) (u : List Bool) (v : View) → v .fields ≡ f
         → r ≡ answerAt S day u today p (PointAction.Reading d x z) v) ⌝ }
 {
-    let m = f.meter;
-    let last = f.reading;
     if outside(0, 1, z) {
         return Answer::Refused(22);
     }
@@ -199,6 +199,16 @@ pub(crate) fn reading(day: u32, today: u64, p: u64, d: u64, x: u64, z: u64, f: F
     if today < day as u64 {
         return Answer::Refused(21);
     }
+    dated_reading(today, p, d, x, z, f)
+}
+
+// The rows behind 22, 20 and 21.
+fn dated_reading(today: u64, p: u64, d: u64, x: u64, z: u64, f: Fields) -> Answer
+    ensures { λ r. ⌜ ((S : Settings) (day : ℕ) (u : List Bool) (v : View) → v .fields ≡ f
+        → r ≡ firstOf (drop 3 (rowsAt S day u today p (PointAction.Reading d x z) v)) Answer.Accepted) ⌝ }
+{
+    let m = f.meter;
+    let last = f.reading;
     if not_enrolled(p, f.enrolled) {
         return Answer::Refused(2);
     }

@@ -57,13 +57,8 @@ module _ (S : Settings) (u : List Bool) (t : ℕ) where
   rows-at p (PointAction.Enrol b a x) v = row _ 2 _ _ refl (row _ 23 _ _ refl (row _ 28 _ _ refl (last _ refl)))
   rows-at p (PointAction.IntoService s k) v = row _ 1 _ _ refl (row _ 2 _ _ refl (row _ 24 _ _ refl (row _ 30 _ _ refl (last _ refl))))
   rows-at p (PointAction.DefaultSupply k) v = row _ 2 _ _ refl (row _ 24 _ _ refl (row _ 30 _ _ refl (last _ refl)))
-  rows-at p (PointAction.Request s k r) v =
-      row _ 1 _ _ refl
-      (row _ 2 _ _ refl
-      (row _ 3 _ _ refl
-      (row _ 4 _ _ refl
-      (row _ 5 _ _ refl
-      (row _ 6 _ _ refl
+  rows-at p (PointAction.Request s k r) v = row _ 1 _ _ refl (row _ 2 _ _ refl (row _ 3 _ _ refl (row _ 4 _ _ refl
+      (row _ 5 _ _ refl (row _ 6 _ _ refl
       (row _ 7 _ _ refl (row-8 t (v .fields .supply .kind) _ _ (row _ 30 _ _ refl (last _ refl)))))))))
   rows-at p (PointAction.Cancel s) v = row _ 2 _ _ refl (row _ 25 _ _ refl (row _ 26 _ _ refl (last _ refl)))
   rows-at p (PointAction.Reading d x z) v = row _ 2 _ _ refl (row _ 27 _ _ refl (row _ 28 _ _ refl (last _ refl)))
@@ -80,16 +75,12 @@ module _ (S : Settings) (u : List Bool) (t : ℕ) where
 
 call-tabled : (r : Register) (c : Call) → isTabled (says r c) ≡ true
 unfolding says answer answerTo
-call-tabled r c =
-    row _ 22 _ _ refl
+call-tabled r c = row _ 22 _ _ refl
     (row _ 20 _ _ refl (row _ 21 _ _ refl (rows-of (r .settings) (r .contracts) (c .today) (c .action) _)))
 
 opening-tabled : (o : Opening) → isTabled (openingAnswer o) ≡ true
 unfolding openingAnswer
-opening-tabled o =
-    row _ 22 _ _ refl
-    (row _ 22 _ _ refl
-    (row _ 22 _ _ refl
+opening-tabled o = row _ 22 _ _ refl (row _ 22 _ _ refl (row _ 22 _ _ refl
     (row _ 22 _ _ refl (row _ 22 _ _ refl (row _ 22 _ _ refl (row _ 20 _ _ refl (last _ refl)))))))
 
 pub every-answer-tabled : EveryAnswerTabled

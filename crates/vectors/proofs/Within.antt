@@ -19,11 +19,9 @@ pub appended-within : (at : ℕ) (t o o′ : List ℕ) (r : ℕ) → Appended at
 appended-within at t o o′ r w h = go (leb (at + length t) (length o)) refl
   where
     go : (b : Bool) → leb (at + length t) (length o) ≡ b → r ≤ length o′
-    go true e =
-        let fits : at + length t ≤ length o = leb-true _ _ e in
+    go true e = let fits : at + length t ≤ length o = leb-true _ _ e in
         omega (arith, room-put at t o o′ r w fits .1, appended-length at t o o′ r w)
-    go false e =
-        let over : length o < at + length t = leb-false _ _ e in
+    go false e = let over : length o < at + length t = leb-false _ _ e in
         omega (arith, no-room at t o o′ r w over .1, appended-length at t o o′ r w)
 
 -- a line that begins within a text ends within it
@@ -41,6 +39,5 @@ taken-within s piece before after f h =
 -- and so the next piece begins where this one ends, or before
 pub next-within : (l : List ℕ) (at end : ℕ) (s : Session) (before after : List ℕ) (f : Fed) →
     FedBy s (take (end - at) (drop at l)) before after f → at ≤ end → at + f .taken ≤ end
-next-within l at end s before after f h e =
-    let n = taken-within s (take (end - at) (drop at l)) before after f h in
+next-within l at end s before after f h e = let n = taken-within s (take (end - at) (drop at l)) before after f h in
     omega (arith, length-take (end - at) (drop at l))

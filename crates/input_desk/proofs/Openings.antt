@@ -24,8 +24,7 @@ refused-after d (Message.Ask c) h = go (d .ready) refl h
   where
     go : (b : Bool) → d .ready ≡ b → isAccepted (cond b (says (d .register) c) unreadable) ≡ false →
         cond b (desk true (cond (isAccepted (says (d .register) c)) (done (c .today) (c .action) (advanced (c .today) (d .register))) (d .register)))
-        d
-        ≡ d
+        d ≡ d
     go true e k = rw (k, ← e)
     go false e k = refl
 refused-after d Message.Unreadable h = refl
@@ -47,8 +46,7 @@ unfolding answerOf deskAfter applied
 call-after d c r e h = go (d .ready) h
   where
     go : (b : Bool) → isAccepted (cond b (says (d .register) c) unreadable) ≡ true →
-        desk true r
-        ≡ cond b
+        desk true r ≡ cond b
         (desk true (cond (isAccepted (says (d .register) c)) (done (c .today) (c .action) (advanced (c .today) (d .register))) (d .register))) d
     go true k = ap (desk true) (e k)
     go false k = absurd (false≢true k)

@@ -63,14 +63,8 @@ module _ (S : Settings) (day : ℕ) (u : List Bool) (t : ℕ) where
   rows-at p (PointAction.IntoService s k) v =
       dated _ _ _ _ _ (row _ 1 _ _ refl (row _ 2 _ _ refl (row _ 24 _ _ refl (row _ 30 _ _ refl (last _ refl)))))
   rows-at p (PointAction.DefaultSupply k) v = dated _ _ _ _ _ (row _ 2 _ _ refl (row _ 24 _ _ refl (row _ 30 _ _ refl (last _ refl))))
-  rows-at p (PointAction.Request s k r) v =
-      dated _ _ _ _ _
-      (row _ 1 _ _ refl
-      (row _ 2 _ _ refl
-      (row _ 3 _ _ refl
-      (row _ 4 _ _ refl
-      (row _ 5 _ _ refl
-      (row _ 6 _ _ refl
+  rows-at p (PointAction.Request s k r) v = dated _ _ _ _ _ (row _ 1 _ _ refl (row _ 2 _ _ refl (row _ 3 _ _ refl
+      (row _ 4 _ _ refl (row _ 5 _ _ refl (row _ 6 _ _ refl
       (row _ 7 _ _ refl (row-8 S t (v .fields .supply .kind) _ _ (row _ 30 _ _ refl (last _ refl))))))))))
   rows-at p (PointAction.Cancel s) v = dated _ _ _ _ _ (row _ 2 _ _ refl (row _ 25 _ _ refl (row _ 26 _ _ refl (last _ refl))))
   rows-at p (PointAction.Reading d x z) v = dated _ _ _ _ _ (row _ 2 _ _ refl (row _ 27 _ _ refl (row _ 28 _ _ refl (last _ refl))))
@@ -92,10 +86,7 @@ call-tabled r c = rows-of (r .settings) (r .day) (r .contracts) (c .today) (c .a
 
 opening-tabled : (o : Opening) → isTabled (openingAnswer o) ≡ true
 unfolding openingAnswer
-opening-tabled o =
-    row _ 22 _ _ refl
-    (row _ 22 _ _ refl
-    (row _ 22 _ _ refl
+opening-tabled o = row _ 22 _ _ refl (row _ 22 _ _ refl (row _ 22 _ _ refl
     (row _ 22 _ _ refl (row _ 22 _ _ refl (row _ 22 _ _ refl (row _ 20 _ _ refl (last _ refl)))))))
 
 pub every-answer-tabled : EveryAnswerTabled

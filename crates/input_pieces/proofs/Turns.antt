@@ -44,8 +44,7 @@ going-start piece out d part hr = record { here = omega arith; room = omega (ari
 
 -- the answer to a line has at most longestAnswer bytes
 said-short : (d : Desk) (m : Message) → length (answerLine (kindOf m) (answerOf d m)) ≤ longestAnswer
-said-short d m =
-    let n = tabled-small (answerOf d m) (every-answer-tabled d m) in
+said-short d m = let n = tabled-small (answerOf d m) (every-answer-tabled d m) in
     let e : length (answerLine (kindOf m) (answerOf d m)) ≤ 21 + 2 = answer-short (kindOf m) (answerOf d m) 2 (omega arith) n in
     omega arith
 
@@ -74,8 +73,7 @@ module _ {piece out₀ : List ℕ} {d₀ : Desk} {part₀ out : List ℕ} {part 
   one-fewer = feeds-behind l within
 
   behind-line : drop (suc (untilFeed l)) l ≡ drop (end + 1) piece
-  behind-line =
-      let e : at + suc (untilFeed l) ≡ end + 1 = omega (arith, stops) in
+  behind-line = let e : at + suc (untilFeed l) ≡ end + 1 = omega (arith, stops) in
       drop-drop (suc (untilFeed l)) at piece ∙ ap (λ (n : ℕ). drop n piece) e
 
   appended : Appended written text out out′ written′
@@ -88,13 +86,11 @@ module _ {piece out₀ : List ℕ} {d₀ : Desk} {part₀ out : List ℕ} {part 
   end-is = room-put written text out out′ written′ appended fits .1
 
   line-is : take (end - at) l ≡ take (untilFeed l) l
-  line-is =
-      let e : end - at ≡ untilFeed l = omega (arith, stops) in
+  line-is = let e : end - at ≡ untilFeed l = omega (arith, stops) in
       ap (λ (n : ℕ). take n l) e
 
   step : runOf d (kept part) l ≡ behind text (runOf (deskAfter d m) [] (drop (end + 1) piece))
-  step =
-      run-found nextDesk sayLine d (kept part) l (kept-le part) within ∙
+  step = run-found nextDesk sayLine d (kept part) l (kept-le part) within ∙
       rw (← line-is, ← says, behind-line)
 
   joined : behind (take written out ++ text) (runOf (deskAfter d m) [] (drop (end + 1) piece))
@@ -107,9 +103,7 @@ module _ {piece out₀ : List ℕ} {d₀ : Desk} {part₀ out : List ℕ} {part 
         here = omega (arith, more);
         room = omega (arith, g .room, one-fewer, said-short d m, end-is, ap feeds behind-line);
         size = appended-length written text out out′ written′ appended ∙ g .size;
-        tail =
-            rw end-is
-            (ap (drop (written + length text)) (room-put written text out out′ written′ appended fits .0) ∙
+        tail = rw end-is (ap (drop (written + length text)) (room-put written text out out′ written′ appended fits .0) ∙
             put-drop written text out fits ∙
             sym (drop-drop (length text) written out) ∙ ap (drop (length text)) (g .tail) ∙ drop-drop (length text) written out₀);
         does = rw (appended-take written text out out′ written′ appended fits, t .after) (joined ∙ g .does);
@@ -119,8 +113,7 @@ module _ {piece out₀ : List ℕ} {d₀ : Desk} {part₀ out : List ℕ} {part 
 module _ {piece out₀ : List ℕ} {d₀ : Desk} {part₀ out : List ℕ} {part : Begun} {d : Desk} {at written : ℕ}
     (g : Going piece out₀ d₀ part₀ out part d at written) (none : length piece ≤ at + untilFeed (drop at piece)) where
   whole : runOf d₀ part₀ piece ≡ record { state = d; part = capped (kept part ++ drop at piece); out = take written out }
-  whole =
-      sym (g .does) ∙
+  whole = sym (g .does) ∙
       rw (
         run-none nextDesk sayLine d (kept part) (drop at piece) (kept-le part) (omega (arith, none, length-drop at piece)),
         append-nil,
@@ -155,18 +148,15 @@ ends g none hl e =
 
 -- the lines that are taken can be answered
 pub taken-room : (piece out : List ℕ) (n : ℕ) → n ≡ fitting (length out / longestAnswer) piece → longestAnswer * feeds (take n piece) ≤ length out
-taken-room piece out n e =
-    let k = fitting-feeds (length out / longestAnswer) piece in
-    let f : feeds (take n piece) ≤ length out / longestAnswer = rw (← e) at k in
-    omega (arith, f)
+taken-room piece out n e = let k = fitting-feeds (length out / longestAnswer) piece in
+    let f : feeds (take n piece) ≤ length out / longestAnswer = rw (← e) at k in omega (arith, f)
 
 -- ---- the line that was read is the one up to the line feed
 
 pub line-read : (piece : List ℕ) (at end : ℕ) (m : LineMessage) → end ≡ at + untilFeed (drop at piece) →
     m ≡ lineMessage (readLine (take (untilFeed (drop at piece)) (drop at piece))) →
     m ≡ lineMessage (readLine (take (end - at) (drop at piece)))
-line-read piece at end m e h =
-    let n : end - at ≡ untilFeed (drop at piece) = omega (arith, e) in
+line-read piece at end m e h = let n : end - at ≡ untilFeed (drop at piece) = omega (arith, e) in
     h ∙ ap (λ (k : ℕ). lineMessage (readLine (take k (drop at piece)))) (sym n)
 
 -- a message with its kind

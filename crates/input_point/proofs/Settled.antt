@@ -101,15 +101,10 @@ module _ (S : Settings) (day : ℕ) (u : List Bool) (fs : List Fields) (ns : Lis
 
   -- the points that a call sees, brought up to today
   seen-at : (t p : ℕ) → t ≤ lastDay → 1 ≤ p → p ≤ 32 → view t (pointAt p (advanced t r .points)) ≡ w t p
-  seen-at t p h lo hi =
-      let i : ℕ = p - 1 in
-      let l : i < 32 = omega arith in
+  seen-at t p h lo hi = let i : ℕ = p - 1 in let l : i < 32 = omega arith in
       let is = points-get noPoint blank 0 fs ns ss i (omega (arith, sized .fields)) (omega (arith, sized .counts)) in
-      let f = getD fs i blank in
-      let n = getD ns i 0 in
-      let len = row-length i ss (omega (arith, sized .slots)) in
-      let at = row-get i (min n 24 - 1) ss noPeriod (omega arith) in
-      rw (brought t i h l, is)
+      let f = getD fs i blank in let n = getD ns i 0 in let len = row-length i ss (omega (arith, sized .slots)) in
+      let at = row-get i (min n 24 - 1) ss noPeriod (omega arith) in rw (brought t i h l, is)
       (seen-on S t day (joined f n (rowAt i ss)) (omega (arith, len)) ∙
       ap (λ (q : Period). viewOn S day t (seen f (min n 24) (q .start))) at)
 
@@ -132,8 +127,7 @@ module _ (S : Settings) (day : ℕ) (u : List Bool) (fs : List Fields) (ns : Lis
             answerTo S day u t (Action.At p a) (shown (w t))
             ≡ rulingAt S day u t p a (viewOn S day t (seen (getD fs i blank) (min (getD ns i 0) 24) (newestStart i (getD ns i 0) ss))) .answer
         go true q k = answer-none S day u t p a (shown (w t)) (λ x. viewOn S day t (seen (getD fs i blank) (min (getD ns i 0) 24) (newestStart i (getD ns i 0) ss))) q
-        go false q k =
-            let h = point-in p q in
+        go false q k = let h = point-in p q in
             answer-at S day u t p a (shown (w t)) (λ x. viewOn S day t (seen (getD fs i blank) (min (getD ns i 0) 24) (newestStart i (getD ns i 0) ss)))
             (shown-in (w t) p (h .0) (h .1) ∙ rw k)
 
@@ -147,13 +141,11 @@ module _ (S : Settings) (day : ℕ) (u : List Bool) (fs : List Fields) (ns : Lis
 
     failure : (t s : ℕ) → answerTo S day u t (Action.Failure s) (shown (w t)) ≡ settled (failureAnswer S day fs ns ss) (failureSaid S day u t s)
     unfolding failureSaid failureAnswer
-    failure t s =
-        failure-answer S day u t s (shown (w t)) ∙
+    failure t s = failure-answer S day u t s (shown (w t)) ∙
         failure-by (failureAnswer S day fs ns ss) t s (firstOf (failureRows S day u t s) Answer.Accepted) _ refl (all-accepted S day u t s)
 
     call-settled : (c : Call) (i : ℕ) → i ≡ placeIn (c .action) →
-        answer S day u c (w (c .today))
-        ≡ settled (failureAnswer S day fs ns ss)
+        answer S day u c (w (c .today)) ≡ settled (failureAnswer S day fs ns ss)
         (callSaid S day u (c .today) (c .action) (getD fs i blank) (getD ns i 0) (newestStart i (getD ns i 0) ss))
     unfolding answer callSaid
     call-settled c i e = go (c .today) (c .action) e
@@ -173,8 +165,7 @@ module _ (S : Settings) (day : ℕ) (u : List Bool) (fs : List Fields) (ns : Lis
     answer-settled (Message.Open o) i e = refl
     answer-settled (Message.Ask c) i e = go ready
       where
-        go : (b : Bool) → cond b (says r c) unreadable
-            ≡ settled (failureAnswer S day fs ns ss)
+        go : (b : Bool) → cond b (says r c) unreadable ≡ settled (failureAnswer S day fs ns ss)
             (cond b (callSaid S day u (c .today) (c .action) (getD fs i blank) (getD ns i 0) (newestStart i (getD ns i 0) ss)) (Said.Known unreadable))
         go true = says-shown c ∙ call-settled c i e
         go false = refl
@@ -185,6 +176,5 @@ pub shown-next : (S : Settings) (day t : ℕ) (fs : List Fields) (ns : List ℕ)
     k ≡ min (getD ns i 0) 24 - 1 →
     v ≡ viewOn S day t (seen (getD fs i blank) (min (getD ns i 0) 24) (getD ss (24 * i + k) noPeriod .start)) →
     shown (shows S day t fs ns ss) (i + 1) ≡ v
-shown-next S day t fs ns ss i k v h hk e =
-    let z : i + 1 - 1 ≡ i = omega arith in
+shown-next S day t fs ns ss i k v h hk e = let z : i + 1 - 1 ≡ i = omega arith in
     shown-in (shows S day t fs ns ss) (i + 1) (omega arith) (omega arith) ∙ rw (z, e, hk)

@@ -60,12 +60,9 @@ module _ (t n : ℕ) (row : List Period) where
       go : (a b : Bool) →
           record {
             fields = f;
-            history =
-                cond a (history n (set row (min n 24 - 1) (period t (f .supply .holder) (q .volume))))
+            history = cond a (history n (set row (min n 24 - 1) (period t (f .supply .holder) (q .volume))))
                 (cond b (history (min n 24 + 1) (set row (min n 24) (period t (f .supply .holder) 0))) (history n row));
-          }
-          ≡ pointAfter row n
-          (cond a (slot t f n (min n 24 - 1) (period t (f .supply .holder) (q .volume)))
+          } ≡ pointAfter row n (cond a (slot t f n (min n 24 - 1) (period t (f .supply .holder) (q .volume)))
           (cond b (slot t f (min n 24 + 1) (min n 24) (period t (f .supply .holder) 0)) (keptDeed t f n q)))
       go true b = refl
       go false true = refl
@@ -127,8 +124,7 @@ module _ (t n : ℕ) (q : Period) where
   naming-on f = go (ltb 0 (min n 24) && eqb (q .start) t) (ltb (min n 24) 24) refl
     where
       go : (a b : Bool) → ltb (min n 24) 24 ≡ b →
-          On t
-          (cond a (slot t f n (min n 24 - 1) (period t (f .supply .holder) (q .volume)))
+          On t (cond a (slot t f n (min n 24 - 1) (period t (f .supply .holder) (q .volume)))
           (cond b (slot t f (min n 24 + 1) (min n 24) (period t (f .supply .holder) 0)) (keptDeed t f n q)))
       go true b e = (refl, omega arith)
       go false true e = (refl, ltb-true (min n 24) 24 e)
@@ -197,8 +193,7 @@ module _ (S : Settings) (day : ℕ) (u : List Bool) (fs : List Fields) (ns : Lis
 
   stored-point : (t : ℕ) (d : Deed) → On t d →
       register S t u (set (pointsOf fs ns ss) i (pointAfter (rowAt i ss) (getD ns i 0) d)) ≡ stores d
-  stored-point t (Deed.Slot x) (e, k) =
-      rw (e, points-slot (x .fields) (x .count) fs ns ss i (x .place) (x .period) k)
+  stored-point t (Deed.Slot x) (e, k) = rw (e, points-slot (x .fields) (x .count) fs ns ss i (x .place) (x .period) k)
   stored-point t (Deed.Back b s f) e =
       let is = points-row f (getD ns i 0) fs ns ss (bookedIfFair s (history (getD ns i 0) (rowAt i ss)) .periods) i (back-whole s) (omega (arith, sized .slots)) in
       rw (e, ← is, set-getD ns i 0)
@@ -210,11 +205,9 @@ module _ (S : Settings) (day : ℕ) (u : List Bool) (fs : List Fields) (ns : Lis
   pub effect-stored : (t : ℕ) (e : Effect) →
       register S t u (set (pointsOf fs ns ss) i (noted t e (getD (pointsOf fs ns ss) i noPoint .history)))
       ≡ stores (effectDeed t e (getD ns i 0) (getD ss (24 * i + (min (getD ns i 0) 24 - 1)) noPeriod))
-  effect-stored t e =
-      let n = getD ns i 0 in
+  effect-stored t e = let n = getD ns i 0 in
       let g = points-get noPoint blank 0 fs ns ss i (omega (arith, sized .fields)) (omega (arith, sized .counts)) in
-      let k = row-get i (min n 24 - 1) ss noPeriod (omega arith) in
-      rw (g, effect-after t n (rowAt i ss) e, k)
+      let k = row-get i (min n 24 - 1) ss noPeriod (omega arith) in rw (g, effect-after t n (rowAt i ss) e, k)
       (stored-point t (effectDeed t e n (getD ss (24 * i + (min n 24 - 1)) noPeriod)) (effect-on t n _ e))
 
   pub slot-sized : (f : Fields) (n k : ℕ) (q : Period) → Sized (set fs i f) (set ns i n) (set ss k q)
@@ -260,8 +253,7 @@ module _ (S : Settings) (day : ℕ) (u : List Bool) (fs : List Fields) (ns : Lis
 
   -- nothing has fallen due there
   fields-seen : (t : ℕ) → t < quiet → v t .fields ≡ getD fs i blank
-  fields-seen t h =
-      let g = joined (getD fs i blank) n (rowAt i ss) in
+  fields-seen t h = let g = joined (getD fs i blank) n (rowAt i ss) in
       let q = row-get i (min n 24 - 1) ss noPeriod (omega arith) in
       let e = seen-on S t day g (omega (arith, row-length i ss (omega (arith, sized .slots)))) in
       let k = quiet-point S t g (omega (arith, first-at fs i (omega (arith, sized .fields)))) in
@@ -288,10 +280,8 @@ module _ (S : Settings) (day : ℕ) (u : List Bool) (fs : List Fields) (ns : Lis
   at-stored : (t p : ℕ) (a : PointAction) → t < quiet → i ≡ placeIn (Action.At p a) → isAccepted (says r (callAt t p a)) ≡ true →
       done t (Action.At p a) (register S t u (pointsOf fs ns ss)) ≡ storedIn S day u fs ns ss i (effectDeed t (rulingAt S day u t p a (v t) .effect) n last)
   unfolding done acted
-  at-stored t p a h hi ok =
-      let z = says-at t p a hi in
-      let ok′ : isAccepted (answerAt S day u t p a (v t)) ≡ true = rw (← z) ok in
-      let in-range = point-of t p a ok in
+  at-stored t p a h hi ok = let z = says-at t p a hi in
+      let ok′ : isAccepted (answerAt S day u t p a (v t)) ≡ true = rw (← z) ok in let in-range = point-of t p a ok in
       let k : p - 1 ≡ i = sym (hi ∙ rw (le-ltb p 1 (in-range .0), le-ltb 32 p (in-range .1))) in
       let same = fields-seen t h in
       let acc : Accepted S t a (getD fs i blank) = record { day = day; contracts = u; point = p; view = v t; same = same; ok = ok′ } in
@@ -339,8 +329,7 @@ module _ (S : Settings) (day : ℕ) (u : List Bool) (fs : List Fields) (ns : Lis
           x ≡ cond y (callDeed (c .today) (c .action) (cond b (told (c .today) (c .action)) (Said.Known unreadable)) n last) Deed.Whole →
           cond b (desk true (cond (isAccepted (says r c)) (done (c .today) (c .action) (advanced (c .today) r)) r)) (desk b r)
           ≡ desk b (storedIn S day u fs ns ss i x)
-      go true true h k z =
-          let early = ltb-true (c .today) quiet h in
+      go true true h k z = let early = ltb-true (c .today) quiet h in
           rw (k, quiet-advanced (c .today) day S u fs ns ss (omega arith)) (ap (desk true) (call-stored (c .today) (c .action) early hi k x z w))
       go true false h k z = absurd (whole-not x z w)
       go false y h k z = absurd (false≢true k)

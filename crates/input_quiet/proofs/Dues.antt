@@ -32,11 +32,8 @@ module _ (S : Settings) (t : ℕ) where
 
   quiet-event : (g : Point) → t < dueDay (g .fields .supply) → nextEvent S t g ≡ g
   unfolding nextEvent dueDay happened
-  quiet-event g h =
-      let s = g .fields .supply in
-      let h₁ : t < kindEnds (s .kind) = omega arith in
-      let h₂ : t < requestFalls (s .pending) = omega arith in
-      rw (nothing-due (s .kind) (s .pending) h₁ h₂)
+  quiet-event g h = let s = g .fields .supply in let h₁ : t < kindEnds (s .kind) = omega arith in
+      let h₂ : t < requestFalls (s .pending) = omega arith in rw (nothing-due (s .kind) (s .pending) h₁ h₂)
 
   pub quiet-point : (g : Point) → t < dueDay (g .fields .supply) → catchUp S t g ≡ g
   unfolding catchUp
@@ -89,8 +86,7 @@ first-drop (f ∷ fs) (suc i) h = first-drop fs i (omega arith)
 
 pub first-step : (fs : List Fields) (i due first next : ℕ) → 0 < i → i ≤ length fs → first ≡ firstDue (drop i fs) →
     due ≡ dueDay (getD fs (i - 1) blank .supply) → next ≡ min due first → next ≡ firstDue (drop (i - 1) fs)
-first-step fs i due first next lo hi hf hd hn =
-    let e : suc (i - 1) ≡ i = omega arith in
+first-step fs i due first next lo hi hf hd hn = let e : suc (i - 1) ≡ i = omega arith in
     hn ∙ rw (hd, hf) (sym (rw e at (first-drop fs (i - 1) (omega arith))))
 
 pub first-end : (fs : List Fields) (n : ℕ) → length fs ≡ n → 73049 ≡ firstDue (drop n fs)

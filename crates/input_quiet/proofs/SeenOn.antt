@@ -40,8 +40,7 @@ Whole h = 24 ≤ length (h .periods)
 module _ (d s : ℕ) (h : History) (w : Whole h) where
   replaced-seen : (f : Fields) → seenIn f (replaced d s h) ≡ seen f (used h) d
   unfolding replaced
-  replaced-seen f =
-      ap (λ (q : Period). seen f (used h) (q .start))
+  replaced-seen f = ap (λ (q : Period). seen f (used h) (q .start))
       (getD-set-same (h .periods) (used h - 1) (period d s (newest h .volume)) noPeriod (omega arith))
 
   appended-seen : (f : Fields) → seenIn f (appended d s h) ≡ cond (ltb (used h) 24) (seen f (used h + 1) d) (seenIn f h)
@@ -51,9 +50,7 @@ module _ (d s : ℕ) (h : History) (w : Whole h) where
       go : (b : Bool) → ltb (used h) 24 ≡ b →
           seenIn f (cond b (history (used h + 1) (set (h .periods) (used h) (period d s 0))) h)
           ≡ cond b (seen f (used h + 1) d) (seenIn f h)
-      go true e =
-          let lt = ltb-true (used h) 24 e in
-          let m : min (used h + 1) 24 ≡ used h + 1 = omega arith in
+      go true e = let lt = ltb-true (used h) 24 e in let m : min (used h + 1) 24 ≡ used h + 1 = omega arith in
           let k : used h + 1 - 1 ≡ used h = omega arith in
           rw (m, k, getD-set-same (h .periods) (used h) (period d s 0) noPeriod (omega arith))
       go false e = refl
@@ -63,8 +60,7 @@ module _ (d s : ℕ) (h : History) (w : Whole h) where
   named-seen f g = go (ltb 0 (used h)) refl (eqb (newest h .start) d) refl
     where
       go : (a : Bool) → ltb 0 (used h) ≡ a → (b : Bool) → eqb (newest h .start) d ≡ b →
-          seenIn f (cond (a && b) (replaced d s h) (appended d s h))
-          ≡ cond (a && b) (seen f (used h) (newest h .start))
+          seenIn f (cond (a && b) (replaced d s h) (appended d s h)) ≡ cond (a && b) (seen f (used h) (newest h .start))
           (cond (ltb (used h) 24) (seen f (used h + 1) d) (seen f (used h) (newest h .start)))
       go true x true y = replaced-seen f ∙ ap (seen f (used h)) (sym (eqb-true (newest h .start) d y))
       go true x false y = appended-seen f

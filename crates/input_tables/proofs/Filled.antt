@@ -12,9 +12,7 @@ Filled n m out i = (length m ≡ n) × (length out ≡ n) × (take i out ≡ tak
 
 module _ {A : Type 0} {n : ℕ} (m out : List A) where
   pub filled-next : (i : ℕ) {a : A} (d : A) → i < n → Filled n m out i → a ≡ getD m i d → Filled n m (set out i a) (i + 1)
-  filled-next i {a} d h (e, k, t) z =
-      let l : i < length out = omega arith in
-      let r : i < length m = omega arith in
+  filled-next i {a} d h (e, k, t) z = let l : i < length out = omega arith in let r : i < length m = omega arith in
       (e, length-set out i a ∙ k, rw (add-one i, take-suc-set out i a l, take-suc m i d r, t, z))
 
   pub filled-all : (i : ℕ) → n ≤ i → Filled n m out i → out ≡ m

@@ -10,8 +10,7 @@ use Rattle.input_tables.specs.Tables.{joined, rowAt, pointsOf, Sized}
 use Rattle.input_tables.proofs.Filled.{Pasted, pasted-length}
 
 next-row : (i : ℕ) (ss : List Period) → rowAt i (drop 24 ss) ≡ rowAt (suc i) ss
-next-row i ss =
-    let e : 24 + 24 * i ≡ 24 * suc i = omega arith in
+next-row i ss = let e : 24 + 24 * i ≡ 24 * suc i = omega arith in
     ap (take 24) (drop-drop (24 * i) 24 ss ∙ ap (λ (n : ℕ). drop n ss) e)
 
 pub row-length : (i : ℕ) (ss : List Period) → 24 * i + 24 ≤ length ss → length (rowAt i ss) ≡ 24
@@ -48,11 +47,9 @@ module _ (f : Fields) (n : ℕ) where
   points-slot [] ns ss i k q h = refl
   points-slot (_ ∷ _) [] ss zero k q h = refl
   points-slot (_ ∷ _) [] ss (suc i) k q h = refl
-  points-slot (_ ∷ fs) (_ ∷ ns) ss zero k q h =
-      let e : 24 * 0 + k ≡ k = omega arith in
+  points-slot (_ ∷ fs) (_ ∷ ns) ss zero k q h = let e : 24 * 0 + k ≡ k = omega arith in
       rw (e, take-set-lt 24 ss k q h, drop-set-lt 24 ss k q h)
-  points-slot (f₁ ∷ fs) (n₁ ∷ ns) ss (suc i) k q h =
-      let e : 24 * suc i + k ≡ 24 + (24 * i + k) = omega arith in
+  points-slot (f₁ ∷ fs) (n₁ ∷ ns) ss (suc i) k q h = let e : 24 * suc i + k ≡ 24 + (24 * i + k) = omega arith in
       let l : 24 ≤ 24 + (24 * i + k) = omega arith in
       rw (e, take-set-le 24 ss (24 + (24 * i + k)) q l, drop-set-add 24 ss (24 * i + k) q, points-slot fs ns (drop 24 ss) i k q h, next-row i ss)
 
@@ -63,16 +60,13 @@ module _ (f : Fields) (n : ℕ) where
   points-row [] ns ss row i h w = refl
   points-row (_ ∷ _) [] ss row zero h w = refl
   points-row (_ ∷ _) [] ss row (suc i) h w = refl
-  points-row (_ ∷ fs) (_ ∷ ns) ss row zero h w =
-      let k : take 24 row ≡ row = take-all 24 row (omega arith) in
+  points-row (_ ∷ fs) (_ ∷ ns) ss row zero h w = let k : take 24 row ≡ row = take-all 24 row (omega arith) in
       rw (k, take-at row (drop (0 + 24) ss) 24 h, drop-at row (drop (0 + 24) ss) 24 h)
-  points-row (f₁ ∷ fs) (n₁ ∷ ns) ss row (suc i) h w =
-      let e : 24 * suc i ≡ 24 + 24 * i = omega arith in
+  points-row (f₁ ∷ fs) (n₁ ∷ ns) ss row (suc i) h w = let e : 24 * suc i ≡ 24 + 24 * i = omega arith in
       let l : length (take 24 ss) ≡ 24 = length-take-le 24 ss (omega arith) in
       let z : paste ss (24 + 24 * i) row 24 ≡ take 24 ss ++ paste (drop 24 ss) (24 * i) row 24 =
       rw (take-add 24 (24 * i) ss, append-assoc (take 24 ss) (take (24 * i) (drop 24 ss)) (take 24 row), drop-drop (24 * i + 24) 24 ss)
-      (later i ss row) in
-      rw (
+      (later i ss row) in rw (
         e,
         z,
         take-at (take 24 ss) (paste (drop 24 ss) (24 * i) row 24) 24 l,
@@ -83,8 +77,7 @@ module _ (f : Fields) (n : ℕ) where
       later : (i : ℕ) (ss row : List Period) →
           take 24 ss ++ (take (24 * i) (drop 24 ss) ++ take 24 row) ++ drop (24 + 24 * i + 24) ss
           ≡ take 24 ss ++ (take (24 * i) (drop 24 ss) ++ take 24 row ++ drop (24 + (24 * i + 24)) ss)
-      later i ss row =
-          let e : 24 + (24 * i + 24) ≡ 24 + 24 * i + 24 = omega arith in
+      later i ss row = let e : 24 + (24 * i + 24) ≡ 24 + 24 * i + 24 = omega arith in
           rw (e, append-assoc (take 24 ss) (take (24 * i) (drop 24 ss) ++ take 24 row) (drop (24 + 24 * i + 24) ss))
 
 -- A row pasted in.

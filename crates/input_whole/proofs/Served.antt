@@ -47,8 +47,7 @@ toList d from = cond (d .ready) (left (d .register) from) []
 
 none-left : (r : Register) (from : ℕ) → length (r .points) ≡ 32 → from ≡ 32 → left r from ≡ []
 unfolding listingFrom
-none-left r from h e =
-    rw e (ap (listingFrom 33) (ap (λ (n : ℕ). drop n (r .points)) (sym h) ∙ drop-length (r .points)))
+none-left r from h e = rw e (ap (listingFrom 33) (ap (λ (n : ℕ). drop n (r .points)) (sym h) ∙ drop-length (r .points)))
 
 closing-all : {d : Desk} {from : ℕ} {w : List ℕ} → Sized d → from ≤ 32 → Closing d from w → w ≡ toList d from
 closing-all {d} {from} s le (done h) = go (d .ready) refl
@@ -56,8 +55,7 @@ closing-all {d} {from} s le (done h) = go (d .ready) refl
     go : (b : Bool) → d .ready ≡ b → [] ≡ cond b (left (d .register) from) []
     go true e = sym (none-left (d .register) from (s e) (omega arith))
     go false e = refl
-closing-all {d} {from} s le (more {w = w} before after x c rest) =
-    let n = length before in
+closing-all {d} {from} s le (more {w = w} before after x c rest) = let n = length before in
     let at : x .next ≡ closedNext d from n = ap (λ (y : Listed). y .next) (c .answer) in
     let long : x .written ≡ length (closingPiece d from n) = ap (λ (y : Listed). y .written) (c .answer) in
     let text : take (x .written) after ≡ closingPiece d from n =
@@ -136,10 +134,8 @@ sized-at e h = subst (λ (x : Desk). Sized x) (sym e) h
 through : {s : Session} {input w : List ℕ} {e : Desk} (l : List ℕ) → s .part ≡ begunOf l → length l ≤ keptBytes → Sized (deskOf s) →
     Through s input w e → Runs (deskOf s) l input w e
 through {s} l is short sized (fed {piece = c} {rest = rest} {w = w} before after f h next) =
-    let r = runFrom s (take (takenOf c before) c) in
-    let a = take (takenOf c before) c in
-    let run = run-is s l is short a in
-    let text : take (f .written) after ≡ r .out =
+    let r = runFrom s (take (takenOf c before) c) in let a = take (takenOf c before) c in
+    let run = run-is s l is short a in let text : take (f .written) after ≡ r .out =
     ap₂ (λ (k : ℕ) (o : List ℕ). take k o) (h .runs .written) (h .runs .bytes) ∙ put-start (r .out) before
     in
     let desk-is : deskOf (f .session) ≡ r .state = h .runs .desk in
@@ -184,13 +180,11 @@ next-capped d l = rw (read-capped l)
 
 from-start : (s : Session) → Started s → (input w : List ℕ) (e : Desk) → Through s input w e → Runs startDesk [] input w e
 unfolding startDesk
-from-start s st input w e h =
-    let sized : Sized (deskOf s) = sized-at (st .desk) (λ q. absurd (false≢true q)) in
+from-start s st input w e h = let sized : Sized (deskOf s) = sized-at (st .desk) (λ q. absurd (false≢true q)) in
     rw (st .desk) at (through [] (st .part) (omega arith) sized h)
 
 pub transcript-served : TranscriptServed
-transcript-served s st input v (served {w = w} {c = c} {d = d} h close) =
-    let r = from-start s st input w d h in
+transcript-served s st input v (served {w = w} {c = c} {d = d} h close) = let r = from-start s st input w d h in
     let tail : c ≡ closing (deskBy startDesk [] input) =
     closing-from-start d c (r .sized) close ∙ ap closing (r .desk) in
     ap₂ (λ (x y : List ℕ). x ++ y) (r .text) tail

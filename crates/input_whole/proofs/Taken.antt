@@ -9,6 +9,5 @@ use Rattle.input_pieces.specs.Session.{FedBy}
 
 pub part-taken : (s : Session) (input : List ℕ) (from end : ℕ) (before after : List ℕ) (f : Fed) →
     FedBy s (take (end - from) (drop from input)) before after f → f .taken ≤ end - from
-part-taken s input from end before after f h =
-    let piece = take (end - from) (drop from input) in
+part-taken s input from end before after f h = let piece = take (end - from) (drop from input) in
     omega (arith, h .taken, fitting-le (length before / 24) piece, length-take (end - from) (drop from input))

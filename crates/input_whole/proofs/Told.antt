@@ -59,8 +59,7 @@ open-said : (ls : List (List ℕ)) (l : ℕ → List Span) (n : ℕ → List ℕ
     said nextDesk sayLine (desk true r) ls ≡ said nextBook sayBook (at b) ls
 unfolding said answerOf deskAfter
 open-said [] l n b r h = refl
-open-said (x ∷ ls) l n b r h =
-    go (readLine x) (open-said ls l n b r h)
+open-said (x ∷ ls) l n b r h = go (readLine x) (open-said ls l n b r h)
     (λ c. open-said ls (λ p. l p ++ readNow c l n b r h p) (λ p. n p ++ enrolledNow c l n b r h p) (D.next b c) (applied r c .register)
     (call-agree c l n b r h))
   where
@@ -171,9 +170,7 @@ closing-told (told o cs) h = listing-by-book o h cs
 
 pub every-input : EveryInput
 unfolding startDesk
-every-input input =
-    let ms = map readLine (linesOf input) in
-    let r = noRegister in
+every-input input = let ms = map readLine (linesOf input) in let r = noRegister in
     let end : lastDesk input ≡ storyDesk (storyOf ms) = closed-after r (linesOf input) ∙ story-desk (storyOf ms) in
     record {
       answers = closed-said r (linesOf input);
@@ -185,8 +182,7 @@ every-input input =
 
 pub every-output : EveryOutput
 unfolding bookOutput transcript
-every-output s st input w h =
-    let t = every-input input in
+every-output s st input w h = let t = every-input input in
     transcript-served s st input w h ∙ ap₂ (λ (x y : List ℕ). x ++ y) (t .answers) (t .closing-lines)
 
 pub every-desk : EveryDesk

@@ -12,20 +12,17 @@ use Rattle.input_pieces.proofs.feed.Statement.{statement}
 use Rattle.input_pieces.proofs.feed.Tie as tie
 
 slice-aggregate-answer-lines : tie.Need-slice-aggregate-answer-lines
-slice-aggregate-answer-lines c =
-    let fits = c .before .fitting in
+slice-aggregate-answer-lines c = let fits = c .before .fitting in
     let a = c .before .before .before .before .before .before .before .before .before .before .args in
     sym (length-take-le (fits .result) (a .piece .now) (omega (arith, fits .ensures, fitting-le (length (a .out .now) / longestAnswer) (a .piece .now))))
 
 answer-lines-requires : tie.Need-answer-lines-requires
-answer-lines-requires c κs =
-    let fits = c .before .before .fitting in
+answer-lines-requires c κs = let fits = c .before .before .fitting in
     let a = c .before .before .before .before .before .before .before .before .before .before .before .args in
     taken-room (a .piece .now) (a .out .now) (fits .result) (fits .ensures)
 
 returns : tie.Need-returns
-returns c =
-    let fits = c .before .before .before .before .before .before .fitting in
+returns c = let fits = c .before .before .before .before .before .before .fitting in
     record { taken = fits .ensures; runs = rw (← (fits .ensures)) (c .before .before .before .answer-lines .ensures) }
 
 pub feed-spec : {M : Type 1} → statement M

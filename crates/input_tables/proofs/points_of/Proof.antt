@@ -27,23 +27,18 @@ loop2-holds : tie.Need-loop2-holds Inv-loop2 μ-loop2 Inv-loop μ-loop
 loop2-holds c = (search needs, (row-length (c .before .before .loop .p) (c .before .before .before .before .before .args .t3) (omega arith), refl, refl))
 
 loop2-again : tie.Need-loop2-again Inv-loop2 μ-loop2 Inv-loop μ-loop
-loop2-again c =
-    let l = c .before .before .loop2 in
-    let p = c .before .before .before .before .before in
+loop2-again c = let l = c .before .before .loop2 in let p = c .before .before .before .before .before in
     let at = row-get (p .loop .p) (l .k) (p .before .before .before .args .t3) noPeriod (search needs) in
     (search needs, filled-next _ _ (l .k) noPeriod (search needs) (l .inv .1) (sym at))
 
 loop-again : tie.Need-loop-again Inv-loop2 μ-loop2 Inv-loop μ-loop
-loop-again c =
-    let l = c .before .before .before .before in
-    let a = l .before .before .before .args in
+loop-again c = let l = c .before .before .before .before in let a = l .before .before .before .args in
     let row = filled-all _ _ (c .before .loop2 .k) (search needs) (c .before .loop2 .inv .1) in
     let at = points-get noPoint blank 0 (a .t1) (a .t2) (a .t3) (l .loop .p) (omega arith) (omega arith) in
     (search needs, filled-next _ _ (l .loop .p) noPoint (search needs) (l .loop .inv .1) (rw row (sym at)))
 
 pub points-of-spec : {M : Type 1} → statement M
-points-of-spec =
-    tie.close (tie.spec Inv-loop2 μ-loop2 Inv-loop μ-loop (λ c. search needs) (λ c. search needs)
+points-of-spec = tie.close (tie.spec Inv-loop2 μ-loop2 Inv-loop μ-loop (λ c. search needs) (λ c. search needs)
     (λ c. (search needs, (points-length _ _ _ 32 (search needs) (search needs), refl, refl))) (λ c. search needs)
     (λ c. search needs) (λ c. search needs) (λ c. search needs) loop2-holds (λ c. search needs) (λ c. search needs)
     (λ c. search needs) (λ c. search needs) (λ c. search needs) (λ c. search needs) (λ c. search needs)

@@ -26,16 +26,13 @@ loop-holds : tie.Need-loop-holds Inv-loop2 μ-loop2 Inv-loop μ-loop
 loop-holds c = (search needs, record { fields = refl; counts = refl; slots = refl }, (search needs, points-length _ _ _ 32 refl refl, refl))
 
 loop2-again : tie.Need-loop2-again Inv-loop2 μ-loop2 Inv-loop μ-loop
-loop2-again c =
-    let l = c .before .before .loop2 in
+loop2-again c = let l = c .before .before .loop2 in
     let s = c .before .before .before .before .before .before .before .before .loop .inv .1 in
     (search needs, pasted-next (l .k) noPeriod (omega (arith, s .slots)) (search needs) (l .inv .1))
 
 loop-again : tie.Need-loop-again Inv-loop2 μ-loop2 Inv-loop μ-loop
-loop-again c =
-    let l = c .before .before .before .before .before .before .before .loop in
-    let k : c .before .loop2 .k ≡ 24 = omega arith in
-    let row = rw k at (c .before .loop2 .inv .1) in (
+loop-again c = let l = c .before .before .before .before .before .before .before .loop in
+    let k : c .before .loop2 .k ≡ 24 = omega arith in let row = rw k at (c .before .loop2 .inv .1) in (
       search needs,
       pasted-sized _ _ (search needs) (search needs) (l .inv .1) row,
       rw (pasted-points _ _ (search needs) (search needs) (l .inv .1) row) (filled-next _ _ (l .i) noPoint (search needs) (l .inv .2) (rw (c .before .before .slots-in .ensures))),

@@ -6,15 +6,12 @@ use Rattle.input_whole.proofs.close.Statement.{statement}
 use Rattle.input_whole.proofs.close.Tie as tie
 
 returns : tie.Need-returns
-returns c =
-    let a = c .before .before .before .before .before .before .before .before .args in
+returns c = let a = c .before .before .before .before .before .before .before .before .args in
     closed-ready (deskOf (a .s)) (a .from) (a .out .now) _ (c .before .before .put-listing .result) (c .before .before .before .before .before .before .if1 .taken)
     (rw (c .before .before .before .before .before .desk-of .ensures) at (c .before .before .put-listing .ensures))
 
 returns-2 : tie.Need-returns-2
-returns-2 c =
-    let a = c .before .before .args in
-    closed-unready (deskOf (a .s)) (a .from) (a .out .now) (c .if1 .left)
+returns-2 c = let a = c .before .before .args in closed-unready (deskOf (a .s)) (a .from) (a .out .now) (c .if1 .left)
 
 pub close-spec : {M : Type 1} → statement M
 close-spec = tie.close (tie.spec (λ c κs. search needs) (λ c κs. search needs) (λ c. search needs) returns returns-2)

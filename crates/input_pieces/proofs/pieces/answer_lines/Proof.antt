@@ -31,17 +31,15 @@ abbrev μ-loop : tie.MeasureT-loop
     length piece - at
 
 loop-holds : tie.Need-loop-holds Inv-loop μ-loop
-loop-holds c =
-    let a = c .before .before .before .before in (
-      going-start (a .args .piece .now) (a .args .out .now) _ (a .args .begun) (a .pre),
-      first-is-known _ (c .first-known .ensures),
-      record { fields = search needs; counts = search needs; slots = search needs },
-      omega (arith, c .before .first-due .ensures),
-    )
+loop-holds c = let a = c .before .before .before .before in (
+  going-start (a .args .piece .now) (a .args .out .now) _ (a .args .begun) (a .pre),
+  first-is-known _ (c .first-known .ensures),
+  record { fields = search needs; counts = search needs; slots = search needs },
+  omega (arith, c .before .first-due .ensures),
+)
 
 returns : tie.Need-returns Inv-loop μ-loop
-returns c =
-    let l = c .before .before .before .before .before in
+returns c = let l = c .before .before .before .before .before in
     let piece = l .before .before .before .before .before .args .piece .now in
     let end = next-right _ _ _ _ (c .before .before .before .next-line .ensures) (l .loop .inv .1) .end in
     let rest = take-all (length piece - l .loop .at) (drop (l .loop .at) piece) (omega (arith, length-drop (l .loop .at) piece)) in
@@ -69,18 +67,12 @@ loop-less : tie.Need-loop-less Inv-loop μ-loop
 loop-less c = omega (arith, next-right _ _ _ _ (c .before .before .before .before .before .before .before .before .before .before .before .before .before .before .before .before .before .next-line .ensures) (c .before .before .before .before .before .before .before .before .before .before .before .before .before .before .before .before .before .before .before .loop .inv .1) .end, c .before .before .before .before .before .before .before .before .before .before .before .before .before .before .before .before .if1 .left)
 
 loop-again : tie.Need-loop-again Inv-loop μ-loop
-loop-again c =
-    let j = c .before .before .before .before in
-    let said = j .before .before .before in
-    let k = said .before .before .before in
-    let m = k .before .before .before in
-    let line = m .before .before .before .before in
-    let l = line .before .before .loop in
+loop-again c = let j = c .before .before .before .before in let said = j .before .before .before in
+    let k = said .before .before .before in let m = k .before .before .before in
+    let line = m .before .before .before .before in let l = line .before .before .loop in
     let piece = line .before .before .before .before .before .before .before .args .piece .now in
-    let i = k .before .place-of in
-    let heard = j .before .before .match in
-    let read = next-right _ _ _ _ (line .next-line .ensures) (l .inv .1) in
-    let z : State =
+    let i = k .before .place-of in let heard = j .before .before .match in
+    let read = next-right _ _ _ _ (line .next-line .ensures) (l .inv .1) in let z : State =
     record {
       ready = l .ready;
       set = l .set;
@@ -92,18 +84,15 @@ loop-again c =
       quiet = l .quiet;
     }
     in
-    let n = m .whole-message .result .message in
-    let p = k .newest-place .result in
+    let n = m .whole-message .result .message in let p = k .newest-place .result in
     let told : Heard (d z) (saidHere z n (i .result) p) n (heard .said) (heard .answer) =
     ⊎-elim
     (λ w. known-heard z (l .inv .2) (l .inv .3) n (i .result) (i .ensures .0) (i .ensures .1) p (k .newest-place .ensures) _ _ _ _
-    (said .answer-of .ensures) (w .1 .given .1) (w .3) (w .4))
-    (⊎-elim
+    (said .answer-of .ensures) (w .1 .given .1) (w .3) (w .4)) (⊎-elim
     (λ w. ruled-heard z (l .inv .2) (l .inv .3) n (i .result) (i .ensures .0) (i .ensures .1) p (k .newest-place .ensures) _ _ _ _
     (said .answer-of .ensures) (w .1 .given .1) (w .3) (w .4))
     (λ w. failing-heard z (l .inv .2) (l .inv .3) n (i .result) (i .ensures .0) (i .ensures .1) p (k .newest-place .ensures) _ _ _ _ _ _
-    (said .answer-of .ensures) (w .1 .given .1) (w .4) (w .3 .ensures) (w .5)))
-    (heard .came)
+    (said .answer-of .ensures) (w .1 .given .1) (w .4) (w .3 .ensures) (w .5))) (heard .came)
     in
     let e = j .if2 in
     let next : Next (d z) n (heard .answer) (e .ready) (e .set) (e .day) (e .contracts) (e .fields) (e .counts) (e .slots) (e .quiet) =
@@ -130,15 +119,13 @@ loop-again c =
     )
 
 returns-2 : tie.Need-returns-2 Inv-loop μ-loop
-returns-2 c =
-    let l = c .before .before .before in
+returns-2 c = let l = c .before .before .before in
     let piece = l .before .before .before .before .before .args .piece .now in
     let rest = take-all (length piece - l .loop .at) (drop (l .loop .at) piece) (omega (arith, length-drop (l .loop .at) piece)) in
     ends (l .loop .inv .0) (omega (arith, c .before .before .loop-test .left)) rest (c .at-end2 .ensures)
 
 pub answer-lines-spec : {M : Type 1} → statement M
-answer-lines-spec =
-    tie.close (tie.spec Inv-loop μ-loop (λ c κs. search needs) (λ c κs. search needs) loop-holds
+answer-lines-spec = tie.close (tie.spec Inv-loop μ-loop (λ c κs. search needs) (λ c κs. search needs) loop-holds
     (λ c κs. search needs) (λ c. search needs) (λ c. search needs) (λ c. search needs) (λ c κs. search needs)
     (λ c. search needs) returns sub-whole-message part-whole-message-start (λ c. search needs) (λ c κs. search needs)
     add-at (λ c κs. search needs) (λ c. search needs) (λ c. search needs) (λ c κs. search needs) (λ c. search needs)

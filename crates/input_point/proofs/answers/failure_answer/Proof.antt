@@ -15,13 +15,11 @@ use Rattle.input_point.proofs.answers.failure_answer.Statement.{stateme
 use Rattle.input_point.proofs.answers.failure_answer.Tie as tie
 
 abbrev filled : Settings → ℕ → ℕ → ℕ → List Fields → List ℕ → List Period → ℕ → Bool
-filled S day t s fs ns ss p =
-    touches s (shown (shows S day t fs ns ss) p .fields)
+filled S day t s fs ns ss p = touches s (shown (shows S day t fs ns ss) p .fields)
     && isFull (shown (shows S day t fs ns ss) p) (failed S t s (shown (shows S day t fs ns ss) p .fields))
 
 abbrev Inv-loop : tie.InvT-loop
-Inv-loop set day today s fields counts slots i₀ i =
-    (i ≤ 32)
+Inv-loop set day today s fields counts slots i₀ i = (i ≤ 32)
     × (anyPoint 1 32 (filled set day today s fields counts slots) ≡ anyPoint (i + 1) (32 - i) (filled set day today s fields counts slots))
 
 abbrev μ-loop : tie.MeasureT-loop
@@ -29,9 +27,7 @@ abbrev μ-loop : tie.MeasureT-loop
 
 returns : tie.Need-returns Inv-loop μ-loop
 unfolding failureAnswer
-returns c =
-    let l = c .before .before .before .before .before .before .before in
-    let a = l .before .args in
+returns c = let l = c .before .before .before .before .before .before .before in let a = l .before .args in
     let f : ℕ → Bool = filled (a .set) (a .day) (a .today) (a .s) (a .t5) (a .t6) (a .t7) in
     let v = shown-next (a .set) (a .day) (a .today) (a .t5) (a .t6) (a .t7) (l .loop .i) _ _ (search needs)
     (c .before .before .before .before .before .newest-place .ensures) (c .before .before .view-on .ensures) in
@@ -39,9 +35,7 @@ returns c =
     rw (l .loop .inv .1 ∙ any-found f (l .loop .i + 1) (32 - l .loop .i) (omega arith) x)
 
 loop-again : tie.Need-loop-again Inv-loop μ-loop
-loop-again c =
-    let l = c .before .before .before .before .before .before .before in
-    let a = l .before .args in
+loop-again c = let l = c .before .before .before .before .before .before .before in let a = l .before .args in
     let f : ℕ → Bool = filled (a .set) (a .day) (a .today) (a .s) (a .t5) (a .t6) (a .t7) in
     let v = shown-next (a .set) (a .day) (a .today) (a .t5) (a .t6) (a .t7) (l .loop .i) _ _ (search needs)
     (c .before .before .before .before .before .newest-place .ensures) (c .before .before .view-on .ensures) in (
@@ -51,9 +45,7 @@ loop-again c =
 
 returns-2 : tie.Need-returns-2 Inv-loop μ-loop
 unfolding failureAnswer
-returns-2 c =
-    let l = c .before .loop in
-    let a = c .before .before .args in
+returns-2 c = let l = c .before .loop in let a = c .before .before .args in
     let f : ℕ → Bool = filled (a .set) (a .day) (a .today) (a .s) (a .t5) (a .t6) (a .t7) in
     let z : 32 - l .i ≡ 0 = omega arith in
     rw (l .inv .1 ∙ ap (λ (n : ℕ). anyPoint (l .i + 1) n f) z ∙ any-none f (l .i + 1))

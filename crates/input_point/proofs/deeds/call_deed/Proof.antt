@@ -6,8 +6,7 @@ use Rattle.input_point.proofs.deeds.call_deed.Statement.{statement}
 use Rattle.input_point.proofs.deeds.call_deed.Tie as tie
 
 pub call-deed-spec : {M : Type 1} → statement M
-call-deed-spec =
-    tie.close (tie.spec (λ c. search needs)
+call-deed-spec = tie.close (tie.spec (λ c. search needs)
     (λ c. unfold callDeed in rw (c .before .before .a .given .1, lt-ltb _ _ (c .if1 .taken))) (λ c. search needs)
     (λ c. search needs) (λ c κs. search needs) (λ c. search needs)
     (λ c. unfold callDeed in rw (c .before .before .a .given .1, le-ltb _ _ (c .if1 .left)))

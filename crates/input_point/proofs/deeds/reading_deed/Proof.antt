@@ -11,6 +11,5 @@ returns c =
     rw (sym (c .before .before .before .lies-in .ensures) ∙ c .before .before .if1 .taken, c .before .newest-place .ensures, c .book-newest .ensures)
 
 pub reading-deed-spec : {M : Type 1} → statement M
-reading-deed-spec =
-    tie.close (tie.spec (λ c κs. search needs) (λ c κs. search needs) (λ c κs. search needs) returns
+reading-deed-spec = tie.close (tie.spec (λ c κs. search needs) (λ c κs. search needs) (λ c κs. search needs) returns
     (λ c. unfold readingDeed in rw (sym (c .before .lies-in .ensures) ∙ c .if1 .left)))

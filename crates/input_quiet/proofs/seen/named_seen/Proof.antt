@@ -15,7 +15,6 @@ unfolding namedSeen
 returns-3 c = rw (sym (c .before .before .is-marked .ensures) ∙ c .before .if1 .left, le-ltb _ _ (c .if2 .left))
 
 pub named-seen-spec : {M : Type 1} → statement M
-named-seen-spec =
-    tie.close (tie.spec (λ c κs. search needs)
+named-seen-spec = tie.close (tie.spec (λ c κs. search needs)
     (λ c. unfold namedSeen in rw (sym (c .before .is-marked .ensures) ∙ c .if1 .taken)) (λ c. search needs) returns-2
     returns-3)

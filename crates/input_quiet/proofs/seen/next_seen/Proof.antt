@@ -5,6 +5,5 @@ use Rattle.input_quiet.proofs.seen.next_seen.Statement.{statement}
 use Rattle.input_quiet.proofs.seen.next_seen.Tie as tie
 
 pub next-seen-spec : {M : Type 1} → statement M
-next-seen-spec =
-    tie.close (tie.spec (λ c κs. search needs) (λ c κs. search needs)
+next-seen-spec = tie.close (tie.spec (λ c κs. search needs) (λ c κs. search needs)
     (λ c. unfold nextSeen in rw (← (c .before .due-by .ensures)) (c .happen-seen .ensures)))

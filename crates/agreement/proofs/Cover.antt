@@ -60,8 +60,7 @@ module _ (vol : ℕ → ℕ) where
   pub sumDays-more : (d e end a : ℕ) → e ≡ suc d → e ≤ end → a ≡ sumDays vol e (end - e)
       → a + vol d ≡ sumDays vol d (end - d)
   unfolding sumDays
-  sumDays-more d e end a q le k =
-      let n : end - d ≡ suc (end - suc d) = omega arith in
+  sumDays-more d e end a q le k = let n : end - d ≡ suc (end - suc d) = omega arith in
       rw n (omega (arith, ap (λ (m : ℕ). sumDays vol m (end - m)) q))
 
   volumes-tally : (t : ℕ) (cs : List Cell) (e a : ℕ) (l : List Period) → Runs e cs → e ≤ dayAfter t (starts l)
@@ -73,8 +72,7 @@ module _ (vol : ℕ → ℕ) where
       let v = sumDays-more d e (dayAfter t (starts l)) a (r .0) le q in
       volumes-tally t cs d 0 (period d h (a + vol d) ∷ l) (r .1) (omega arith) (sumDays-none d)
       (ap₂ (λ (n : ℕ) (vs : List ℕ). n ∷ vs) v k)
-  volumes-tally t (cell d h false ∷ cs) e a l r le q k =
-      volumes-tally t cs d (a + vol d) l (r .1) (omega arith)
+  volumes-tally t (cell d h false ∷ cs) e a l r le q k = volumes-tally t cs d (a + vol d) l (r .1) (omega arith)
       (sumDays-more d e (dayAfter t (starts l)) a (r .0) le q) k
 
 -- Day d lies before the periods l.
@@ -91,8 +89,7 @@ module _ (d : ℕ) where
       → covering d (reverseAux ps (p ∷ l)) ≡ covering d (p ∷ l)
   unfolding covering
   covering-older p [] l le r = refl
-  covering-older p (q ∷ ps) l le r =
-      covering-older q ps (p ∷ l) (omega arith) (r .1)
+  covering-older p (q ∷ ps) l le r = covering-older q ps (p ∷ l) (omega arith) (r .1)
       ∙ rw (le-leb (q .start) d (omega arith), le-ltb d (p .start) le)
 
   covering-begun : (p : Period) (ps l : List Period) → p .start ≤ d → Desc (p .start) ps → Ahead d l
@@ -119,22 +116,18 @@ module _ (d : ℕ) where
         → holders (covering d (reverseAux (tally vol cs a) l)) ≡ holderOn d cs ∷ []
     unfolding tally oldest holderOn
     held-on [] e end a h l r k lt le o w = let z : ⊥ = omega arith in absurd z
-    held-on (cell c j true ∷ cs) e end a h l r k lt le o w =
-        let p : Period = period c j (a + vol c) in
+    held-on (cell c j true ∷ cs) e end a h l r k lt le o w = let p : Period = period c j (a + vol c) in
         elim (ℕ-discrete c d) [
           | yes q ↦ rw (eq-eqb c d q)
               (covering-begun p (tally vol cs 0) l (omega arith) (tally-desc vol cs c 0 (r .1)) w)
-          | no q ↦ rw (ne-eqb c d q)
-              (held-on cs c c 0 (k .1 .0) (p ∷ l) (r .1) (k .1 .1) (omega arith) (omega arith) o
+          | no q ↦ rw (ne-eqb c d q) (held-on cs c c 0 (k .1 .0) (p ∷ l) (r .1) (k .1 .1) (omega arith) (omega arith) o
               (ahead-cons p l (omega arith) w))
         ]
-    held-on (cell c j false ∷ cs) e end a h l r k lt le o w =
-        elim (ℕ-discrete c d) [
-          | yes q ↦ rw (eq-eqb c d q, k .0)
-              (held-after cs c end (a + vol c) h l (r .1) (k .1) (omega arith) (omega arith) o w)
-          | no q ↦ rw (ne-eqb c d q)
-              (held-on cs c end (a + vol c) h l (r .1) (k .1) (omega arith) (omega arith) o w)
-        ]
+    held-on (cell c j false ∷ cs) e end a h l r k lt le o w = elim (ℕ-discrete c d) [
+      | yes q ↦ rw (eq-eqb c d q, k .0)
+          (held-after cs c end (a + vol c) h l (r .1) (k .1) (omega arith) (omega arith) o w)
+      | no q ↦ rw (ne-eqb c d q) (held-on cs c end (a + vol c) h l (r .1) (k .1) (omega arith) (omega arith) o w)
+    ]
 
 -- A point whose periods are the tally of the cells.
 module _ (g : Point) (sized : Sized (g .history)) where
@@ -158,14 +151,12 @@ module _ (g : Point) (sized : Sized (g .history)) where
     module _ (t : ℕ) (live : Live t cs) where
       pub volumes-read : volumesOf g ≡ dailySums vol t (startsOf g)
       unfolding dailySums
-      volumes-read =
-          rw (starts-read, periods-read, told)
+      volumes-read = rw (starts-read, periods-read, told)
           (volumes-tally vol t cs (suc t) 0 [] (live-runs t cs live) (omega arith) (sumDays-none vol (suc t)) refl)
 
       pub covered-read : (h : ℕ) → Held h cs → (d : ℕ) → ((x : ℕ) → oldest (listed (g .history)) x ≤ d) → d ≤ t
           → map (λ (q : Period). some (q .holder)) (covering d (periodsOf g)) ≡ holderOn d cs ∷ []
       unfolding covering
-      covered-read h held d o le =
-          rw (periods-read, told)
+      covered-read h held d o le = rw (periods-read, told)
           (held-on d vol cs (suc t) (suc t) 0 h [] (live-runs t cs live) held (omega arith) (omega arith)
           (rw (← told) (o (suc t))) (refl, refl))

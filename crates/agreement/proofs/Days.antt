@@ -26,9 +26,7 @@ module _ (S : Settings) (B : 0 < S .b) where
   day-tied : (t : ℕ) (l : List Span) (n : List ℕ) (g : Page) (r : Point) → Tied t l n g r → suc t ≤ lastDay
       → Tied (suc t) l n (newDay S (suc t) g) (onDay S (suc t) r)
   unfolding newDay
-  day-tied t l n g r h cal =
-      let f : Fields = g .fields in
-      let x = h .point in
+  day-tied t l n g r h cal = let f : Fields = g .fields in let x = h .point in
       let new : Page = record { fields = f; cells = cell (suc t) (f .supply .holder) false ∷ g .cells } in
       let told : Told (suc t) l n new r = record {
         same = x .same;
@@ -40,17 +38,13 @@ module _ (S : Settings) (B : 0 < S .b) where
         most = x .most;
         held = (refl, x .held);
         born = x .born;
-      } in
-      let fine : Fine t (look new) = record {
+      } in let fine : Fine t (look new) = record {
         past = h .fine .past;
         wheels = h .fine .wheels;
         ahead = h .fine .ahead;
         fit = h .fine .fit;
         blank = h .fine .blank;
-      } in
-      let e : Effect = event S (suc t) f in
-      let q : spansIn e ≡ [] = event-unread S (suc t) f in
-      rw (← (x .same))
+      } in let e : Effect = event S (suc t) f in let q : spansIn e ≡ [] = event-unread S (suc t) f in rw (← (x .same))
       (subst₂ (λ (x : List Span) (y : List ℕ). Tied (suc t) x y (written e (new .cells)) (entered (suc t) e (r .history)))
       (ap (λ (x : List Span). l ++ x) q ∙ append-nil l) (append-nil n)
       (effect-tied (suc t) l n new r told e [] (rw q (event-good S B t (look new) fine)) cal))
@@ -64,21 +58,18 @@ module _ (S : Settings) (B : 0 < S .b) where
       → Tied (t + k) l n (pages k t g) (daily S k t r)
   unfolding pages daily
   days-tied zero t l n g r h cal = rw (add-zero t) h
-  days-tied (suc k) t l n g r h cal =
-      rw (add-suc t k, ← (suc-add t k))
+  days-tied (suc k) t l n g r h cal = rw (add-suc t k, ← (suc-add t k))
       (days-tied k (suc t) l n (newDay S (suc t) g) (onDay S (suc t) r) (day-tied t l n g r h (omega arith)) (omega arith))
 
 goOn-page : (k : ℕ) (b : Book) (B : 0 < b .settings .b) (p : ℕ) → goOn k b .page p ≡ pages (b .settings) B k (b .day) (b .page p)
 unfolding pages goOn
 goOn-page zero b B p = refl
-goOn-page (suc k) b B p =
-    goOn-page k
-    (record {
-      settings = b .settings;
-      day = suc (b .day);
-      contracts = b .contracts;
-      page = λ q. newDay (b .settings) (suc (b .day)) (b .page q);
-    })
+goOn-page (suc k) b B p = goOn-page k (record {
+  settings = b .settings;
+  day = suc (b .day);
+  contracts = b .contracts;
+  page = λ q. newDay (b .settings) (suc (b .day)) (b .page q);
+})
     B p
 
 -- going on leaves the settings and the contracts
@@ -90,14 +81,12 @@ pub record GoneOn (k : ℕ) (b : Book) : Type 0 where
 pub gone-on : (k : ℕ) (b : Book) → GoneOn k b
 unfolding goOn
 gone-on zero b = record { settings = refl; contracts = refl; day = sym (add-zero (b .day)) }
-gone-on (suc k) b =
-    let next : Book = record {
-      settings = b .settings;
-      day = suc (b .day);
-      contracts = b .contracts;
-      page = λ q. newDay (b .settings) (suc (b .day)) (b .page q);
-    } in
-    let h = gone-on k next in
+gone-on (suc k) b = let next : Book = record {
+  settings = b .settings;
+  day = suc (b .day);
+  contracts = b .contracts;
+  page = λ q. newDay (b .settings) (suc (b .day)) (b .page q);
+} in let h = gone-on k next in
     record { settings = h .settings; contracts = h .contracts; day = h .day ∙ suc-add (b .day) k ∙ sym (add-suc (b .day) k) }
 
 -- An element of a list that a function went over.
@@ -117,8 +106,7 @@ module _ (b : Book) (r : Register) (same : b .settings ≡ r .settings) (days : 
   point = pointAt p (r .points)
 
   jumped : Tied t l n (upToDay t b .page p) (catchUp (b .settings) t point)
-  jumped =
-      let z : b .day + (t - b .day) ≡ t = omega arith in
+  jumped = let z : b .day + (t - b .day) ≡ t = omega arith in
       let c : daily (b .settings) (t - b .day) (b .day) point ≡ catchUp (b .settings) (b .day + (t - b .day)) point
       = daily-catchUp (b .settings) B (t - b .day) (b .day) point
       (subst (λ (f : Fields). Ahead (b .day) (f .supply)) (h .point .same) (h .fine .ahead)) in
@@ -134,8 +122,7 @@ module _ (b : Book) (r : Register) (same : b .settings ≡ r .settings) (days : 
   unfolding advanced
   caught = go (eqb (r .day) t) refl
     where
-      go : (x : Bool) → eqb (r .day) t ≡ x
-          → Tied t l n (upToDay t b .page p)
+      go : (x : Bool) → eqb (r .day) t ≡ x → Tied t l n (upToDay t b .page p)
           (pointAt p (cond x r (register (r .settings) t (r .contracts) (map (catchUp (r .settings) t) (r .points))) .points))
       go true e = stayed (days ∙ eqb-true (r .day) t e)
       go false e = rw (point-map (catchUp (r .settings) t) (r .points) p lo hi, ← same) jumped

@@ -55,8 +55,7 @@ module _ (t : ℕ) (g : Point) (h : Firm t (g .fields) (g .history)) (e : Effect
 
   sums : (b : Bool) → g .fields .enrolled ≡ b → sumVolumes (bookTotals sp (suc t) ps) ≡ sumVolumes ps + registered sp
   unfolding bookTotals registered
-  sums true y =
-      let s = h .begun y in
+  sums true y = let s = h .begun y in
       sum-bookTotals sp ps (suc t) (g .fields .reading .day) (h .falling) (rw (s .is (suc t)) (s .read))
       (all-map sp (λ s w. (w .0, w .1, omega (arith, w .2, k .hi))) (k .made))
   sums false z = rw (k .once z) (omega arith)
@@ -72,8 +71,7 @@ module _ (t : ℕ) (g : Point) (h : Firm t (g .fields) (g .history)) (e : Effect
   books-oldest x = ap (λ (q : List Period). oldest q x) books ∙ oldest-bookTotals sp ps x (suc t)
 
   books-began : startsOn t H ≡ startsOn t (g .history)
-  books-began =
-      starts-listed t H books-sized ∙ ap (beganOn t) books ∙ began-bookTotals sp ps (suc t) t
+  books-began = starts-listed t H books-sized ∙ ap (beganOn t) books ∙ began-bookTotals sp ps (suc t) t
       ∙ sym (starts-listed t (g .history) (h .sized))
 
   books-count : H .count ≡ g .history .count
@@ -119,8 +117,7 @@ module _ (t : ℕ) (g : Point) (h : Firm t (g .fields) (g .history)) (e : Effect
     first q z x = rw z
 
     since : (b : Bool) → g .fields .enrolled ≡ b → Names t b (fieldsOf e) j → Begun (listed (named t s H)) (fieldsOf e .reading .day)
-    since true y m =
-        let o = h .begun y in
+    since true y m = let o = h .begun y in
         record {
           start = o .start;
           is = λ x. ap (λ (q : List Period). oldest q x) begins ∙ oldest-begin t s (listed H) x ∙ books-oldest t ∙ o .is t;
@@ -142,8 +139,7 @@ module _ (t : ℕ) (g : Point) (h : Firm t (g .fields) (g .history)) (e : Effect
     }
 
     count-name : named t s H .count ≡ seen + cond (startsOn t (g .history)) 0 1
-    count-name =
-        sym (length-listed (named t s H)) ∙ ap length begins ∙ length-begin t s (listed H)
+    count-name = sym (length-listed (named t s H)) ∙ ap length begins ∙ length-begin t s (listed H)
         ∙ rw (length-listed H, ← (starts-listed t H books-sized), books-began, books-count)
 
   after-effect : (b : Bool) → Enrols t (g .fields) b (fieldsOf e) j
@@ -160,6 +156,5 @@ module _ (t : ℕ) (g : Point) (h : Firm t (g .fields) (g .history)) (e : Effect
   firm-after = after-effect (names e) (k .enrols) (k .fit) .0
 
   pub fine-entered : Fine t (view t (entered t e (g .history)))
-  fine-entered =
-      let m = after-effect (names e) (k .enrols) (k .fit) .1 in
+  fine-entered = let m = after-effect (names e) (k .enrols) (k .fit) .1 in
       record { past = k .hi; wheels = k .wheels; ahead = k .ahead; fit = rw m (k .fit); blank = rw m (k .blank) }

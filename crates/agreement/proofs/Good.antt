@@ -121,8 +121,7 @@ module _ (S : Settings) (B : 0 < S .b) (t : ℕ) where
       → (v .fields .enrolled ≡ false → (v .marks ≡ 0) × (v .fields .supply ≡ unsupplied)) → (s : Supply) → Ahead (suc t) s
       → due s < due (v .fields .supply) → Good (suc t) v (Effect.Name (withSupply (v .fields) s)) [] []
   unfolding registered
-  spends v p w f b s a lt =
-      let y : v .fields .enrolled ≡ true = due-enrolled v (λ z. b z .1) (omega arith) in
+  spends v p w f b s a lt = let y : v .fields .enrolled ≡ true = due-enrolled v (λ z. b z .1) (omega arith) in
       record {
         lo = omega arith;
         hi = p;
@@ -199,8 +198,7 @@ module _ (S : Settings) (B : 0 < S .b) (t : ℕ) where
               → Good (suc t) (seen k (Pending.Request s e)) (pendingEvent S (suc t) (seen k (Pending.Request s e) .fields) (Pending.Request s e)) [] []
           go true z =
               rw z (spends (seen k (Pending.Request s e)) (omega arith) u f b (supply s SupplyKind.Contract Pending.Nothing)
-              (record { kind = tt; pending = tt })
-              (omega arith))
+              (record { kind = tt; pending = tt }) (omega arith))
           go false z = rw z (deadline-good k (Pending.Request s e) f b a (later e c z))
 
   pub event-good : (v : View) → Fine t v → Good (suc t) v (event S (suc t) (v .fields)) [] []

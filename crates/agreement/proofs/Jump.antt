@@ -62,8 +62,7 @@ daily-add S (suc k) m t g = rw (suc-add k m, add-suc t k, ← (suc-add t k)) (da
 daily-quiet : (S : Settings) (n t : ℕ) (g : Point) → Ahead (t + n) (g .fields .supply) → daily S n t g ≡ g
 unfolding daily
 daily-quiet S zero t g a = refl
-daily-quiet S (suc n) t g a =
-    rw (event-quiet S (suc t) (g .fields) (ahead-back (g .fields .supply) (omega arith) a))
+daily-quiet S (suc n) t g a = rw (event-quiet S (suc t) (g .fields) (ahead-back (g .fields .supply) (omega arith) a))
     (daily-quiet S n (suc t) g (ahead-back (g .fields .supply) (omega arith) a))
 
 -- The day of the next event, where there is one.
@@ -194,12 +193,9 @@ module _ (S : Settings) (B : 0 < S .b) where
     request-or-deadline k s e d ends l deadline = go (leb e d) refl
       where
         go : (b : Bool) → leb e d ≡ b → Fires (point k (Pending.Request s e)) (min e d)
-        go true z =
-            let x : min e d ≡ e = omega (arith, leb-true e d z) in
+        go true z = let x : min e d ≡ e = omega (arith, leb-true e d z) in
             rw x (switches k s e (ends ∙ le-ltb d e (leb-true e d z)) l)
-        go false z =
-            let x : min e d ≡ d = omega (arith, leb-false e d z) in
-            rw x (deadline (leb-false e d z))
+        go false z = let x : min e d ≡ d = omega (arith, leb-false e d z) in rw x (deadline (leb-false e d z))
 
     fires : (k : SupplyKind) (q : Pending) → AtDay (nextDay k q) (Fires (point k q))
     unfolding event pendingEvent deadlineEvent nextEvent dueBy expiryBy endsBefore happened
@@ -265,10 +261,7 @@ module _ (S : Settings) (B : 0 < S .b) where
   daily-to : (n t d : ℕ) (g : Point) → t < d → d ≤ t + n → ((x : ℕ) → x < d → Ahead x (g .fields .supply))
       → daily S n t g ≡ daily S (t + n - d) d (onDay S d g)
   unfolding daily
-  daily-to n t d g lo hi a =
-      let k : ℕ = d - suc t in
-      let m : ℕ = t + n - d in
-      let e : suc (t + k) ≡ d = omega arith in
+  daily-to n t d g lo hi a = let k : ℕ = d - suc t in let m : ℕ = t + n - d in let e : suc (t + k) ≡ d = omega arith in
       let f : n ≡ k + suc m = omega arith in
       ap (λ (x : ℕ). daily S x t g) f ∙ daily-add S k (suc m) t g
       ∙ ap (daily S (suc m) (t + k)) (daily-quiet S k t g (a (t + k) (omega arith)))
@@ -277,8 +270,7 @@ module _ (S : Settings) (B : 0 < S .b) where
   daily-events : (k n t : ℕ) (g : Point) → left (g .fields .supply) ≤ k → Ahead t (g .fields .supply)
       → daily S n t g ≡ events k (t + n) g
   unfolding events
-  daily-events zero n t g le a =
-      let w = none-left (t + n) (g .fields .supply .kind) (g .fields .supply .pending) le in
+  daily-events zero n t g le a = let w = none-left (t + n) (g .fields .supply .kind) (g .fields .supply .pending) le in
       calm 0 n t g (record { kind = w .0; pending = w .1 })
   daily-events (suc k) n t g le a = go (nextOf g) refl (daily-events k)
     where
@@ -294,14 +286,11 @@ module _ (S : Settings) (B : 0 < S .b) where
       go (on d) e ih = fork (leb d (t + n)) refl
         where
           fork : (b : Bool) → leb d (t + n) ≡ b → daily S n t g ≡ events k (t + n) (nextEvent S (t + n) g)
-          fork true q =
-              let hi : d ≤ t + n = leb-true d (t + n) q in
-              let lo : t < d
+          fork true q = let hi : d ≤ t + n = leb-true d (t + n) q in let lo : t < d
               = subst (After t) e (ahead-after t (g .fields .supply .kind) (g .fields .supply .pending) (a .kind) (a .pending)) in
               let w : Fires g d = subst (λ (x : NextDay). AtDay x (Fires g)) e (point-fires g) in
               let z : d + (t + n - d) ≡ t + n = omega arith in
-              let f = entered-fields d (event S d (g .fields)) (g .history) in
-              rw (w .next (t + n) hi, ← z)
+              let f = entered-fields d (event S d (g .fields)) (g .history) in rw (w .next (t + n) hi, ← z)
               (daily-to n t d g lo hi (λ x lt. ahead (on d) x e lt)
               ∙ ih (t + n - d) d (onDay S d g) (rw f (omega (arith, w .fewer)))
               (rw f (record { kind = w .kind; pending = w .pending })))

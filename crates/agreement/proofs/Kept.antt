@@ -42,8 +42,7 @@ is-enrolled p v h = not-false _ (neither (notPoint p) _ h .1)
 -- What a reading books: at most a full turn, which is at most 10^11 thousandths.
 turn-unit : (m : Meter) → fullTurn m * unitOf m ≤ perDay
 unfolding fullTurn unitOf
-turn-unit m =
-    let k : min (m .before) 8 + min (m .after) 3 + (3 - m .after) ≤ 11 = omega arith in
+turn-unit m = let k : min (m .before) 8 + min (m .after) 3 + (3 - m .after) ≤ 11 = omega arith in
     rw (← (pow-add 10 (min (m .before) 8 + min (m .after) 3) (3 - m .after))) (pow-le-pow-right (omega arith) k)
 
 advance-most : (x₁ x z turn : ℕ) → z ≤ 1 → leb turn x ≡ false → (eqb z 0 && ltb x x₁) ≡ false → (eqb z 1 && not (ltb x x₁)) ≡ false
@@ -56,11 +55,8 @@ advance-most x₁ x (suc (suc z)) turn h a b c = absurd (omega arith)
 span-most : (f : Fields) (d x z : ℕ) → notMark z ≡ false → indexDisagrees f x z ≡ false
     → spanTo f d x z .advance * spanTo f d x z .unit ≤ perDay
 unfolding spanTo
-span-most f d x z m i =
-    let c = neither (leb (fullTurn (f .meter)) x || (eqb z 0 && ltb x (f .reading .index))) _ i in
-    let b = neither (leb (fullTurn (f .meter)) x) _ (c .0) in
-    le-trans
-    (mul-le-mul-right (unitOf (f .meter))
+span-most f d x z m i = let c = neither (leb (fullTurn (f .meter)) x || (eqb z 0 && ltb x (f .reading .index))) _ i in
+    let b = neither (leb (fullTurn (f .meter)) x) _ (c .0) in le-trans (mul-le-mul-right (unitOf (f .meter))
     (advance-most (f .reading .index) x z (fullTurn (f .meter)) (ltb-false 1 z (neither (ltb z 0) (ltb 1 z) m .1)) (b .0) (b .1) (c .1)))
     (turn-unit (f .meter))
 
@@ -102,8 +98,7 @@ module _ (S : Settings) (A : 0 < S .a) (B : 0 < S .b) (day : ℕ) (u : List Bool
         → g .supply ≡ v .fields .supply → Wheels (g .meter) → outOfTime t d (v .fields) ≡ false
         → notMark z ≡ false → indexDisagrees (v .fields) x z ≡ false → Good t v (Effect.Read (spanTo (v .fields) d x z) g) (spanTo (v .fields) d x z ∷ []) []
     unfolding registered spanTo
-    reads y d x z g r n s w o m i =
-        let c = neither (leb d (v .fields .reading .day)) (ltb t d) o in
+    reads y d x z g r n s w o m i = let c = neither (leb d (v .fields .reading .day)) (ltb t d) o in
         let lt : v .fields .reading .day < d = leb-false d (v .fields .reading .day) (c .0) in
         let le : d ≤ t = ltb-false t d (c .1) in
         record {
@@ -123,11 +118,9 @@ module _ (S : Settings) (A : 0 < S .a) (B : 0 < S .b) (day : ℕ) (u : List Bool
     at-good : (p : ℕ) (a : PointAction) (b : Answer) → isAccepted (firstOf (rowsAt S day u t p a v) b) ≡ true
         → Good t v (effectOf S t a (v .fields)) (spansIn (effectOf S t a (v .fields))) (enrolledBy t (effectOf S t a (v .fields)))
     unfolding effectOf rowsAt registered effectiveDay
-    at-good p (PointAction.Enrol b a x) _ ok =
-        let c = pass _ _ _ _ ok in
+    at-good p (PointAction.Enrol b a x) _ ok = let c = pass _ _ _ _ ok in
         let k = pass _ _ _ _ (pass _ _ _ _ (dated day t _ _ (c .1) .rest) .1) in
-        let w = neither (outside 1 8 b) (outside 0 3 a) (c .0) in
-        let z = h .blank (k .0) in
+        let w = neither (outside 1 8 b) (outside 0 3 a) (c .0) in let z = h .blank (k .0) in
         record {
           lo = h .past;
           hi = omega arith;
@@ -156,23 +149,17 @@ module _ (S : Settings) (A : 0 < S .a) (B : 0 < S .b) (day : ℕ) (u : List Bool
         (not-full (effectOf S t (PointAction.Request s k r) (v .fields)) (pass _ _ _ _ (pass-near S t (v .fields .supply .kind) _ _ (f .1)) .0))
     at-good p (PointAction.Cancel s) _ ok =
         asks (is-enrolled p v (pass _ _ _ _ (dated day t _ _ (pass _ _ _ _ ok .1) .rest) .0)) Pending.Nothing tt _ refl refl (omega (arith, h .fit))
-    at-good p (PointAction.Reading d x z) _ ok =
-        let c = pass _ _ _ _ ok in
-        let k = pass _ _ _ _ (dated-also day t _ _ _ (c .1) .1 .rest) in
-        let l = pass _ _ _ _ (k .1) in
+    at-good p (PointAction.Reading d x z) _ ok = let c = pass _ _ _ _ ok in
+        let k = pass _ _ _ _ (dated-also day t _ _ _ (c .1) .1 .rest) in let l = pass _ _ _ _ (k .1) in
         reads (is-enrolled p v (k .0)) d x z _ refl refl refl (h .wheels) (l .0) (c .0) (pass _ _ _ _ (l .1) .0)
-    at-good p (PointAction.MeterChange x z b a y) _ ok =
-        let c = pass _ _ _ _ ok in
-        let k = pass _ _ _ _ (dated day t _ _ (c .1) .rest) in
-        let l = pass _ _ _ _ (k .1) in
-        let n = neither (notMark z) (notWheels b a) (c .0) in
-        let w = neither (outside 1 8 b) (outside 0 3 a) (n .1) in
+    at-good p (PointAction.MeterChange x z b a y) _ ok = let c = pass _ _ _ _ ok in
+        let k = pass _ _ _ _ (dated day t _ _ (c .1) .rest) in let l = pass _ _ _ _ (k .1) in
+        let n = neither (notMark z) (notWheels b a) (c .0) in let w = neither (outside 1 8 b) (outside 0 3 a) (n .1) in
         let i = neither (indexDisagrees (v .fields) x z) _ (pass _ _ _ _ (l .1) .0) in
         reads (is-enrolled p v (k .0)) t x z _ refl refl refl
         (ltb-false 8 b (neither (ltb b 1) (ltb 8 b) (w .0) .1), ltb-false 3 a (neither (ltb a 0) (ltb 3 a) (w .1) .1))
         (l .0) (n .0) (i .0)
-    at-good p PointAction.OutOfService _ ok =
-        let b = pass _ _ _ _ (dated day t _ _ ok .rest) in
+    at-good p PointAction.OutOfService _ ok = let b = pass _ _ _ _ (dated day t _ _ ok .rest) in
         naming t v h (is-enrolled p v (b .0)) _ refl refl refl (record { kind = tt; pending = tt })
         (not-full (effectOf S t PointAction.OutOfService (v .fields)) (pass _ _ _ _ (pass _ _ _ _ (b .1) .1) .0))
     at-good p (PointAction.Suspend m) _ ok = unchanged t v h _ refl refl refl refl
@@ -193,13 +180,11 @@ module _ (S : Settings) (A : 0 < S .a) (B : 0 < S .b) (day : ℕ) (u : List Bool
         go : (b : Bool) → eqb (v .fields .supply .holder) s ≡ b
             → ((b || isBy s (v .fields .supply .pending)) && isFull v (cond b
             (Effect.Name (withSupply (v .fields) (supply (S .resort) (SupplyKind.LastResort (t + S .b)) (dropped s (v .fields .supply .pending)))))
-            (Effect.Keep (withPending (v .fields) (dropped s (v .fields .supply .pending)))))) ≡ false
-            → let e = cond b
+            (Effect.Keep (withPending (v .fields) (dropped s (v .fields .supply .pending)))))) ≡ false → let e = cond b
             (Effect.Name (withSupply (v .fields) (supply (S .resort) (SupplyKind.LastResort (t + S .b)) (dropped s (v .fields .supply .pending)))))
             (Effect.Keep (withPending (v .fields) (dropped s (v .fields .supply .pending)))) in
             Good t v e (spansIn e) (enrolledBy t e)
-        go true e k =
-            naming t v h (holder-enrolled s lo (eqb-true _ _ e))
+        go true e k = naming t v h (holder-enrolled s lo (eqb-true _ _ e))
             (withSupply (v .fields) (supply (S .resort) (SupplyKind.LastResort (t + S .b)) (dropped s (v .fields .supply .pending)))) refl refl refl
             (record { kind = omega arith; pending = pending-dropped t s (v .fields .supply .pending) (h .ahead .pending) })
             (not-full (Effect.Name (withSupply (v .fields) (supply (S .resort) (SupplyKind.LastResort (t + S .b)) (dropped s (v .fields .supply .pending))))) k)
@@ -223,8 +208,7 @@ module _ (S : Settings) (A : 0 < S .a) (B : 0 < S .b) (day : ℕ) (u : List Bool
       → Good t (v p) (effect S t c p (v p .fields)) (spansIn (effect S t c p (v p .fields))) (enrolledBy t (effect S t c p (v p .fields)))
   unfolding effect rows answerTo
   call-good v p lo hi h (Action.Contract s) ok = unchanged t (v p) h (v p .fields) refl refl refl refl
-  call-good v p lo hi h (Action.Failure s) ok =
-      let k = pass _ _ _ _ ok in
+  call-good v p lo hi h (Action.Failure s) ok = let k = pass _ _ _ _ ok in
       let l = pass _ _ _ _ (pass _ _ _ _ (dated-also day t _ _ _ (k .1) .1 .rest) .1) in
       failed-good (v p) h s (ltb-false s 1 (neither (ltb s 1) (ltb 99 s) (k .0) .0))
       (any-none 32 1 (λ q. touches s (v q .fields) && isFull (v q) (failed S t s (v q .fields))) (pass _ _ _ _ (l .1) .0) p lo (omega arith))

@@ -25,12 +25,10 @@ use Rattle.agreement.proofs.Step.{Agree, says-agree, readNow, enrolledN
 -- An accepted opening has A and B at least 1.
 pub lasting : (o : Opening) → isAccepted (openingAnswer o) ≡ true → (0 < o .a) × (0 < o .b)
 unfolding openingAnswer
-lasting o ok =
-    let a = pass _ _ _ _ (pass _ _ _ _ ok .1) in
-    let b = pass _ _ _ _ (a .1) in (
-      ltb-false (o .a) 1 (neither (ltb (o .a) 1) (ltb 400 (o .a)) (a .0) .0),
-      ltb-false (o .b) 1 (neither (ltb (o .b) 1) (ltb 400 (o .b)) (b .0) .0),
-    )
+lasting o ok = let a = pass _ _ _ _ (pass _ _ _ _ ok .1) in let b = pass _ _ _ _ (a .1) in (
+  ltb-false (o .a) 1 (neither (ltb (o .a) 1) (ltb 400 (o .a)) (a .0) .0),
+  ltb-false (o .b) 1 (neither (ltb (o .b) 1) (ltb 400 (o .b)) (b .0) .0),
+)
 
 opened-agree : (o : Opening) → isAccepted (openingAnswer o) ≡ true → Agree (λ p. []) (λ p. []) (DayBook.opened o) (Register.opened o)
 unfolding DayBook.opened Register.opened tally recent volume registered sumVolumes
@@ -80,8 +78,7 @@ answers-agree : (cs : List Call) (l : ℕ → List Span) (n : ℕ → List ℕ) 
     → Register.answers r cs ≡ DayBook.answers b cs
 unfolding DayBook.answers Register.answers applied
 answers-agree [] l n b r h = refl
-answers-agree (c ∷ cs) l n b r h =
-    ap₂ (λ (a : Answer) (l : List Answer). a ∷ l) (sym (says-agree c l n b r h))
+answers-agree (c ∷ cs) l n b r h = ap₂ (λ (a : Answer) (l : List Answer). a ∷ l) (sym (says-agree c l n b r h))
     (answers-agree cs (λ p. l p ++ readNow c l n b r h p) (λ p. n p ++ enrolledNow c l n b r h p) (DayBook.next b c) (applied r c .register)
     (call-agree c l n b r h))
 

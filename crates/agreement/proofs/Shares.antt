@@ -48,14 +48,12 @@ module _ (s : Span) (h : s .from < s .to) where
 
   pub given-le : (d : ℕ) → given s d ≤ s .advance * s .unit
   unfolding given
-  given-le d =
-      let k : min (d - s .from) (s .to - s .from) ≤ s .to - s .from = omega arith in
+  given-le d = let k : min (d - s .from) (s .to - s .from) ≤ s .to - s .from = omega arith in
       mul-le-mul-right (s .unit) (rw upTo-all at (upTo-up k))
 
   given-inside : (d : ℕ) → s .from ≤ d → d < s .to → given s (suc d) ≡ given s d + dayVolume s d
   unfolding given dayVolume share
-  given-inside d p q =
-      let k : min (suc d - s .from) (s .to - s .from) ≡ suc (d - s .from) = omega arith in
+  given-inside d p q = let k : min (suc d - s .from) (s .to - s .from) ≡ suc (d - s .from) = omega arith in
       let l : min (d - s .from) (s .to - s .from) ≡ d - s .from = omega arith in
       let up : upTo s (d - s .from) ≤ upTo s (suc (d - s .from)) = upTo-up (omega arith) in
       rw (le-leb _ _ p, lt-ltb _ _ q, k, l, sub-mul) (omega (arith, mul-le-mul-right (s .unit) up))
@@ -63,16 +61,15 @@ module _ (s : Span) (h : s .from < s .to) where
   -- the day's volume is the step of what is given
   pub given-suc : (d : ℕ) → given s (suc d) ≡ given s d + dayVolume s d
   unfolding dayVolume
-  given-suc d =
-      elim (decLe (s .from) d) [
-        | no p ↦ rw (lt-leb (s .from) d (omega arith))
-            (omega (arith, given-before d (omega arith), given-before (suc d) (omega arith)))
-        | yes p ↦ elim (decLt d (s .to)) [
-          | yes q ↦ given-inside d p q
-          | no q ↦ rw (le-leb _ _ p, le-ltb d (s .to) (omega arith))
-              (omega (arith, given-after d (omega arith), given-after (suc d) (omega arith)))
-        ]
-      ]
+  given-suc d = elim (decLe (s .from) d) [
+    | no p ↦ rw (lt-leb (s .from) d (omega arith))
+        (omega (arith, given-before d (omega arith), given-before (suc d) (omega arith)))
+    | yes p ↦ elim (decLt d (s .to)) [
+      | yes q ↦ given-inside d p q
+      | no q ↦ rw (le-leb _ _ p, le-ltb d (s .to) (omega arith))
+          (omega (arith, given-after d (omega arith), given-after (suc d) (omega arith)))
+    ]
+  ]
 
   pub dayVolume-after : (d : ℕ) → s .to ≤ d → dayVolume s d ≡ 0
   dayVolume-after d p = omega (arith, given-suc d, given-after d p, given-after (suc d) (omega arith))

@@ -48,8 +48,7 @@ length-listed h = length-recent (h .count) (h .periods)
 reverse-recent : (n : ℕ) (ps l : List Period) → n ≤ length ps → reverseAux (recent n ps) l ≡ take n ps ++ l
 unfolding recent
 reverse-recent zero ps l le = refl
-reverse-recent (suc n) ps l le =
-    reverse-recent n ps (getD ps n noPeriod ∷ l) (omega arith)
+reverse-recent (suc n) ps l le = reverse-recent n ps (getD ps n noPeriod ∷ l) (omega arith)
     ∙ sym (append-snoc (take n ps) (getD ps n noPeriod) l)
     ∙ ap (λ (r : List Period). r ++ l) (sym (take-suc ps n noPeriod le))
 
@@ -96,18 +95,15 @@ module _ (t s : ℕ) (h : History) (z : Sized h) where
   named-both : (b : Bool) → startsOn t h ≡ b → h .count + cond b 0 1 ≤ 24
       → (listed (named t s h) ≡ begin t s (listed h)) × Sized (named t s h)
   unfolding named replaced appended
-  named-both true q le =
-      rw (q, used-count h z) (
-        begin-again t s (h .count) (h .periods) (sym (starts-listed t h z) ∙ q) (omega arith),
-        record { slots = rw length-set (z .slots); some = z .some },
-      )
-  named-both false q le =
-      rw (q, used-count h z, lt-ltb (h .count) 24 (omega arith)) (
-        rw add-one
-            (recent-push (h .count) (h .periods) (period t s 0) (omega arith)
-            ∙ sym (begin-new t s (listed h) (sym (starts-listed t h z) ∙ q))),
-        record { slots = rw length-set (z .slots); some = le },
-      )
+  named-both true q le = rw (q, used-count h z) (
+    begin-again t s (h .count) (h .periods) (sym (starts-listed t h z) ∙ q) (omega arith),
+    record { slots = rw length-set (z .slots); some = z .some },
+  )
+  named-both false q le = rw (q, used-count h z, lt-ltb (h .count) 24 (omega arith)) (
+    rw add-one (recent-push (h .count) (h .periods) (period t s 0) (omega arith)
+        ∙ sym (begin-new t s (listed h) (sym (starts-listed t h z) ∙ q))),
+    record { slots = rw length-set (z .slots); some = le },
+  )
 
   pub named-listed : h .count + cond (startsOn t h) 0 1 ≤ 24 → listed (named t s h) ≡ begin t s (listed h)
   named-listed le = named-both (startsOn t h) refl le .0
@@ -130,8 +126,7 @@ module _ (c : ℕ → ℕ) (from : ℕ) where
   bookedSlots-length : (e n : ℕ) (ps : List Period) → length (bookedSlots c from e n ps) ≡ length ps
   unfolding bookedSlots
   bookedSlots-length e zero ps = refl
-  bookedSlots-length e (suc n) ps =
-      let q : Period = getD ps n noPeriod in
+  bookedSlots-length e (suc n) ps = let q : Period = getD ps n noPeriod in
       let k = length-set ps n (bookedPeriod c e q) in
       cond-holds (λ (l : List Period). length l ≡ length ps) (leb (q .start) from) k
       (bookedSlots-length (q .start) n (set ps n (bookedPeriod c e q)) ∙ k)
@@ -141,15 +136,12 @@ module _ (c : ℕ → ℕ) (from : ℕ) where
       → bookedSlots c from e n (set ps i p) ≡ set (bookedSlots c from e n ps) i p
   unfolding bookedSlots
   bookedSlots-set e zero i ps p le = refl
-  bookedSlots-set e (suc n) i ps p le =
-      let q : Period = getD ps n noPeriod in
-      let r : List Period = set ps n (bookedPeriod c e q) in
-      rw (
+  bookedSlots-set e (suc n) i ps p le = let q : Period = getD ps n noPeriod in
+      let r : List Period = set ps n (bookedPeriod c e q) in rw (
         getD-set-other ps i n p noPeriod (omega arith),
         set-comm ps i n p (bookedPeriod c e q) (omega arith),
         bookedSlots-set (q .start) n i r p (omega arith),
-      )
-      (cond-ap (λ (l : List Period). set l i p) (leb (q .start) from) r (bookedSlots c from (q .start) n r))
+      ) (cond-ap (λ (l : List Period). set l i p) (leb (q .start) from) r (bookedSlots c from (q .start) n r))
 
 bookTotal-end : (c : ℕ → ℕ) (e f : ℕ) (ps : List Period) → c e ≡ c f → bookTotal c e ps ≡ bookTotal c f ps
 unfolding bookTotal
@@ -161,8 +153,7 @@ module _ (s : Span) (lt : s .from < s .to) where
   bookedPeriod-exact : (e : ℕ) (q : Period) → q .volume + s .advance * s .unit < 2 ^ 64
       → bookedPeriod (given s) e q ≡ period (q .start) (q .holder) (q .volume + (given s e - given s (q .start)))
   unfolding bookedPeriod
-  bookedPeriod-exact e q fits =
-      ap (period (q .start) (q .holder)) (mod-eq-of-lt (omega (arith, given-le s lt e)))
+  bookedPeriod-exact e q fits = ap (period (q .start) (q .holder)) (mod-eq-of-lt (omega (arith, given-le s lt e)))
 
   -- periods that end by the reading's first day get nothing
   bookTotal-before : (ps : List Period) (e : ℕ) → e ≤ s .from → Desc e ps → bookTotal (given s) e ps ≡ ps
@@ -177,11 +168,9 @@ module _ (s : Span) (lt : s .from < s .to) where
       → recent n (bookedSlots (given s) (s .from) e n ps) ≡ bookTotal (given s) e (recent n ps)
   unfolding recent bookedSlots bookTotal sumVolumes
   bookedSlots-recent zero e f ps le r fits = refl
-  bookedSlots-recent (suc n) e f ps le r fits =
-      let q : Period = getD ps n noPeriod in
+  bookedSlots-recent (suc n) e f ps le r fits = let q : Period = getD ps n noPeriod in
       let p : Period = period (q .start) (q .holder) (q .volume + (given s e - given s (q .start))) in
-      let onto : List Period → List Period = λ l. p ∷ l in
-      rw (bookedPeriod-exact e q (omega arith))
+      let onto : List Period → List Period = λ l. p ∷ l in rw (bookedPeriod-exact e q (omega arith))
       (elim (decLe (q .start) (s .from)) [
         | yes k ↦ rw (le-leb _ _ k)
             (recent-push n ps p le ∙ ap onto (sym (bookTotal-before (recent n ps) (q .start) k (r .1))))
@@ -191,11 +180,9 @@ module _ (s : Span) (lt : s .from < s .to) where
       ])
 
 pub booked-listed : (s : Span) (e : ℕ) (h : History) → Sized h → s .from < s .to → s .to ≤ e → Desc e (listed h)
-    → sumVolumes (listed h) + s .advance * s .unit < 2 ^ 64
-    → listed (booked s h) ≡ bookTotal (given s) e (listed h)
+    → sumVolumes (listed h) + s .advance * s .unit < 2 ^ 64 → listed (booked s h) ≡ bookTotal (given s) e (listed h)
 unfolding booked
-booked-listed s e h z lt le r fits =
-    rw (used-count h z)
+booked-listed s e h z lt le r fits = rw (used-count h z)
     (bookedSlots-recent s lt (h .count) (s .to) e (h .periods) (omega arith) r fits
     ∙ bookTotal-end (given s) (s .to) e (listed h)
     (given-after s lt (s .to) (omega arith) ∙ sym (given-after s lt e le)))
@@ -209,12 +196,10 @@ pub bookedAll-listed : (l : List Span) (e : ℕ) (h : History) → Sized h
     → sumVolumes (listed h) + registered l < 2 ^ 64 → listed (bookedAll l h) ≡ bookTotals l e (listed h)
 unfolding bookTotals registered
 bookedAll-listed [] e h z k r fits = refl
-bookedAll-listed (s ∷ l) e h z k r fits =
-    let q = booked-listed s e h z (k .0 .0) (k .0 .1) r (omega arith) in
+bookedAll-listed (s ∷ l) e h z k r fits = let q = booked-listed s e h z (k .0 .0) (k .0 .1) r (omega arith) in
     let sum = sum-reading s (listed h) e (k .0 .0) (k .0 .1) r in
     bookedAll-listed l e (booked s h) (booked-sized s h z) (k .1)
-    (rw q (desc-bookTotal (given s) (listed h) e e r)) (rw q (omega arith))
-    ∙ ap (bookTotals l e) q
+    (rw q (desc-bookTotal (given s) (listed h) e e r)) (rw q (omega arith)) ∙ ap (bookTotals l e) q
 
 pub bookedAll-sized : (l : List Span) (h : History) → Sized h → Sized (bookedAll l h)
 bookedAll-sized [] h z = z

@@ -57,8 +57,7 @@ pub record Hale (t : ℕ) (g : Point) : Type 0 where
   pub fine : Fine t (view t g)
 
 sound-hale : (t : ℕ) (g : Point) → SoundPoint t g → Hale t g
-sound-hale t g h =
-    let z : Sized (g .history) = record { slots = h .slots; some = omega (arith, h .room) } in
+sound-hale t g h = let z : Sized (g .history) = record { slots = h .slots; some = omega (arith, h .room) } in
     let u = used-count (g .history) z in
     record {
       firm = record {
@@ -83,8 +82,7 @@ none-some zero ps s o = let a = o 0 in let b = o 1 in absurd (omega arith)
 none-some (suc n) ps s o = omega arith
 
 hale-sound : (t : ℕ) (g : Point) → Hale t g → SoundPoint t g
-hale-sound t g h =
-    let u = used-count (g .history) (h .firm .sized) in
+hale-sound t g h = let u = used-count (g .history) (h .firm .sized) in
     record {
       slots = h .firm .sized .slots;
       rising = falls-rising _ _ _ (h .firm .falling);
@@ -94,8 +92,7 @@ hale-sound t g h =
       wheels = h .fine .wheels;
       volume = rw (total-read g (h .firm .sized)) (h .firm .most);
       blank = λ n. (sym u ∙ h .fine .blank n .0, h .fine .blank n .1);
-      begun = λ y. let b = h .firm .begun y in
-          let some = none-some _ _ (b .start) (b .is) in
+      begun = λ y. let b = h .firm .begun y in let some = none-some _ _ (b .start) (b .is) in
           (some, omega (arith, b .read, b .is 0, oldest-first _ (g .history .periods) some 0));
     }
 
@@ -107,37 +104,31 @@ effect-hale t g h e j k cal =
 
 module _ (S : Settings) (B : 0 < S .b) where
   day-hale : (t : ℕ) (g : Point) → Hale t g → suc t ≤ lastDay → Hale (suc t) (onDay S (suc t) g)
-  day-hale t g h cal =
-      let e : Effect = event S (suc t) (g .fields) in
-      let q : spansIn e ≡ [] = event-unread S (suc t) (g .fields) in
-      let f = h .firm in
+  day-hale t g h cal = let e : Effect = event S (suc t) (g .fields) in
+      let q : spansIn e ≡ [] = event-unread S (suc t) (g .fields) in let f = h .firm in
       let before : Firm (suc t) (g .fields) (g .history) = record {
         sized = f .sized;
         falling = desc-up (listed (g .history)) (omega arith) (f .falling);
         most = f .most;
         none = f .none;
         begun = f .begun;
-      } in
-      let seen : Fine t (view (suc t) g) = record {
+      } in let seen : Fine t (view (suc t) g) = record {
         past = h .fine .past;
         wheels = h .fine .wheels;
         ahead = h .fine .ahead;
         fit = h .fine .fit;
         blank = h .fine .blank;
-      } in
-      let k : Good (suc t) (view (suc t) g) e (spansIn e) [] = rw q (event-good S B t (view (suc t) g) seen) in
+      } in let k : Good (suc t) (view (suc t) g) e (spansIn e) [] = rw q (event-good S B t (view (suc t) g) seen) in
       record { firm = firm-after (suc t) g before e [] k cal; fine = fine-entered (suc t) g before e [] k cal }
 
   days-hale : (k t : ℕ) (g : Point) → Hale t g → t + k ≤ lastDay → Hale (t + k) (daily S k t g)
   unfolding daily
   days-hale zero t g h cal = let z : t + 0 ≡ t = omega arith in rw z h
-  days-hale (suc k) t g h cal =
-      let z : t + suc k ≡ suc t + k = omega arith in
+  days-hale (suc k) t g h cal = let z : t + suc k ≡ suc t + k = omega arith in
       rw z (days-hale k (suc t) (onDay S (suc t) g) (day-hale t g h (omega arith)) (omega arith))
 
   caught-hale : (d t : ℕ) (g : Point) → Hale d g → d ≤ t → t ≤ lastDay → Hale t (catchUp S t g)
-  caught-hale d t g h on cal =
-      let z : d + (t - d) ≡ t = omega arith in
+  caught-hale d t g h on cal = let z : d + (t - d) ≡ t = omega arith in
       subst (λ (x : ℕ). Hale x (catchUp S x g)) z
       (rw (daily-catchUp S B (t - d) d g (h .fine .ahead)) at (days-hale (t - d) d g h (omega arith)))
 
@@ -152,8 +143,7 @@ module _ (r : Register) (h : Sound r) (t : ℕ) (on : r .day ≤ t) (cal : t ≤
       go : (x : Bool) → eqb (r .day) t ≡ x
           → Hale t (pointAt p (cond x r (register (r .settings) t (r .contracts) (map (catchUp (r .settings) t) (r .points))) .points))
       go true e = subst (λ (d : ℕ). Hale d (pointAt p (r .points))) (eqb-true (r .day) t e) was
-      go false e =
-          rw (point-map (catchUp (r .settings) t) (r .points) p lo (omega (arith, h .count)))
+      go false e = rw (point-map (catchUp (r .settings) t) (r .points) p lo (omega (arith, h .count)))
           (caught-hale (r .settings) (h .lasting .1) (r .day) t (pointAt p (r .points)) was on cal)
 
 module _ (r : Register) (c : Call) (h : Sound r) where
@@ -168,9 +158,7 @@ module _ (r : Register) (c : Call) (h : Sound r) where
     w = passed (r .settings) (r .day) (r .contracts) t (c .action) (shown v) ok
 
     acted-hale : (p : ℕ) → 1 ≤ p → p ≤ 32 → Hale t (did (r .settings) t (c .action) p (pointAt p (advanced t r .points)))
-    acted-hale p lo hi =
-        let i = up-hale r h t (w .1) (w .0) p lo hi in
-        let q : shown v p ≡ v p = shown-in v p lo hi in
+    acted-hale p lo hi = let i = up-hale r h t (w .1) (w .0) p lo hi in let q : shown v p ≡ v p = shown-in v p lo hi in
         let f : View → Effect = λ (x : View). effect (r .settings) t (c .action) p (x .fields) in
         effect-hale t (pointAt p (advanced t r .points)) i (f (v p)) (enrolledBy t (f (v p)))
         (subst (λ (x : View). Good t x (f x) (spansIn (f x)) (enrolledBy t (f x))) q
@@ -178,9 +166,7 @@ module _ (r : Register) (c : Call) (h : Sound r) where
         (w .0)
 
     accepted-sound : Sound (done t (c .action) (advanced t r))
-    accepted-sound =
-        let a = advanced-rest t r in
-        let m : length (advanced t r .points) ≡ 32 = a .3 ∙ h .count in
+    accepted-sound = let a = advanced-rest t r in let m : length (advanced t r .points) ≡ 32 = a .3 ∙ h .count in
         let k = done-rest (advanced t r) m t (r .day) (r .contracts) (shown v) (c .action) in
         record {
           lasting = rw (k .0, a .0) (h .lasting);

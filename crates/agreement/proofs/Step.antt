@@ -61,15 +61,12 @@ module _ (r : Register) (count : length (r .points) ≡ 32) (t day : ℕ) (u : L
       new : Point
       new = acted (r .settings) t a (pointAt q (r .points))
 
-      go : (b : Bool) → eqb p q ≡ b
-          → pointAt p (set (r .points) (q - 1) new)
+      go : (b : Bool) → eqb p q ≡ b → pointAt p (set (r .points) (q - 1) new)
           ≡ entered t (cond b (effectOf (r .settings) t a (pointAt p (r .points) .fields)) (Effect.Keep (pointAt p (r .points) .fields)))
           (pointAt p (r .points) .history)
-      go true e =
-          let w : p ≡ q = eqb-true p q e in
+      go true e = let w : p ≡ q = eqb-true p q e in
           rw w (getD-set-same (r .points) (q - 1) new noPoint (omega (arith, at .0, at .1)))
-      go false e =
-          let w : p ≡ q → ⊥ = eqb-false p q e in
+      go false e = let w : p ≡ q → ⊥ = eqb-false p q e in
           getD-set-other (r .points) (q - 1) (p - 1) new noPoint (λ z. w (omega (arith, at .0, at .1)))
   done-points Action.Day ok p lo hi = refl
 
@@ -104,8 +101,7 @@ module _ (c : Call) (l : ℕ → List Span) (n : ℕ → List ℕ) (b : Book) (r
 
   pub says-agree : DayBook.says b c ≡ Register.says r c
   unfolding DayBook.says Register.says answer
-  says-agree =
-      go (ltb lastDay t) (ltb t (b .day)) refl refl
+  says-agree = go (ltb lastDay t) (ltb t (b .day)) refl refl
       ∙ (λ i. answer (h .settings i) (h .day i) (h .contracts i) c (λ p. view t (pointAt p (advanced t r .points))))
     where
       go : (x y : Bool) → ltb lastDay t ≡ x → ltb t (b .day) ≡ y
@@ -113,8 +109,7 @@ module _ (c : Call) (l : ℕ → List Span) (n : ℕ → List ℕ) (b : Book) (r
           ≡ answer (b .settings) (b .day) (b .contracts) c (λ p. view t (pointAt p (advanced t r .points)))
       go true y a d = answer-off (b .settings) (b .day) (b .contracts) t _ _ (c .action) a
       go false true a d = answer-back (b .settings) (b .day) (b .contracts) t _ _ (c .action) d
-      go false false a d =
-          answer-ext (b .settings) (b .day) (b .contracts) c _ _
+      go false false a d = answer-ext (b .settings) (b .day) (b .contracts) c _ _
           (λ p lo hi. views-agree t (l p) (n p) _ _ (now (ltb-false t (b .day) d) (ltb-false lastDay t a) p lo hi .point))
 
   -- the readings and the enrolments of this call at point p
@@ -139,16 +134,13 @@ module _ (c : Call) (l : ℕ → List Span) (n : ℕ → List ℕ) (b : Book) (r
     e = does b c p
 
     turned : Tied t (l p ++ spansIn e) (n p ++ enrolledBy t e) (written e (page .cells)) (did (b .settings) t (c .action) p (point p))
-    turned =
-        let w = passed (b .settings) (b .day) (b .contracts) t (c .action) (shown v) ok in
-        let i = now (w .1) (w .0) p lo hi in
-        let q : shown v p ≡ v p = shown-in v p lo hi in
+    turned = let w = passed (b .settings) (b .day) (b .contracts) t (c .action) (shown v) ok in
+        let i = now (w .1) (w .0) p lo hi in let q : shown v p ≡ v p = shown-in v p lo hi in
         let k : Good t (v p) e (spansIn e) (enrolledBy t e)
         = subst
         (λ (x : View). let f = effect (b .settings) t (c .action) p (x .fields) in Good t x f (spansIn f) (enrolledBy t f)) q
         (call-good (b .settings) (h .lasting .0) (h .lasting .1) (b .day) (b .contracts) t (shown v) p lo hi (rw q (i .fine)) (c .action) ok) in
-        subst
-        (λ (x : Fields). Tied t (l p ++ spansIn e) (n p ++ enrolledBy t e) (written e (page .cells))
+        subst (λ (x : Fields). Tied t (l p ++ spansIn e) (n p ++ enrolledBy t e) (written e (page .cells))
         (entered t (effect (b .settings) t (c .action) p x) (point p .history)))
         (i .point .same) (effect-tied t (l p) (n p) page (point p) (i .point) e (enrolledBy t e) k (w .0))
 
@@ -156,10 +148,8 @@ module _ (c : Call) (l : ℕ → List Span) (n : ℕ → List ℕ) (b : Book) (r
       → Agree (λ p. l p ++ spansIn (does b c p)) (λ p. n p ++ enrolledBy t (does b c p))
       (DayBook.entered c (upToDay t b)) (done t (c .action) (advanced t r))
   unfolding DayBook.says answer
-  accepted-agree ok =
-      let w = passed (b .settings) (b .day) (b .contracts) t (c .action) (shown v) ok in
-      let a = advanced-rest t r in
-      let g = gone-on (t - b .day) b in
+  accepted-agree ok = let w = passed (b .settings) (b .day) (b .contracts) t (c .action) (shown v) ok in
+      let a = advanced-rest t r in let g = gone-on (t - b .day) b in
       let s : advanced t r .settings ≡ b .settings = a .0 ∙ sym (h .settings) in
       let d : upToDay t b .day ≡ t = g .day ∙ omega (arith, w .1) in
       let m : length (advanced t r .points) ≡ 32 = a .3 ∙ h .count in

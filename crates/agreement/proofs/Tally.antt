@@ -28,8 +28,7 @@ beganOn t (p ∷ ps) = eqb (p .start) t
 -- before day e.
 unfoldable pub bookTotal : (ℕ → ℕ) → ℕ → List Period → List Period
 bookTotal c e [] = []
-bookTotal c e (p ∷ ps) =
-    period (p .start) (p .holder) (p .volume + (c e - c (p .start))) ∷ bookTotal c (p .start) ps
+bookTotal c e (p ∷ ps) = period (p .start) (p .holder) (p .volume + (c e - c (p .start))) ∷ bookTotal c (p .start) ps
 
 unfoldable pub bookTotals : List Span → ℕ → List Period → List Period
 bookTotals [] e ps = ps
@@ -99,10 +98,8 @@ module _ (vol : ℕ → ℕ) where
       → begin t h (tally vol cs 0) ≡ tally vol (overwritten h cs) 0
   unfolding tally
   begin-tally t h (cell d k true ∷ cs) z r = let q : d ≡ t = omega arith in rw (eq-eqb d t q, q)
-  begin-tally t h (cell d k false ∷ cs) z r =
-      let q : d ≡ t = omega arith in
-      let v : 0 + vol d ≡ 0 = rw q (omega arith) in
-      rw (v, q) (begin-later t h cs d 0 (omega arith) (r .1))
+  begin-tally t h (cell d k false ∷ cs) z r = let q : d ≡ t = omega arith in
+      let v : 0 + vol d ≡ 0 = rw q (omega arith) in rw (v, q) (begin-later t h cs d 0 (omega arith) (r .1))
 
   -- the unmarked cell of a day with no volume changes nothing
   pub dawn : (t h : ℕ) (cs : List Cell) → vol t ≡ 0 → tally vol (cell t h false ∷ cs) 0 ≡ tally vol cs 0
@@ -119,13 +116,10 @@ module _ (c v : ℕ → ℕ) (step : (d : ℕ) → c (suc d) ≡ c d + v d) wher
       → bookTotal c end (tally vol cs a) ≡ tally (λ (d : ℕ). vol d + v d) cs (a + (c end - c e))
   unfolding tally bookTotal
   bookTotal-tally vol [] e end a r le = refl
-  bookTotal-tally vol (cell d h true ∷ cs) e end a r le =
-      let k : c e ≡ c d + v d = ap c (r .0) ∙ step d in
+  bookTotal-tally vol (cell d h true ∷ cs) e end a r le = let k : c e ≡ c d + v d = ap c (r .0) ∙ step d in
       let x : a + vol d + (c end - c d) ≡ a + (c end - c e) + (vol d + v d) = omega arith in
-      let z : 0 + (c d - c d) ≡ 0 = omega arith in
-      rw (x, bookTotal-tally vol cs d d 0 (r .1) (omega arith), z)
-  bookTotal-tally vol (cell d h false ∷ cs) e end a r le =
-      let k : c e ≡ c d + v d = ap c (r .0) ∙ step d in
+      let z : 0 + (c d - c d) ≡ 0 = omega arith in rw (x, bookTotal-tally vol cs d d 0 (r .1) (omega arith), z)
+  bookTotal-tally vol (cell d h false ∷ cs) e end a r le = let k : c e ≡ c d + v d = ap c (r .0) ∙ step d in
       bookTotal-tally vol cs d end (a + vol d) (r .1) (omega arith)
       ∙ ap (tally (λ (n : ℕ). vol n + v n) cs) (omega arith)
 
@@ -134,8 +128,7 @@ pub bookTotals-tally : (l : List Span) (vol : ℕ → ℕ) (cs : List Cell) (e :
     → bookTotals l e (tally vol cs 0) ≡ tally (λ (d : ℕ). vol d + volume l d) cs 0
 unfolding bookTotals volume
 bookTotals-tally [] vol cs e r k = ap (λ (v : ℕ → ℕ). tally v cs 0) (fun-ext (λ d. omega arith))
-bookTotals-tally (s ∷ l) vol cs e r k =
-    let z : 0 + (given s e - given s e) ≡ 0 = omega arith in
+bookTotals-tally (s ∷ l) vol cs e r k = let z : 0 + (given s e - given s e) ≡ 0 = omega arith in
     rw (bookTotal-tally (given s) (dayVolume s) (given-suc s (k .0)) vol cs e e 0 r (omega arith), z)
     (bookTotals-tally l (λ (d : ℕ). vol d + dayVolume s d) cs e r (k .1)
     ∙ ap (λ (v : ℕ → ℕ). tally v cs 0) (fun-ext (λ d. omega arith)))
@@ -205,16 +198,14 @@ module _ (c : ℕ → ℕ) where
       → sumVolumes (bookTotal c e ps) + c (oldest ps e) ≡ sumVolumes ps + c e
   unfolding bookTotal sumVolumes oldest
   sum-bookTotal up [] e r = refl
-  sum-bookTotal up (p ∷ ps) e r =
-      let z : e - p .start + p .start ≡ e = omega (arith, r .0) in
+  sum-bookTotal up (p ∷ ps) e r = let z : e - p .start + p .start ≡ e = omega (arith, r .0) in
       let u : c (p .start) ≤ c e = rw z at (up (p .start) (e - p .start)) in
       omega (arith, sum-bookTotal up ps (p .start) (r .1))
 
 -- a reading adds its whole advance, less what it gives before the oldest period
 pub sum-reading : (s : Span) (ps : List Period) (e : ℕ) → s .from < s .to → s .to ≤ e → Desc e ps
     → sumVolumes (bookTotal (given s) e ps) + given s (oldest ps e) ≡ sumVolumes ps + s .advance * s .unit
-sum-reading s ps e lt le r =
-    sum-bookTotal (given s) (total-up (given s) (dayVolume s) (given-suc s lt)) ps e r
+sum-reading s ps e lt le r = sum-bookTotal (given s) (total-up (given s) (dayVolume s) (given-suc s lt)) ps e r
     ∙ ap (λ (n : ℕ). sumVolumes ps + n) (given-after s lt e le)
 
 -- readings that begin on day d, at or after the oldest period's start

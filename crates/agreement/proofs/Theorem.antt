@@ -26,20 +26,16 @@ module _ (t : ℕ) (l : List Span) (n : List ℕ) (g : Page) (r : Point) (h : Ti
   first-start : (b : Bool) → g .fields .enrolled ≡ b → take 1 (startsOf r) ≡ n
   first-start true y =
       let s = h .point .born .inside y in first-read r (h .point .sized) (s .enrolment) (s .start) ∙ sym (s .one)
-  first-start false z =
-      let b = h .point .born .outside z in first-read-none r (h .point .sized) (b .1) ∙ sym (b .0)
+  first-start false z = let b = h .point .born .outside z in first-read-none r (h .point .sized) (b .1) ∙ sym (b .0)
 
   -- an enrolment day is where the oldest period starts
   oldest-by : (e d : ℕ) → n ≡ e ∷ [] → e ≤ d → (b : Bool) → g .fields .enrolled ≡ b → (x : ℕ) → oldest (listed (r .history)) x ≤ d
-  oldest-by e d q le true y x =
-      let s = h .point .born .inside y in
-      let z : s .enrolment ≡ e = cc (s .one) in
+  oldest-by e d q le true y x = let s = h .point .born .inside y in let z : s .enrolment ≡ e = cc (s .one) in
       rw (s .start x) (omega arith)
   oldest-by e d q le false z x = let b = h .point .born .outside z in let w : _≡_ {A = ℕ} 0 1 = cc (b .0) in absurd (omega arith)
 
   point-agrees : PointAgrees t l n g r
-  point-agrees =
-      let p = h .point in
+  point-agrees = let p = h .point in
       record {
         fields = sym (p .same);
         starts = starts-read r (p .sized) (volume l) (g .cells) (p .told);
@@ -54,8 +50,7 @@ module _ (t : ℕ) (l : List Span) (n : List ℕ) (g : Page) (r : Point) (h : Ti
       }
 
 pub day-book-agrees : DayBookAgrees
-day-book-agrees o ok calls =
-    let h = run-agrees o ok calls in
+day-book-agrees o ok calls = let h = run-agrees o ok calls in
     record {
       answers = run-answers o ok calls;
       day = sym (h .day);

@@ -105,16 +105,14 @@ module _ (t : ℕ) (l : List Span) (n : List ℕ) (g : Page) (r : Point) (h : To
   }
 
   good : Good t (view t beside) e sp j
-  good =
-      subst (λ (v : View). Good t v e sp j)
+  good = subst (λ (v : View). Good t v e sp j)
       (views-agree t l n g r h ∙ ap (λ (f : Fields). view t (record { fields = f; history = r .history })) (sym (h .same))) k
 
   booked-effect : Booked t (l ++ sp) (fieldsOf e .reading .day) g r (bookedAll sp (r .history))
   booked-effect =
       record {
         sized = books-sized t beside firm e j good cal;
-        told =
-            books t beside firm e j good cal ∙ ap (bookTotals sp (suc t)) (h .told)
+        told = books t beside firm e j good cal ∙ ap (bookTotals sp (suc t)) (h .told)
             ∙ bookTotals-tally sp (volume l) (g .cells) (suc t) (live-runs t (g .cells) (h .live))
             (all-map sp (λ s w. w .0) (forward t beside firm e j good cal))
             ∙ ap (λ (v : ℕ → ℕ). tally v (g .cells) 0) (fun-ext (λ d. sym (volume-append l sp d)));
@@ -127,8 +125,7 @@ module _ (t : ℕ) (l : List Span) (n : List ℕ) (g : Page) (r : Point) (h : To
       }
 
   fine-after : Fine t (look (written e (g .cells)))
-  fine-after =
-      let m = marks-written t g e (h .live) in
+  fine-after = let m = marks-written t g e (h .live) in
       record { past = k .hi; wheels = k .wheels; ahead = k .ahead; fit = rw m (k .fit); blank = rw m (k .blank) }
 
   abbrev f : Fields
@@ -143,8 +140,7 @@ module _ (t : ℕ) (l : List Span) (n : List ℕ) (g : Page) (r : Point) (h : To
   -- an effect that keeps the holder
   told-keep : Keeps (g .fields) false f → Enrols t (g .fields) false f j
       → Told t (l ++ sp) (n ++ j) (record { fields = f; cells = g .cells }) (record { fields = f; history = after })
-  told-keep keeps enrols =
-      let m : n ++ j ≡ n = ap (λ (x : List ℕ). n ++ x) (enrols .1) ∙ append-nil n in
+  told-keep keeps enrols = let m : n ++ j ≡ n = ap (λ (x : List ℕ). n ++ x) (enrols .1) ∙ append-nil n in
       let y = sym (enrols .0) in
       record {
         same = refl;
@@ -168,8 +164,7 @@ module _ (t : ℕ) (l : List Span) (n : List ℕ) (g : Page) (r : Point) (h : To
     s = f .supply .holder
 
     room : after .count + cond (startsOn t after) 0 1 ≤ 24
-    room =
-        let c : after .count ≡ countMarks (g .cells)
+    room = let c : after .count ≡ countMarks (g .cells)
         = sym (length-listed after) ∙ ap length (b .told) ∙ tally-length (volume (l ++ sp)) (g .cells) 0 in
         let m : startsOn t after ≡ isMarked (g .cells)
         = starts-listed t after (b .sized) ∙ ap (beganOn t) (b .told) ∙ began (volume (l ++ sp)) t (g .cells) (h .live) in
@@ -183,8 +178,7 @@ module _ (t : ℕ) (l : List Span) (n : List ℕ) (g : Page) (r : Point) (h : To
     first-period q z x = rw z
 
     since : (y : Bool) → g .fields .enrolled ≡ y → Names t y f j → Since (n ++ j) (listed (named t s after)) (f .reading .day)
-    since true y m =
-        let o = h .born .inside y in
+    since true y m = let o = h .born .inside y in
         record {
           enrolment = o .enrolment;
           one = ap (λ (x : List ℕ). n ++ x) (m .1) ∙ append-nil n ∙ o .one;

@@ -10,6 +10,7 @@ use ask_words::asked_by;
 use ask_words::put_unopened;
 use ask_words::put_usage;
 use input_desk::Desk;
+use input_pieces::desk_of;
 use libc::STDERR_FILENO;
 use rules::Register;
 use standard_input::End;
@@ -67,7 +68,7 @@ fn main() {
     let end = came.end;
     let s = came.session;
     match end {
-        End::Whole => answer(s.desk, question),
+        End::Whole => answer(desk_of(s), question),
         End::Unread => os::fail(b"ask: reading the input"),
         End::Unwritten => os::fail(b"ask: writing the answer"),
         End::Untaken => {

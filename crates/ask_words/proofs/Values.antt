@@ -22,7 +22,6 @@ whole-all len v next h = rw (le-ltb next len h)
 
 pub whole-value : (w : List ℕ) (x : Parsed) → Leaves w x → wholeOf (length w) (foundAt 0 w x) ≡ valueOf x
 whole-value w (number v []) e = whole-all (length w) v (0 + (length w - 0)) (omega arith)
-whole-value w (number v (c ∷ r)) e =
-    let short = ends-short w (c ∷ r) e in
+whole-value w (number v (c ∷ r)) e = let short = ends-short w (c ∷ r) e in
     whole-more (length w) v (0 + (length w - length (c ∷ r))) (omega arith)
 whole-value w bad e = refl

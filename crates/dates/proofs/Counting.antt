@@ -47,27 +47,23 @@ days n k m e zero h = rw add-zero e
 days n k m e (suc d) h = rw add-suc (ap next (days n k m e d (omega arith)) ∙ next-day k m d h)
 
 -- the day after the last day d of a month
-month-end :
-    (n k m d : ℕ) → dateOf n ≡ dateFrom0 k m 0 → suc d ≡ lengthIn k m →
+month-end : (n k m d : ℕ) → dateOf n ≡ dateFrom0 k m 0 → suc d ≡ lengthIn k m →
     dateOf (n + lengthIn k m) ≡ next (dateFrom0 k m d)
 unfolding dateOf
 month-end n k m d e h = rw (← h, add-suc) (ap next (days n k m e d (omega arith)))
 
 -- from the first of a year on
-months :
-    (n k : ℕ) → dateOf n ≡ dateFrom0 k 0 0 → (m : ℕ) → m < 12 →
+months : (n k : ℕ) → dateOf n ≡ dateFrom0 k 0 0 → (m : ℕ) → m < 12 →
     dateOf (n + monthStart (leapRow (2000 + k)) m) ≡ dateFrom0 k m 0
 unfolding monthStart
 months n k e zero h = rw add-zero e
-months n k e (suc m) h =
-    let p : suc (lengthIn k m - 1) ≡ lengthIn k m = omega (arith, month-some k m (omega arith)) in
+months n k e (suc m) h = let p : suc (lengthIn k m - 1) ≡ lengthIn k m = omega (arith, month-some k m (omega arith)) in
     rw (← add-assoc) (month-end _ k m _ (months n k e m (omega arith)) p ∙ next-month k m _ p h)
 
 years : (k : ℕ) → dateOf (yearStart k) ≡ dateFrom0 k 0 0
 unfolding yearStart dateOf monthStart
 years zero = refl
-years (suc k) =
-    let p : suc (lengthIn k 11 - 1) ≡ lengthIn k 11 = omega (arith, month-some k 11 (omega arith)) in
+years (suc k) = let p : suc (lengthIn k 11 - 1) ≡ lengthIn k 11 = omega (arith, month-some k 11 (omega arith)) in
     rw (← add-assoc) (month-end _ k 11 _ (months _ k (years k) 11 (omega arith)) p ∙ next-year k _ p)
 
 -- the date counted on to a date's number is that date
@@ -87,8 +83,7 @@ year-total : (n k m d : ℕ) → m ≡ 11 → suc d ≡ lengthIn k m → numberF
 unfolding yearStart monthStart
 year-total n k m d q e t = omega (arith, rw q at t, rw q at e)
 
-split-next :
-    (n : ℕ) → (s : Split n) → (suc (s .d) ≡ lengthIn (s .k) (s .m)) ⊎ (suc (s .d) < lengthIn (s .k) (s .m)) →
+split-next : (n : ℕ) → (s : Split n) → (suc (s .d) ≡ lengthIn (s .k) (s .m)) ⊎ (suc (s .d) < lengthIn (s .k) (s .m)) →
     (suc (s .m) ≡ 12) ⊎ (suc (s .m) < 12) → Split (suc n)
 unfolding monthStart yearStart
 split-next n s (inr l) w =
@@ -127,7 +122,6 @@ module _ (n k s row m t : ℕ) (row-of : row ≡ leapRow (2000 + k)) (year-at : 
   placed-day = omega arith
 
   pub placed : date (2000 + k) (m + 1) (n - s - t + 1) ≡ dateOf n
-  placed =
-      let g : n - s - t < lengthIn k m = rw (← row-of) placed-day in
+  placed = let g : n - s - t < lengthIn k m = rw (← row-of) placed-day in
       let e : numberFrom0 k m (n - s - t) ≡ n = rw (← row-of) (omega arith) in
       rw (add-one, add-one) (sym (counted k m (n - s - t) h g) ∙ ap dateOf e)

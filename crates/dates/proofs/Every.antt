@@ -18,10 +18,8 @@ every f (suc n) = f n && every f n
 
 pub every-below : (f : ℕ → Bool) (n : ℕ) → every f n ≡ true → (k : ℕ) → k < n → f k ≡ true
 every-below f zero t k h = absurd (not-suc-le-zero h)
-every-below f (suc n) t k h =
-    ⊎-elim (λ e. subst (λ (m : ℕ). f m ≡ true) (sym e) (and-left (f n) (every f n) t))
-    (λ l. every-below f n (and-right (f n) (every f n) t) k l)
-    (eq-or-lt-of-le (le-of-suc-le-suc h))
+every-below f (suc n) t k h = ⊎-elim (λ e. subst (λ (m : ℕ). f m ≡ true) (sym e) (and-left (f n) (every f n) t))
+    (λ l. every-below f n (and-right (f n) (every f n) t) k l) (eq-or-lt-of-le (le-of-suc-le-suc h))
 
 -- the test holds at each pair of numbers below a and b
 abbrev pub every₂ : (ℕ → ℕ → Bool) → ℕ → ℕ → Bool

@@ -13,9 +13,7 @@ use Rattle.dates.proofs.OneToOne.{one-to-one}
 pub three-months-from :
     (y m d n : ℕ) → dayAnswer y m d ≡ DayAnswer.Day n → threeMonthsAfter n ≡ min lastDay (threeMonthsOn (date y m d))
 unfolding threeMonthsAfter
-three-months-from y m d n e =
-    let h = one-to-one .day-has-date y m d n e in
-    rw (le-leb _ _ (h .0), h .1)
+three-months-from y m d n e = let h = one-to-one .day-has-date y m d n e in rw (le-leb _ _ (h .0), h .1)
 
 pub examples : Examples
 unfolding weekday leapRow monthLength next dateOf monthStart yearStart dayNumber isReal dayAnswer

@@ -31,16 +31,14 @@ lengths-are = refl
 
 pub length-bounds : (row m : ℕ) → row < 2 → m < 12 → (28 ≤ monthLength row m) × (monthLength row m ≤ 31)
 unfolding isLength
-length-bounds row m r h =
-    let t = every₂-below isLength 2 12 lengths-are row m r h in (
-      leb-true _ _ (and-left _ (leb (monthLength row m) 31) t),
-      leb-true _ _ (and-right (leb 28 (monthLength row m)) _ t),
-    )
+length-bounds row m r h = let t = every₂-below isLength 2 12 lengths-are row m r h in (
+  leb-true _ _ (and-left _ (leb (monthLength row m) 31) t),
+  leb-true _ _ (and-right (leb 28 (monthLength row m)) _ t),
+)
 
 -- the table of the days before each month: its entries are the sums of the lengths before them
 abbrev pub starts : List (List ℕ)
-starts =
-    (0 ∷ 31 ∷ 59 ∷ 90 ∷ 120 ∷ 151 ∷ 181 ∷ 212 ∷ 243 ∷ 273 ∷ 304 ∷ 334 ∷ []) ∷
+starts = (0 ∷ 31 ∷ 59 ∷ 90 ∷ 120 ∷ 151 ∷ 181 ∷ 212 ∷ 243 ∷ 273 ∷ 304 ∷ 334 ∷ []) ∷
     (0 ∷ 31 ∷ 60 ∷ 91 ∷ 121 ∷ 152 ∷ 182 ∷ 213 ∷ 244 ∷ 274 ∷ 305 ∷ 335 ∷ []) ∷ []
 
 abbrev pub startAt : ℕ → ℕ → ℕ
@@ -55,11 +53,10 @@ starts-are = refl
 
 pub start-is : (row m : ℕ) → row < 2 → m < 12 → (startAt row m ≡ monthStart row m) × (startAt row m ≤ 335)
 unfolding isStart
-start-is row m r h =
-    let t = every₂-below isStart 2 12 starts-are row m r h in (
-      eqb-true _ _ (and-left _ (leb (startAt row m) 335) t),
-      leb-true _ _ (and-right (eqb (startAt row m) (monthStart row m)) _ t),
-    )
+start-is row m r h = let t = every₂-below isStart 2 12 starts-are row m r h in (
+  eqb-true _ _ (and-left _ (leb (startAt row m) 335) t),
+  leb-true _ _ (and-right (eqb (startAt row m) (monthStart row m)) _ t),
+)
 
 -- day r of the year lies in month m
 abbrev pub InMonth : ℕ → ℕ → ℕ → Type 0
@@ -70,12 +67,11 @@ isInMonth row r m = ltb m 12 && (leb (monthStart row m) r && ltb r (monthStart r
 
 in-month : (row r m : ℕ) → isInMonth row r m ≡ true → InMonth row r m
 unfolding isInMonth
-in-month row r m t =
-    let u = and-right (ltb m 12) (leb (monthStart row m) r && ltb r (monthStart row (suc m))) t in (
-      ltb-true _ _ (and-left (ltb m 12) (leb (monthStart row m) r && ltb r (monthStart row (suc m))) t),
-      leb-true _ _ (and-left (leb (monthStart row m) r) (ltb r (monthStart row (suc m))) u),
-      ltb-true _ _ (and-right (leb (monthStart row m) r) (ltb r (monthStart row (suc m))) u),
-    )
+in-month row r m t = let u = and-right (ltb m 12) (leb (monthStart row m) r && ltb r (monthStart row (suc m))) t in (
+  ltb-true _ _ (and-left (ltb m 12) (leb (monthStart row m) r && ltb r (monthStart row (suc m))) t),
+  leb-true _ _ (and-left (leb (monthStart row m) r) (ltb r (monthStart row (suc m))) u),
+  ltb-true _ _ (and-right (leb (monthStart row m) r) (ltb r (monthStart row (suc m))) u),
+)
 
 -- the month of a day of the year is a 32nd of it, or the month after
 abbrev guess : ℕ → ℕ → ℕ

@@ -17,18 +17,13 @@ use Rattle.dates.proofs.Real.{Real, real-is, is-real, real-day, day-rea
 -- the number of a date, counted from 0
 number-from-0 : (k m d : ℕ) → dayNumber (2000 + k) (suc m) (suc d) ≡ numberFrom0 k m d
 unfolding dayNumber
-number-from-0 k m d =
-    let year : 2000 + k - 2000 ≡ k = omega arith in
-    let month : suc m - 1 ≡ m = omega arith in
-    let day : suc d - 1 ≡ d = omega arith in
-    rw (year, month, day)
+number-from-0 k m d = let year : 2000 + k - 2000 ≡ k = omega arith in let month : suc m - 1 ≡ m = omega arith in
+    let day : suc d - 1 ≡ d = omega arith in rw (year, month, day)
 
 -- a date of 2000 to 2199 has a day of the calendar, and no later date has one
 number-in : (k m d : ℕ) → k < 200 → m < 12 → d < lengthIn k m → numberFrom0 k m d ≤ lastDay
-number-in k m d hk hm hd =
-    let month = month-in-year (leapRow (2000 + k)) m (row-is (2000 + k)) hm in
-    let year = year-is (suc k) (omega arith) in
-    omega (arith, year-step k)
+number-in k m d hk hm hd = let month = month-in-year (leapRow (2000 + k)) m (row-is (2000 + k)) hm in
+    let year = year-is (suc k) (omega arith) in omega (arith, year-step k)
 
 year-in : (k m d : ℕ) → numberFrom0 k m d ≤ lastDay → k < 200
 year-in k m d h = lt-of-not-le (λ past. omega (arith, year-past k past))
@@ -39,8 +34,7 @@ module _ (n : ℕ) (h : n ≤ lastDay) where
   date-split = sym (ap dateOf (split n .total)) ∙ counted _ _ _ (split n .month) (split n .day)
 
   split-real : Real (2000 + split n .k) (suc (split n .m)) (suc (split n .d))
-  split-real =
-      let month-back : suc (split n .m) - 1 ≡ split n .m = omega arith in
+  split-real = let month-back : suc (split n .m) - 1 ≡ split n .m = omega arith in
       let year = year-in (split n .k) (split n .m) (split n .d) (omega (arith, split n .total)) in
       record {
         from-2000 = omega arith;
@@ -82,15 +76,12 @@ module _ (y m d : ℕ) (r : Real y m d) where
   real-in = rw real-number (number-in (y - 2000) (m - 1) (d - 1) (omega arith) (omega arith) real-length)
 
   real-counted : dateOf (dayNumber y m d) ≡ date y m d
-  real-counted =
-      ap dateOf real-number ∙ counted (y - 2000) (m - 1) (d - 1) (omega arith) real-length ∙
+  real-counted = ap dateOf real-number ∙ counted (y - 2000) (m - 1) (d - 1) (omega arith) real-length ∙
       rw (year-back, month-back, day-back)
 
 module _ (y m d n : ℕ) where
   has-date : dayAnswer y m d ≡ DayAnswer.Day n → (n ≤ lastDay) × (dateOf n ≡ date y m d)
-  has-date e =
-      let r = day-real y m d n e in
-      let same : dayNumber y m d ≡ n = cc (real-day y m d r) in
+  has-date e = let r = day-real y m d n e in let same : dayNumber y m d ≡ n = cc (real-day y m d r) in
       rw (← same) (real-in y m d r, real-counted y m d r)
 
 pub one-to-one : OneToOne

@@ -21,11 +21,8 @@ pub record Real (y m d : ℕ) : Type 0 where
 module _ (y m d : ℕ) where
   pub real-is : isReal y m d ≡ true → Real y m d
   unfolding isReal
-  real-is t =
-      let a5 = and-left _ (leb d (monthLength (leapRow y) (m - 1))) t in
-      let a4 = and-left _ (leb 1 d) a5 in
-      let a3 = and-left _ (leb m 12) a4 in
-      let a2 = and-left _ (leb 1 m) a3 in
+  real-is t = let a5 = and-left _ (leb d (monthLength (leapRow y) (m - 1))) t in let a4 = and-left _ (leb 1 d) a5 in
+      let a3 = and-left _ (leb m 12) a4 in let a2 = and-left _ (leb 1 m) a3 in
       record {
         from-2000 = leb-true _ _ (and-left _ (leb y 2199) a2);
         to-2199 = leb-true _ _ (and-right (leb 2000 y) _ a2);
@@ -37,15 +34,14 @@ module _ (y m d : ℕ) where
 
   pub is-real : Real y m d → isReal y m d ≡ true
   unfolding isReal
-  is-real r =
-      rw (
-        le-leb 2000 y (r .from-2000),
-        le-leb y 2199 (r .to-2199),
-        le-leb 1 m (r .month-from-1),
-        le-leb m 12 (r .month-to-12),
-        le-leb 1 d (r .day-from-1),
-        le-leb _ _ (r .day-to-last),
-      )
+  is-real r = rw (
+    le-leb 2000 y (r .from-2000),
+    le-leb y 2199 (r .to-2199),
+    le-leb 1 m (r .month-from-1),
+    le-leb m 12 (r .month-to-12),
+    le-leb 1 d (r .day-from-1),
+    le-leb _ _ (r .day-to-last),
+  )
 
   -- a real date's answer is its number
   pub real-day : Real y m d → dayAnswer y m d ≡ DayAnswer.Day (dayNumber y m d)
@@ -70,8 +66,5 @@ module _ (y m d : ℕ) where
 
   -- the number of a real date, as the code reckons it, is its answer
   pub found : (r : ℕ) → Real y m d → r ≡ dayNumber (2000 + (y - 2000)) (m - 1 + 1) (d - 1 + 1) → DayAnswer.Day r ≡ dayAnswer y m d
-  found r real e =
-      let year : 2000 + (y - 2000) ≡ y = omega arith in
-      let month : m - 1 + 1 ≡ m = omega arith in
-      let day : d - 1 + 1 ≡ d = omega arith in
-      rw (real-day real, e, year, month, day)
+  found r real e = let year : 2000 + (y - 2000) ≡ y = omega arith in let month : m - 1 + 1 ≡ m = omega arith in
+      let day : d - 1 + 1 ≡ d = omega arith in rw (real-day real, e, year, month, day)

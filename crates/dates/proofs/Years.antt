@@ -41,6 +41,4 @@ years-from-2200 zero = omega (arith, year-is 200 (omega arith))
 years-from-2200 (suc j) = rw add-suc (omega (arith, years-from-2200 j, year-step (200 + j)))
 
 pub year-past : (k : ℕ) → 200 ≤ k → 73049 ≤ yearStart k
-year-past k h =
-    let e : 200 + (k - 200) ≡ k = omega arith in
-    rw e at (years-from-2200 (k - 200))
+year-past k h = let e : 200 + (k - 200) ≡ k = omega arith in rw e at (years-from-2200 (k - 200))

@@ -11,16 +11,12 @@ use Rattle.holidays.specs.Working.{isWorking, workingFrom, workingBetwee
 -- one more day of a walk
 pub walk-step : (d last : ℕ) → d ≤ last → workingDays d last ≡ cond (isWorking d) 1 0 + workingDays (d + 1) last
 unfolding workingFrom workingDays
-walk-step d last h =
-    let e : last + 1 - d ≡ suc (last + 1 - (d + 1)) = omega arith in
-    rw (e, add-one d)
+walk-step d last h = let e : last + 1 - d ≡ suc (last + 1 - (d + 1)) = omega arith in rw (e, add-one d)
 
 -- none is left after the last day
 pub walk-end : (d last : ℕ) → last < d → workingDays d last ≡ 0
 unfolding workingFrom workingDays
-walk-end d last h =
-    let e : last + 1 - d ≡ 0 = omega arith in
-    rw e
+walk-end d last h = let e : last + 1 - d ≡ 0 = omega arith in rw e
 
 -- two stretches of days, one after the other
 stretches-sum : (s m n : ℕ) → workingFrom s (m + n) ≡ workingFrom s m + workingFrom (s + m) n
@@ -45,17 +41,14 @@ past-days first last h = past-none first (last + 1 - first) h
 -- a count that ends past the calendar ends with the calendar
 pub past-cut : (first last : ℕ) → first ≤ 73048 → 73049 ≤ last → workingDays first last ≡ workingDays first 73048
 unfolding workingDays
-past-cut s last h g =
-    let e : last + 1 - s ≡ (73049 - s) + (last - 73048) = omega arith in
+past-cut s last h g = let e : last + 1 - s ≡ (73049 - s) + (last - 73048) = omega arith in
     let none = past-none (s + (73049 - s)) (last - 73048) (omega arith) in
     rw (e, stretches-sum s (73049 - s) (last - 73048)) (omega arith)
 
 -- the days after t and before e are those from the day after t to the day before e
 between-days : (t e : ℕ) → workingDays (t + 1) (e - 1) ≡ workingBetween t e
 unfolding workingBetween workingDays
-between-days t e =
-    let days : e - 1 + 1 - (t + 1) ≡ e - (t + 1) = omega arith in
-    rw days
+between-days t e = let days : e - 1 + 1 - (t + 1) ≡ e - (t + 1) = omega arith in rw days
 
 -- the same of a count n that was taken to day l
 pub between-counted : (n l t e : ℕ) → l ≡ e - 1 → n ≡ workingDays (t + 1) l → n ≡ workingBetween t e

@@ -35,8 +35,7 @@ isEaster y x = isReal y (month y) (day y) && (eqb (yearDay y 3 22 + x) (yearDay 
 
 easter-offset : (y x : ℕ) → isEaster y x ≡ true → IsOffset y x
 unfolding isEaster dayNumber
-easter-offset y x t =
-    let rest = eqb (yearDay y 3 22 + x) (yearDay y (month y) (day y)) && ltb x 35 in
+easter-offset y x t = let rest = eqb (yearDay y 3 22 + x) (yearDay y (month y) (day y)) && ltb x 35 in
     let u = and-right (isReal y (month y) (day y)) rest t in
     let sum : yearDay y 3 22 + x ≡ yearDay y (month y) (day y) =
     eqb-true _ _ (and-left (eqb (yearDay y 3 22 + x) (yearDay y (month y) (day y))) (ltb x 35) u) in
@@ -48,8 +47,7 @@ easter-offset y x t =
 
 -- the code's table, a decade to a line from 2000 on
 abbrev offsets : List ℕ
-offsets =
-    32 ∷ 24 ∷ 9 ∷ 29 ∷ 20 ∷ 5 ∷ 25 ∷ 17 ∷ 1 ∷ 21 ∷
+offsets = 32 ∷ 24 ∷ 9 ∷ 29 ∷ 20 ∷ 5 ∷ 25 ∷ 17 ∷ 1 ∷ 21 ∷
     13 ∷ 33 ∷ 17 ∷ 9 ∷ 29 ∷ 14 ∷ 5 ∷ 25 ∷ 10 ∷ 30 ∷
     21 ∷ 13 ∷ 26 ∷ 18 ∷ 9 ∷ 29 ∷ 14 ∷ 6 ∷ 25 ∷ 10 ∷
     30 ∷ 22 ∷ 6 ∷ 26 ∷ 18 ∷ 3 ∷ 22 ∷ 14 ∷ 34 ∷ 19 ∷
@@ -85,8 +83,7 @@ table-follows k h = easter-offset (2000 + k) (getD offsets k 0) (every-below fol
 
 -- 22 March is a real date of every year of the calendar
 march-22-real : (y : ℕ) → 2000 ≤ y → y ≤ 2199 → Real y 3 22
-march-22-real y a b =
-    let long = length-bounds (leapRow y) 2 (row-is y) (omega arith) in
+march-22-real y a b = let long = length-bounds (leapRow y) 2 (row-is y) (omega arith) in
     record {
       from-2000 = a;
       to-2199 = b;
@@ -102,10 +99,8 @@ module _ (y : ℕ) where
   unfolding easterDay
   easter-none e = sym (no-date y (month y) (day y) never) where
     never : Real y (month y) (day y) → ⊥
-    never r =
-        let found = real-day y 3 22 (march-22-real y (r .from-2000) (r .to-2199)) in
-        let z : _≡_ {A = ℕ} 0 1 = cc in
-        omega arith
+    never r = let found = real-day y 3 22 (march-22-real y (r .from-2000) (r .to-2199)) in
+        let z : _≡_ {A = ℕ} 0 1 = cc in omega arith
 
   module _ (n : ℕ) (e : dayAnswer y 3 22 ≡ DayAnswer.Day n) where
     pub easter-years : (2000 ≤ y) × (y ≤ 2199)
@@ -117,9 +112,7 @@ module _ (y : ℕ) where
     -- Easter Sunday is the table's entry of days after 22 March
     pub easter-found : (x : ℕ) → IsOffset (2000 + (y - 2000)) x → DayAnswer.Day (n + x) ≡ easterDay y
     unfolding easterDay
-    easter-found x o =
-        let back : 2000 + (y - 2000) ≡ y = omega (arith, easter-years) in
-        let o′ = rw back at o in
+    easter-found x o = let back : 2000 + (y - 2000) ≡ y = omega (arith, easter-years) in let o′ = rw back at o in
         let r = real-is y (month y) (day y) (o′ .is-real) in
         let same : n ≡ dayNumber y 3 22 = cc (real-day y 3 22 (day-real y 3 22 n e)) in
         rw (same, o′ .is-days-on) (sym (real-day y (month y) (day y) r))
@@ -134,15 +127,12 @@ all-sundays = refl
 
 sunday : (k : ℕ) → k < 200 → weekday (dayNumber (2000 + k) (month (2000 + k)) (day (2000 + k))) ≡ 6
 unfolding isSunday dayNumber
-sunday k h =
-    let back : 2000 + k - 2000 ≡ k = omega arith in
+sunday k h = let back : 2000 + k - 2000 ≡ k = omega arith in
     let sum = add-assoc (yearFormula k) (monthStart (leapRow (2000 + k)) (month (2000 + k) - 1)) (day (2000 + k) - 1) in
     rw (back, year-is k (omega arith), sum) (eqb-true _ _ (every-below isSunday 200 all-sundays k h))
 
 pub easter-is-sunday : EasterIsSunday
 unfolding easterDay
-easter-is-sunday y n e =
-    let r = day-real y (month y) (day y) n e in
-    let back : 2000 + (y - 2000) ≡ y = omega arith in
+easter-is-sunday y n e = let r = day-real y (month y) (day y) n e in let back : 2000 + (y - 2000) ≡ y = omega arith in
     let same : dayNumber y (month y) (day y) ≡ n = cc (real-day y (month y) (day y) r) in
     rw (← same) (rw back at (sunday (y - 2000) (omega arith)))

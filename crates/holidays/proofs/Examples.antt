@@ -19,21 +19,16 @@ use Rattle.holidays.proofs.Counting.{past-none}
 module _ (y m d : ℕ) (e : dayAnswer y m d ≡ DayAnswer.Day (dayNumber y m d)) where
   holiday-on : isHoliday (dayNumber y m d) ≡ isHolidayOn (dayNumber y m d) (date y m d)
   unfolding isHoliday
-  holiday-on =
-      let h = one-to-one .day-has-date y m d (dayNumber y m d) e in
-      rw (le-leb _ _ (h .0), h .1)
+  holiday-on = let h = one-to-one .day-has-date y m d (dayNumber y m d) e in rw (le-leb _ _ (h .0), h .1)
 
   worked-on :
       isWorking (dayNumber y m d) ≡
       (ltb (weekday (dayNumber y m d)) 5 && not (isHolidayOn (dayNumber y m d) (date y m d)))
   unfolding isWorking
-  worked-on =
-      let h = one-to-one .day-has-date y m d (dayNumber y m d) e in
-      rw (le-leb _ _ (h .0), holiday-on)
+  worked-on = let h = one-to-one .day-has-date y m d (dayNumber y m d) e in rw (le-leb _ _ (h .0), holiday-on)
 
 -- the working days between two days of May 2021, by the definition alone
-between-may :
-    (workingBetween (dayNumber 2021 5 19) (dayNumber 2021 5 25) ≡ 2) ×
+between-may : (workingBetween (dayNumber 2021 5 19) (dayNumber 2021 5 25) ≡ 2) ×
     (workingBetween (dayNumber 2021 5 20) (dayNumber 2021 5 25) ≡ 1) ×
     (workingBetween (dayNumber 2021 5 18) (dayNumber 2021 5 25) ≡ 3) ×
     (workingBetween (dayNumber 2021 5 19) (dayNumber 2021 5 26) ≡ 3) ×

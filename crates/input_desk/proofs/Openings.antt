@@ -1,33 +1,52 @@
--- What the desk replies to an opening and to a call: what `open` and `apply` tell is what the definition says.
-use mathlib.Core.Path.{_≡_, refl, ap}
-use mathlib.Core.Bool.{Bool, true, false, cond}
-use Rattle.rules.specs.declared.{Opening.Opening, Call.Call, Outcome.Outcome, Answer.Answer}
+-- The desk after an accepted message, and after a refused one.
+use mathlib.Core.Path.{_≡_, refl, sym, ap, _∙_}
+use mathlib.Core.Bool.{Bool, true, false, cond, not, _&&_, false≢true}
+use Rattle.rules.specs.declared.{Call.Call, Opening.Opening, Register.Register, Outcome.Outcome}
 use Rattle.rules.specs.Answers.{isAccepted}
 use Rattle.rules.specs.Rejections.{openingAnswer}
-use Rattle.rules.specs.Register.{opened}
+use Rattle.rules.specs.Register.{says, advanced, done, opened, applied}
 use Rattle.register.specs.Opens.{openedOver}
 use Rattle.line_messages.specs.declared.{Message.Message}
-use Rattle.input_desk.specs.declared.{Desk.Desk, Reply.Reply}
-use Rattle.input_desk.specs.Desk.{desk, answerOf, deskAfter, replied}
+use Rattle.input_desk.specs.declared.{Desk.Desk}
+use Rattle.input_desk.specs.Desk.{desk, unreadable, answerOf, deskAfter}
 
-abbrev pub refusing : Desk → Reply
-refusing d = record { answer = Answer.Refused 31; desk = d }
-
-pub opened-before : (d : Desk) (o : Opening) → d .ready ≡ true → refusing d ≡ replied d (Message.Open o)
-unfolding replied answerOf deskAfter
-opened-before d o h = rw h
-
-pub not-opened : (d : Desk) (c : Call) → d .ready ≡ false → refusing d ≡ replied d (Message.Ask c)
-unfolding replied answerOf deskAfter
-not-opened d c h = rw h
-
--- what `open` tells of the register before is what the desk keeps of it
-pub opens-over : (d : Desk) (o : Opening) (x : Outcome) (b : Bool) → d .ready ≡ false → x ≡ openedOver (d .register) o
-    → b ≡ isAccepted (x .answer) → record { answer = x .answer; desk = desk b (x .register) } ≡ replied d (Message.Open o)
-unfolding replied answerOf deskAfter openedOver
-opens-over d o x b h e k =
-    rw (k, e, h) (ap (λ (y : Desk). record { answer = openingAnswer o; desk = y }) (go (isAccepted (openingAnswer o))))
+-- a refused message changes nothing
+pub refused-after : (d : Desk) (m : Message) → isAccepted (answerOf d m) ≡ false → deskAfter d m ≡ d
+unfolding answerOf deskAfter applied
+refused-after d (Message.Open o) h = go (d .ready) (isAccepted (openingAnswer o)) refl h
   where
-    go : (a : Bool) → desk a (cond a (opened o) (d .register)) ≡ cond a (desk true (opened o)) (desk false (d .register))
-    go true = refl
-    go false = refl
+    go : (b a : Bool) → isAccepted (openingAnswer o) ≡ a → isAccepted (cond b unreadable (openingAnswer o)) ≡ false →
+        cond (not b && a) (desk true (opened o)) d ≡ d
+    go true a e k = refl
+    go false true e k = absurd (false≢true (sym k ∙ e))
+    go false false e k = refl
+refused-after d (Message.Ask c) h = go (d .ready) refl h
+  where
+    go : (b : Bool) → d .ready ≡ b → isAccepted (cond b (says (d .register) c) unreadable) ≡ false →
+        cond b (desk true (cond (isAccepted (says (d .register) c)) (done (c .today) (c .action) (advanced (c .today) (d .register))) (d .register)))
+        d ≡ d
+    go true e k = rw (k, ← e)
+    go false e k = refl
+refused-after d Message.Unreadable h = refl
+
+-- an accepted message has opened the register, or has found it open
+pub opening-after : (d : Desk) (o : Opening) (r : Register) (x : Outcome) → x ≡ openedOver r o →
+    isAccepted (answerOf d (Message.Open o)) ≡ true → desk true (x .register) ≡ deskAfter d (Message.Open o)
+unfolding answerOf deskAfter openedOver
+opening-after d o r x e h = rw e (go (d .ready) h)
+  where
+    go : (b : Bool) → isAccepted (cond b unreadable (openingAnswer o)) ≡ true →
+        desk true (cond (isAccepted (openingAnswer o)) (opened o) r) ≡ cond (not b && isAccepted (openingAnswer o)) (desk true (opened o)) d
+    go true k = absurd (false≢true k)
+    go false k = rw k
+
+pub call-after : (d : Desk) (c : Call) (r : Register) → (isAccepted (says (d .register) c) ≡ true → r ≡ applied (d .register) c .register) →
+    isAccepted (answerOf d (Message.Ask c)) ≡ true → desk true r ≡ deskAfter d (Message.Ask c)
+unfolding answerOf deskAfter applied
+call-after d c r e h = go (d .ready) h
+  where
+    go : (b : Bool) → isAccepted (cond b (says (d .register) c) unreadable) ≡ true →
+        desk true r ≡ cond b
+        (desk true (cond (isAccepted (says (d .register) c)) (done (c .today) (c .action) (advanced (c .today) (d .register))) (d .register))) d
+    go true k = ap (desk true) (e k)
+    go false k = absurd (false≢true k)

@@ -16,12 +16,12 @@ use Rattle.rules.specs.Rejections.{
   lastResortNear,
   rowsAt,
   rows,
-  acceptedAt,
   accepted,
   answerTo,
   answer,
   openingAnswer,
 }
+use Rattle.rules.specs.Effects.{acceptedBy, effectOf}
 use Rattle.rules.specs.Register.{says, applied}
 use Rattle.line_messages.specs.declared.{Message.Message}
 use Rattle.input_desk.specs.Desk.{unreadable, answerOf}
@@ -35,61 +35,58 @@ row true n rs a h k = h
 row false n rs a h k = k
 
 -- the row of number 8 carries its day where it applies
-row-8 : (t : ℕ) (kind : SupplyKind) (rs : List Row) (a : Answer) → isTabled (firstOf rs a) ≡ true →
-    isTabled (firstOf (lastResortNear t kind ∷ rs) a) ≡ true
+row-8 : (S : Settings) (t : ℕ) (kind : SupplyKind) (rs : List Row) (a : Answer) → isTabled (firstOf rs a) ≡ true →
+    isTabled (firstOf (lastResortNear S t kind ∷ rs) a) ≡ true
 unfolding firstOf
-row-8 t SupplyKind.None rs a k = k
-row-8 t SupplyKind.Contract rs a k = k
-row-8 t (SupplyKind.LastResort d) rs a k = k
-row-8 t (SupplyKind.Default d) rs a k = go (lastResortNear t (SupplyKind.Default d) .applies)
+row-8 S t SupplyKind.None rs a k = k
+row-8 S t SupplyKind.Contract rs a k = k
+row-8 S t (SupplyKind.LastResort d) rs a k = k
+row-8 S t (SupplyKind.Default d) rs a k = go (lastResortNear S t (SupplyKind.Default d) .applies)
   where
     go : (b : Bool) → isTabled (cond b (Answer.RefusedUntil d) (firstOf rs a)) ≡ true
     go true = refl
     go false = k
 
+-- 22, 20 and 21
+dated : (a b c : Bool) (rs : List Row) (x : Answer) → isTabled (firstOf rs x) ≡ true →
+    isTabled (firstOf ((a ⇒ 22) ∷ (b ⇒ 20) ∷ (c ⇒ 21) ∷ rs) x) ≡ true
+dated a b c rs x h = row a 22 _ x refl (row b 20 _ x refl (row c 21 rs x refl h))
+
 last : (a : Answer) → isTabled a ≡ true → isTabled (firstOf [] a) ≡ true
 unfolding firstOf
 last a h = h
 
-module _ (S : Settings) (u : List Bool) (t : ℕ) where
-  rows-at : (p : ℕ) (a : PointAction) (v : View) → isTabled (firstOf (rowsAt S u t p a v) (acceptedAt t a)) ≡ true
-  unfolding rowsAt acceptedAt
-  rows-at p (PointAction.Enrol b a x) v = row _ 2 _ _ refl (row _ 23 _ _ refl (row _ 28 _ _ refl (last _ refl)))
-  rows-at p (PointAction.IntoService s k) v = row _ 1 _ _ refl (row _ 2 _ _ refl (row _ 24 _ _ refl (row _ 30 _ _ refl (last _ refl))))
-  rows-at p (PointAction.DefaultSupply k) v = row _ 2 _ _ refl (row _ 24 _ _ refl (row _ 30 _ _ refl (last _ refl)))
-  rows-at p (PointAction.Request s k r) v =
-      row _ 1 _ _ refl
-      (row _ 2 _ _ refl
-      (row _ 3 _ _ refl
-      (row _ 4 _ _ refl
-      (row _ 5 _ _ refl
-      (row _ 6 _ _ refl
-      (row _ 7 _ _ refl (row-8 t (v .fields .supply .kind) _ _ (row _ 30 _ _ refl (last _ refl)))))))))
-  rows-at p (PointAction.Cancel s) v = row _ 2 _ _ refl (row _ 25 _ _ refl (row _ 26 _ _ refl (last _ refl)))
-  rows-at p (PointAction.Reading d x z) v = row _ 2 _ _ refl (row _ 27 _ _ refl (row _ 28 _ _ refl (last _ refl)))
-  rows-at p (PointAction.MeterChange x z b a y) v = row _ 2 _ _ refl (row _ 27 _ _ refl (row _ 28 _ _ refl (last _ refl)))
-  rows-at p PointAction.OutOfService v = row _ 2 _ _ refl (row _ 6 _ _ refl (row _ 30 _ _ refl (last _ refl)))
-  rows-at p (PointAction.Suspend m) v = row _ 2 _ _ refl (last _ refl)
+module _ (S : Settings) (day : ℕ) (u : List Bool) (t : ℕ) where
+  rows-at : (p : ℕ) (a : PointAction) (v : View) → isTabled (firstOf (rowsAt S day u t p a v) (acceptedBy (effectOf S t a (v .fields)))) ≡ true
+  unfolding rowsAt effectOf
+  rows-at p (PointAction.Enrol b a x) v = dated _ _ _ _ _ (row _ 2 _ _ refl (row _ 23 _ _ refl (row _ 28 _ _ refl (last _ refl))))
+  rows-at p (PointAction.IntoService s k) v =
+      dated _ _ _ _ _ (row _ 1 _ _ refl (row _ 2 _ _ refl (row _ 24 _ _ refl (row _ 30 _ _ refl (last _ refl)))))
+  rows-at p (PointAction.DefaultSupply k) v = dated _ _ _ _ _ (row _ 2 _ _ refl (row _ 24 _ _ refl (row _ 30 _ _ refl (last _ refl))))
+  rows-at p (PointAction.Request s k r) v = dated _ _ _ _ _ (row _ 1 _ _ refl (row _ 2 _ _ refl (row _ 3 _ _ refl
+      (row _ 4 _ _ refl (row _ 5 _ _ refl (row _ 6 _ _ refl
+      (row _ 7 _ _ refl (row-8 S t (v .fields .supply .kind) _ _ (row _ 30 _ _ refl (last _ refl))))))))))
+  rows-at p (PointAction.Cancel s) v = dated _ _ _ _ _ (row _ 2 _ _ refl (row _ 25 _ _ refl (row _ 26 _ _ refl (last _ refl))))
+  rows-at p (PointAction.Reading d x z) v = dated _ _ _ _ _ (row _ 2 _ _ refl (row _ 27 _ _ refl (row _ 28 _ _ refl (last _ refl))))
+  rows-at p (PointAction.MeterChange x z b a y) v = dated _ _ _ _ _ (row _ 2 _ _ refl (row _ 27 _ _ refl (row _ 28 _ _ refl (last _ refl))))
+  rows-at p PointAction.OutOfService v =
+      row _ 20 _ _ refl (row _ 21 _ _ refl (row _ 2 _ _ refl (row _ 6 _ _ refl (row _ 30 _ _ refl (last _ refl)))))
+  rows-at p (PointAction.Suspend m) v = dated _ _ _ _ _ (row _ 2 _ _ refl (last _ refl))
 
-  rows-of : (a : Action) (v : ℕ → View) → isTabled (firstOf (rows S u t a v) (accepted t a)) ≡ true
+  rows-of : (a : Action) (v : ℕ → View) → isTabled (firstOf (rows S day u t a v) (accepted S t a v)) ≡ true
   unfolding rows accepted
-  rows-of (Action.Contract s) v = last _ refl
-  rows-of (Action.Failure s) v = row _ 1 _ _ refl (row _ 29 _ _ refl (row _ 30 _ _ refl (last _ refl)))
+  rows-of (Action.Contract s) v = dated _ _ _ _ _ (last _ refl)
+  rows-of (Action.Failure s) v = dated _ _ _ _ _ (row _ 1 _ _ refl (row _ 29 _ _ refl (row _ 30 _ _ refl (last _ refl))))
   rows-of (Action.At p a) v = rows-at p a (v p)
-  rows-of Action.Day v = last _ refl
+  rows-of Action.Day v = row _ 20 _ _ refl (row _ 21 _ _ refl (last _ refl))
 
 call-tabled : (r : Register) (c : Call) → isTabled (says r c) ≡ true
 unfolding says answer answerTo
-call-tabled r c =
-    row _ 22 _ _ refl
-    (row _ 20 _ _ refl (row _ 21 _ _ refl (rows-of (r .settings) (r .contracts) (c .today) (c .action) _)))
+call-tabled r c = rows-of (r .settings) (r .day) (r .contracts) (c .today) (c .action) _
 
 opening-tabled : (o : Opening) → isTabled (openingAnswer o) ≡ true
 unfolding openingAnswer
-opening-tabled o =
-    row _ 22 _ _ refl
-    (row _ 22 _ _ refl
-    (row _ 22 _ _ refl
+opening-tabled o = row _ 22 _ _ refl (row _ 22 _ _ refl (row _ 22 _ _ refl
     (row _ 22 _ _ refl (row _ 22 _ _ refl (row _ 22 _ _ refl (row _ 20 _ _ refl (last _ refl)))))))
 
 pub every-answer-tabled : EveryAnswerTabled

@@ -6,7 +6,7 @@ use Rattle.rules.specs.Answers.{isAccepted}
 use Rattle.rules.specs.Rejections.{openingAnswer}
 use Rattle.rules.specs.Register.{applied, opened}
 use Rattle.line_messages.specs.declared.{Message.Message}
-use Rattle.input_desk.specs.declared.{Desk.Desk, Reply.Reply}
+use Rattle.input_desk.specs.declared.{Desk.Desk}
 
 abbrev pub desk : Bool → Register → Desk
 desk b r = record { ready = b; register = r }
@@ -26,6 +26,3 @@ unfoldable pub deskAfter : Desk → Message → Desk
 deskAfter d (Message.Open o) = cond (not (d .ready) && isAccepted (openingAnswer o)) (desk true (opened o)) d
 deskAfter d (Message.Ask c) = cond (d .ready) (desk true (applied (d .register) c .register)) d
 deskAfter d Message.Unreadable = d
-
-unfoldable pub replied : Desk → Message → Reply
-replied d m = record { answer = answerOf d m; desk = deskAfter d m }

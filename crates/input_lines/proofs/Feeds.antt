@@ -104,8 +104,7 @@ fitting-cons zero b l = go (eqb b 10)
     go : (t : Bool) → cond t 0 (suc (fitting zero l)) ≡ cond (t && true) 0 (suc (fitting (cond t (0 - 1) 0) l))
     go true = refl
     go false = refl
-fitting-cons (suc n) b l =
-    let e : suc n - 1 ≡ n = omega arith in
+fitting-cons (suc n) b l = let e : suc n - 1 ≡ n = omega arith in
     rw (e, ne-eqb (suc n) 0 (λ h. not-suc-le-zero {n = n} (omega arith))) (go (eqb b 10))
   where
     go : (t : Bool) → suc (fitting (cond t n (suc n)) l) ≡ cond (t && false) 0 (suc (fitting (cond t n (suc n)) l))

@@ -43,8 +43,7 @@ kept-le p = omega (arith, length-take (min (p .len) keptBytes) (p .bytes))
 
 pub kept-begun : (l : List ℕ) → length l ≤ keptBytes → kept (begunOf l) ≡ l
 unfolding begunOf
-kept-begun l h =
-    let e : min (length l) keptBytes ≡ length l = omega arith in
+kept-begun l h = let e : min (length l) keptBytes ≡ length l = omega arith in
     rw e (take-append-seam l (replicate (keptBytes - length l) 0))
 
 pub empty-begun : begunOf [] ≡ record { len = 0; bytes = replicate keptBytes 0 }
@@ -62,8 +61,7 @@ take-min n l = elim (decLe n (length l)) [
 -- a front of at most keptBytes bytes and what still fits
 pub capped-append : (x more : List ℕ) → length x ≤ keptBytes → capped (x ++ more) ≡ x ++ take (min (length more) (keptBytes - length x)) more
 unfolding capped
-capped-append x more h =
-    let s : keptBytes ≡ length x + (keptBytes - length x) = omega arith in
+capped-append x more h = let s : keptBytes ≡ length x + (keptBytes - length x) = omega arith in
     ap (λ (n : ℕ). take n (x ++ more)) s ∙ take-append-add x more (keptBytes - length x) ∙
     ap (λ (l : List ℕ). x ++ l) (take-min (keptBytes - length x) more)
 

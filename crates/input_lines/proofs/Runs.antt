@@ -103,8 +103,7 @@ module _ {S : Type 0} (next : S → List ℕ → S) (say : S → List ℕ → Li
     run-lines s full [] = end-lines s full
     run-lines s full (b ∷ l) = go (eqb b 10) (run-lines (next s full) [] l) (run-lines s (full ++ (b ∷ [])) l)
       where
-        go : (t : Bool) →
-            (lastSaid (go-on (next s full) (capped []) l) ≡ said next say (next s full) (linesFrom [] l))
+        go : (t : Bool) → (lastSaid (go-on (next s full) (capped []) l) ≡ said next say (next s full) (linesFrom [] l))
             × (lastState (go-on (next s full) (capped []) l) ≡ afterLines next say (next s full) (linesFrom [] l)) →
             (lastSaid (go-on s (capped (full ++ (b ∷ []))) l) ≡ said next say s (linesFrom (full ++ (b ∷ [])) l))
             × (lastState (go-on s (capped (full ++ (b ∷ []))) l) ≡ afterLines next say s (linesFrom (full ++ (b ∷ [])) l)) →

@@ -32,6 +32,5 @@ read-whole p l m e h = h ∙ ap lineMessage (sym (read-capped l)) ∙ rw e
 
 pub read-joined : (p : Begun) (l : List ℕ) (w : Begun) (m : LineMessage) → w ≡ begunOf (capped (kept p ++ l)) →
     m ≡ lineMessage (readLine (kept w)) → m ≡ lineMessage (readLine (capped (kept p ++ l)))
-read-joined p l w m e h =
-    h ∙ ap (λ (x : Begun). lineMessage (readLine (kept x))) e ∙
+read-joined p l w m e h = h ∙ ap (λ (x : Begun). lineMessage (readLine (kept x))) e ∙
     ap (λ (x : List ℕ). lineMessage (readLine x)) (kept-begun (capped (kept p ++ l)) (capped-le (kept p ++ l)))

@@ -1,4 +1,4 @@
 pub mod Capped
 pub mod Turns
-pub mod InTables
 pub mod Within
+pub mod Leaves

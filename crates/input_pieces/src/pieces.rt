@@ -1,34 +1,32 @@
-// The lines of a piece, answered one by one. The register stays in place: a quick line costs the point that it names.
+// The lines of a piece, answered one by one. The points stay in their tables: a line costs what it looks at and what it
+// stores; the whole register is put together only for what may concern every point.
 use crate::Session;
 use input_desk::Desk;
-use input_desk::respond;
+use input_desk::after;
 use input_lines::Begun;
 use input_lines::KEPT;
 use input_lines::append;
-use input_point::daily_of;
-use input_point::turn_of;
-use input_quick::day_after;
-use input_quick::due_day;
-use input_quick::first_due;
-use input_quick::is_quick;
-use input_quick::place_of;
-use input_quick::signed_after;
-use input_quick::supplier_of;
-use input_tables::counts_of;
-use input_tables::fields_of;
-use input_tables::joined;
+use input_point::Deed;
+use input_point::Said;
+use input_point::answer_of;
+use input_point::deed_of;
+use input_point::failure_answer;
+use input_point::place_of;
+use input_quiet::due_day;
+use input_quiet::earlier;
+use input_quiet::first_due;
+use input_tables::booked_at;
 use input_tables::points_of;
-use input_tables::slots_of;
+use input_tables::tables_of;
 use line_answers::put_answer;
 use line_fields::first_known;
 use line_messages::LineMessage;
 use line_messages::read_line;
 use line_next::next_line;
+use point_checks::is_accepted;
 use point_periods::newest_place;
-use rules::Answer;
 use rules::Fields;
 use rules::Period;
-use rules::Point;
 use rules::Register;
 use rules::Settings;
 ghost use mathlib.Core.Path.{_≡_};
@@ -40,11 +38,8 @@ ghost use Rattle.input_lines.specs.Between.Begun.{keptBytes, capped, kept};
 ghost use Rattle.line_answers.specs.Answers.{longestAnswer};
 ghost use Rattle.line_messages.specs.Pinned.Reading.{readLine};
 ghost use Rattle.line_messages.specs.Between.Values.{lineMessage};
-ghost use Rattle.rules.specs.Register.{register};
-ghost use Rattle.input_tables.specs.Tables.{pointsOf};
-ghost use Rattle.input_desk.specs.Desk.{desk};
-ghost use Rattle.input_quick.specs.Quick.{dueDay};
-ghost use Rattle.input_pieces.specs.Session.{AnsweredBy, answeredWith, WholeMessage};
+ghost use Rattle.input_pieces.specs.Session.{registerIn, WholeMessage};
+ghost use Rattle.input_pieces.specs.Pieces.{answered, AnsweredBy};
 
 // The session after the lines of a piece, and how many bytes were written.
 pub(crate) struct Answered {
@@ -74,18 +69,6 @@ fn read_first(bytes: [u8; KEPT], n: usize) -> LineMessage
     read_line(&bytes)
 }
 
-// A day before which nothing falls due, with another point among them.
-fn quiet_with(quiet: u32, g: Point) -> u32
-    ensures { λ r. ⌜ r ≡ min quiet (dueDay (g .fields .supply)) ⌝ }
-{
-    let f = g.fields;
-    let due = due_day(f.supply);
-    if quiet < due {
-        return quiet;
-    }
-    due
-}
-
 // The message of a line, which next_line has read; with the part of it that had come before, if there is one.
 fn whole_message(part: Begun, read: LineMessage, line: &[u8]) -> LineMessage
     ensures { λ r. ⌜ WholeMessage part (now (line .entry)) read r ⌝ }
@@ -96,34 +79,16 @@ fn whole_message(part: Begun, read: LineMessage, line: &[u8]) -> LineMessage
     line_message(part, line)
 }
 
-// The session at the end of a piece: what stands behind its last line feed is kept.
-fn at_end(ready: bool, reg: Register, part: Begun, rest: &[u8], written: usize) -> Answered
-    ensures { λ r. ⌜ r ≡ answeredWith (desk ready reg) (capped (kept part ++ now (rest .entry))) written ⌝ }
-{
-    let desk = Desk {
-        ready: ready,
-        register: reg,
-    };
-    let session = Session {
-        desk: desk,
-        part: append(part, rest),
-    };
-    Answered {
-        session: session,
-        written: written,
-    }
-}
-
-// The register, put together again.
-fn register_of(
+// The register, put together.
+pub(crate) fn register_of(
     set: Settings,
     day: u32,
     contracts: [bool; 100],
     fields: [Fields; 32],
     counts: [usize; 32],
-    slots: [[Period; 24]; 32],
+    slots: [Period; 768],
 ) -> Register
-    ensures { λ r. ⌜ r ≡ register set day contracts (pointsOf fields counts slots) ⌝ }
+    ensures { λ r. ⌜ r ≡ registerIn set day contracts fields counts slots ⌝ }
 {
     Register {
         settings: set,
@@ -133,23 +98,62 @@ fn register_of(
     }
 }
 
-// Answers the lines that end in a piece. The points stand in tables: a daily reading changes its point's fields and
-// newest period where they are, another quick line costs the point that it names.
-pub(crate) fn answer_lines(s: Session, piece: &[u8], out: &mut [u8]) -> Answered
-    requires { ⌜ longestAnswer * feeds (now piece) ≤ length (now out) ⌝ }
-    ensures { λ r. ⌜ AnsweredBy s (now (piece .entry)) (now (out .entry)) (now (out .exit)) r ⌝ }
+// The session at the end of a piece: what stands behind its last line feed is kept.
+fn at_end(
+    ready: bool,
+    set: Settings,
+    day: u32,
+    contracts: [bool; 100],
+    fields: [Fields; 32],
+    counts: [usize; 32],
+    slots: [Period; 768],
+    part: Begun,
+    rest: &[u8],
+    written: usize,
+) -> Answered
+    ensures { λ r. ⌜ r ≡ answered ready set day contracts fields counts slots (capped (kept part ++ now (rest .entry))) written ⌝ }
 {
-    let d = s.desk;
-    let r = d.register;
-    let points = r.points;
-    let mut part = s.part;
-    let mut ready = d.ready;
-    let mut set = r.settings;
-    let mut day = r.day;
-    let mut contracts = r.contracts;
-    let mut fields = fields_of(points);
-    let mut counts = counts_of(points);
-    let mut slots = slots_of(points);
+    let session = Session {
+        ready: ready,
+        settings: set,
+        day: day,
+        contracts: contracts,
+        fields: fields,
+        counts: counts,
+        slots: slots,
+        part: append(part, rest),
+    };
+    Answered {
+        session: session,
+        written: written,
+    }
+}
+
+// Answers the lines that end in a piece. What an accepted line stores where nothing falls due by its day is one point's
+// fields and one slot, a contract, or the day alone.
+pub(crate) fn answer_lines(
+    opened: bool,
+    settings: Settings,
+    since: u32,
+    signed: [bool; 100],
+    points: [Fields; 32],
+    marks: [usize; 32],
+    periods: [Period; 768],
+    begun: Begun,
+    piece: &[u8],
+    out: &mut [u8],
+) -> Answered
+    requires { ⌜ longestAnswer * feeds (now piece) ≤ length (now out) ⌝ }
+    ensures { λ r. ⌜ AnsweredBy opened settings since signed points marks periods begun (now (piece .entry)) (now (out .entry)) (now (out .exit)) r ⌝ }
+{
+    let mut part = begun;
+    let mut ready = opened;
+    let mut set = settings;
+    let mut day = since;
+    let mut contracts = signed;
+    let mut fields = points;
+    let mut counts = marks;
+    let mut slots = periods;
     let mut quiet = first_due(points);
     let mut known = first_known();
     let mut at: usize = 0;
@@ -158,8 +162,18 @@ pub(crate) fn answer_lines(s: Session, piece: &[u8], out: &mut [u8]) -> Answered
         let line = next_line(piece, at, known);
         let end = line.end;
         if piece.len() <= end {
-            let reg = register_of(set, day, contracts, fields, counts, slots);
-            return at_end(ready, reg, part, &piece[at..], written);
+            return at_end(
+                ready,
+                set,
+                day,
+                contracts,
+                fields,
+                counts,
+                slots,
+                part,
+                &piece[at..],
+                written,
+            );
         }
         let read = line.read;
         let whole = whole_message(part, read, &piece[at..end]);
@@ -168,59 +182,75 @@ pub(crate) fn answer_lines(s: Session, piece: &[u8], out: &mut [u8]) -> Answered
         known = line.known;
         part.len = 0;
         at = end + 1;
-        if is_quick(ready, quiet, m) {
-            let i = place_of(m);
-            let n = counts[i];
-            let k = newest_place(n);
-            let f = fields[i];
-            let q = slots[i][k];
-            let x = daily_of(ready, day, m, n, f, q);
-            if x.is {
-                let f_read = x.fields;
-                let q_read = x.period;
-                fields[i] = f_read;
-                slots[i][k] = q_read;
-                day = day_after(day, m, Answer::Accepted);
-                written = put_answer(out, written, kind, Answer::Accepted);
-            } else {
-                let j = supplier_of(m);
-                let ps = slots[i];
-                let g = joined(f, n, ps);
-                let y = turn_of(set, day, contracts, ready, m, g);
-                let answer = y.answer;
-                let h = y.point;
-                let f_after = h.fields;
-                let past = h.history;
-                let ps_after = past.periods;
-                quiet = quiet_with(quiet, h);
-                fields[i] = f_after;
-                counts[i] = past.count;
-                slots[i] = ps_after;
-                day = day_after(day, m, answer);
-                contracts[j] = signed_after(m, answer, contracts[j]);
-                written = put_answer(out, written, kind, answer);
+        let i = place_of(m);
+        let n = counts[i];
+        let k = newest_place(n);
+        let f = fields[i];
+        let q = slots[24 * i + k];
+        let said = answer_of(set, day, contracts, ready, m, f, n, q.start);
+        let answer = match said {
+            Said::Known(a) => a,
+            Said::Ruled(x) => x.answer,
+            Said::Fails(t, s) => failure_answer(set, day, t, s, fields, counts, slots),
+        };
+        if is_accepted(answer) {
+            let deed = deed_of(quiet, m, said, n, q);
+            match deed {
+                Deed::Slot(x) => {
+                    let g = x.fields;
+                    let p = x.period;
+                    let place = x.place;
+                    fields[i] = g;
+                    counts[i] = x.count;
+                    slots[24 * i + place] = p;
+                    day = x.today;
+                    quiet = earlier(quiet, due_day(g.supply));
+                }
+                Deed::Back(t, s, g) => {
+                    fields[i] = g;
+                    slots = booked_at(s, i, n, slots);
+                    day = t;
+                    quiet = earlier(quiet, due_day(g.supply));
+                }
+                Deed::Sign(t, s) => {
+                    contracts[s] = true;
+                    day = t;
+                }
+                Deed::Pass(t) => {
+                    day = t;
+                }
+                Deed::Whole => {
+                    let now = Desk {
+                        ready: ready,
+                        register: register_of(set, day, contracts, fields, counts, slots),
+                    };
+                    let next = after(now, m);
+                    let r = next.register;
+                    let ps = r.points;
+                    let tables = tables_of(ps);
+                    ready = next.ready;
+                    set = r.settings;
+                    day = r.day;
+                    contracts = r.contracts;
+                    fields = tables.fields;
+                    counts = tables.counts;
+                    slots = tables.slots;
+                    quiet = first_due(fields);
+                }
             }
-        } else {
-            let now = Desk {
-                ready: ready,
-                register: register_of(set, day, contracts, fields, counts, slots),
-            };
-            let z = respond(now, m);
-            let answer = z.answer;
-            let after = z.desk;
-            let next = after.register;
-            let points_after = next.points;
-            ready = after.ready;
-            set = next.settings;
-            day = next.day;
-            contracts = next.contracts;
-            fields = fields_of(points_after);
-            counts = counts_of(points_after);
-            slots = slots_of(points_after);
-            quiet = first_due(points_after);
-            written = put_answer(out, written, kind, answer);
         }
+        written = put_answer(out, written, kind, answer);
     }
-    let reg = register_of(set, day, contracts, fields, counts, slots);
-    at_end(ready, reg, part, &piece[at..], written)
+    at_end(
+        ready,
+        set,
+        day,
+        contracts,
+        fields,
+        counts,
+        slots,
+        part,
+        &piece[at..],
+        written,
+    )
 }

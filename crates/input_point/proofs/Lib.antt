@@ -1,2 +1,3 @@
-pub mod OnePoint
-pub mod DailyReply
+pub mod Places
+pub mod Settled
+pub mod Stored

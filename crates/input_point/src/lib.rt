@@ -1,138 +1,47 @@
-// What one point makes of a message, on a day before anything falls due.
-mod daily;
+// What a message is answered, and what it changes where nothing falls due by its day: told from the tables, at the
+// cost of the point that it names.
+mod answers;
+mod deeds;
 
-pub use daily::daily_of;
-use dates::LAST_DAY;
+pub use answers::Said;
+pub use answers::answer_of;
+pub use answers::failure_answer;
+pub use deeds::Deed;
+pub use deeds::Entry;
+pub use deeds::deed_of;
 use line_messages::Message;
 use point_checks::outside;
-use point_effects::Ruling;
-use point_effects::turn;
 use rules::Action;
-use rules::Answer;
-use rules::Point;
-use rules::PointAction;
-use rules::Settings;
 ghost use mathlib.Core.Path.{_≡_};
-ghost use Rattle.input_point.specs.Turns.{leaves, smallRange, plainAnswer, nonePoint, namedBy, namedIn};
-ghost use Rattle.input_point.specs.Turns.{answerBeside, turnOf};
+ghost use Prim.Native.Nat.{_<_};
+ghost use Rattle.input_point.specs.Between.Answers.{placeIn, placeOf};
 
-fn leave(g: Point, answer: Answer) -> Ruling
-    ensures { λ r. ⌜ r ≡ leaves g answer ⌝ }
-{
-    Ruling {
-        answer: answer,
-        point: g,
-    }
-}
-
-// The supplier that a call names is none.
-fn is_out_of_range(a: Action) -> bool
-    ensures { λ r. ⌜ r ≡ smallRange a ⌝ }
+fn place_in(a: Action) -> usize
+    ensures { λ r. ⌜ (r ≡ placeIn a) × (r < 32) ⌝ }
 {
     match a {
-        Action::Contract { supplier } => outside(1, 99, supplier),
-        Action::Failure { supplier } => outside(1, 99, supplier),
-        Action::At { point: _, act: _ } => false,
-        Action::Day => false,
+        Action::Contract { supplier: _ } => 0,
+        Action::Failure { supplier: _ } => 0,
+        Action::At { point, act: _ } => {
+            if outside(1, 32, point) {
+                return 0;
+            }
+            (point - 1) as usize
+        }
+        Action::Day => 0,
     }
 }
 
-// The answer to a call that looks at no point.
-fn plain_answer(day: u32, today: u64, a: Action) -> Answer
-    ensures { λ r. ⌜ r ≡ plainAnswer day today a ⌝ }
-{
-    if is_out_of_range(a) {
-        return Answer::Refused(22);
-    }
-    if today > LAST_DAY as u64 {
-        return Answer::Refused(20);
-    }
-    if today < day as u64 {
-        return Answer::Refused(21);
-    }
-    Answer::Accepted
-}
-
-// The call that names a point, if a message is one and the register is open.
-pub(crate) struct Named {
-    pub is: bool,
-    pub today: u64,
-    pub point: u64,
-    pub act: PointAction,
-}
-
-fn no_point() -> Named
-    ensures { λ r. ⌜ r ≡ nonePoint ⌝ }
-{
-    Named {
-        is: false,
-        today: 0,
-        point: 0,
-        act: PointAction::OutOfService,
-    }
-}
-
-fn named_by(ready: bool, today: u64, a: Action) -> Named
-    ensures { λ r. ⌜ r ≡ namedBy ready today a ⌝ }
-{
-    match a {
-        Action::Contract { supplier: _ } => no_point(),
-        Action::Failure { supplier: _ } => no_point(),
-        Action::At { point, act } => Named {
-            is: ready,
-            today: today,
-            point: point,
-            act: act,
-        },
-        Action::Day => no_point(),
-    }
-}
-
-pub(crate) fn named_in(ready: bool, m: Message) -> Named
-    ensures { λ r. ⌜ r ≡ namedIn ready m ⌝ }
+// The place of the point that a message names; the first where it names none.
+pub fn place_of(m: Message) -> usize
+    ensures { λ r. ⌜ (r ≡ placeOf m) × (r < 32) ⌝ }
 {
     match m {
-        Message::Open(_) => no_point(),
+        Message::Open(_) => 0,
         Message::Ask(c) => {
             let a = c.action;
-            named_by(ready, c.today, a)
+            place_in(a)
         }
-        Message::Unreadable => no_point(),
+        Message::Unreadable => 0,
     }
-}
-
-// The answer to a message that looks at no point.
-fn answer_beside(ready: bool, day: u32, m: Message) -> Answer
-    ensures { λ r. ⌜ r ≡ answerBeside ready day m ⌝ }
-{
-    match m {
-        Message::Open(_) => Answer::Refused(31),
-        Message::Ask(c) => {
-            if ready {
-                let a = c.action;
-                return plain_answer(day, c.today, a);
-            }
-            Answer::Refused(31)
-        }
-        Message::Unreadable => Answer::Refused(31),
-    }
-}
-
-// What the point g makes of a message.
-pub fn turn_of(
-    set: Settings,
-    day: u32,
-    contracts: [bool; 100],
-    ready: bool,
-    m: Message,
-    g: Point,
-) -> Ruling
-    ensures { λ r. ⌜ r ≡ turnOf set day contracts ready m g ⌝ }
-{
-    let n = named_in(ready, m);
-    if n.is {
-        let act = n.act;
-        return turn(set, day, contracts, n.today, n.point, act, g);
-    }
-    leave(g, answer_beside(ready, day, m))
 }

@@ -1,25 +1,32 @@
 -- A register's points kept apart in three tables, so that a line costs what it changes. Definitions only.
-use Prim.Native.Nat.{ℕ}
-use mathlib.Core.List.{List, [], _∷_, map}
+use Prim.Native.Nat.{ℕ, _*_}
+use mathlib.Core.Path.{_≡_}
+use mathlib.Core.List.{List, [], _∷_}
+use lib.ListN.{length, take, drop}
 use Rattle.rules.specs.declared.{Fields.Fields, Period.Period, Point.Point}
-
--- The fields of the points, how many periods each has, and the slots.
-unfoldable pub fieldsOf : List Point → List Fields
-fieldsOf ps = map (λ (g : Point). g .fields) ps
-
-unfoldable pub countsOf : List Point → List ℕ
-countsOf ps = map (λ (g : Point). g .history .count) ps
-
-unfoldable pub slotsOf : List Point → List (List Period)
-slotsOf ps = map (λ (g : Point). g .history .periods) ps
+use Rattle.input_tables.specs.declared.{Tables.Tables}
 
 -- A point of its parts.
 abbrev pub joined : Fields → ℕ → List Period → Point
 joined f n s = record { fields = f; history = record { count = n; periods = s } }
 
--- The points of the three tables.
-unfoldable pub pointsOf : List Fields → List ℕ → List (List Period) → List Point
+-- The slots of the point at place i.
+abbrev pub rowAt : ℕ → List Period → List Period
+rowAt i ss = take 24 (drop (24 * i) ss)
+
+-- The points of the tables: 24 slots belong to each.
+unfoldable pub pointsOf : List Fields → List ℕ → List Period → List Point
 pointsOf [] _ _ = []
 pointsOf (f ∷ fs) [] _ = []
-pointsOf (f ∷ fs) (n ∷ ns) [] = []
-pointsOf (f ∷ fs) (n ∷ ns) (s ∷ ss) = joined f n s ∷ pointsOf fs ns ss
+pointsOf (f ∷ fs) (n ∷ ns) ss = joined f n (take 24 ss) ∷ pointsOf fs ns (drop 24 ss)
+
+-- 32 places, and 24 slots for each.
+pub record Sized (fs : List Fields) (ns : List ℕ) (ss : List Period) : Type 0 where
+  pub fields : length fs ≡ 32
+  pub counts : length ns ≡ 32
+  pub slots : length ss ≡ 768
+
+-- The tables of points.
+pub record Apart (ps : List Point) (t : Tables) : Type 0 where
+  pub sized : Sized (t .fields) (t .counts) (t .slots)
+  pub points : pointsOf (t .fields) (t .counts) (t .slots) ≡ ps

@@ -21,7 +21,7 @@ use Rattle.input_lines.specs.Between.Begun.{begunOf}
 use Rattle.input_lines.specs.Machine.{said, afterLines, transcript}
 use Rattle.register.specs.Opens.{noRegister}
 use Rattle.input_desk.specs.Desk.{answerOf, deskAfter}
-use Rattle.input_whole.specs.Ends.{startSession}
+use Rattle.input_whole.specs.Ends.{startDesk}
 use Rattle.input_whole.specs.Transcript.{callsIn, storyOf, bookOutput}
 use Rattle.input_whole.specs.Examples.{TranscriptExamples}
 
@@ -29,7 +29,7 @@ pub transcript-examples : TranscriptExamples
 unfolding leapRow monthLength next dateOf monthStart yearStart dayNumber isReal dayAnswer dateAnswer machines sumOf periodsIn
     bookPeriods bookAdvance spell fixed isSame moreOf numberOf fixedOf dayIn fieldOf fieldsOf sortsFrom kindIn wordEnd readLine answerLine periodLine
     totalLine periodLines pointLines listingFrom listing linesOfPeriods rising bookListing linesFrom linesOf begunOf said afterLines transcript
-    noRegister answerOf deskAfter startSession callsIn storyOf bookOutput
+    noRegister answerOf deskAfter startDesk callsIn storyOf bookOutput
 transcript-examples =
     record {
       of-document-01 = record { by-desk = refl; by-book = refl };

@@ -1,6 +1,6 @@
 -- However an input is cut, what is handed on for writing is its transcript. The statement is specs/Transcript.antt.
 use Prim.Native.Nat.{ℕ, _+_, _/_, _≤_}
-use mathlib.Core.Path.{_≡_, refl, sym, ap, ap₂, _∙_}
+use mathlib.Core.Path.{_≡_, refl, sym, ap, ap₂, subst, _∙_}
 use mathlib.Core.Bool.{Bool, true, false, cond, false≢true}
 use mathlib.Core.List.{List, [], _∷_, _++_, append-assoc}
 use native.Mathlib.Omega.{arith}
@@ -27,9 +27,9 @@ use Rattle.input_lines.proofs.Feeds.{fitting-all, fitting-le, fitting-some}
 use Rattle.input_lines.proofs.KeptBytes.{kept-begun}
 use Rattle.input_lines.proofs.Runs.{run-append, run-part-le, run-lines, run-transcript, lastSaid, lastState}
 use Rattle.input_desk.specs.declared.{Desk.Desk}
-use Rattle.input_pieces.specs.declared.{Session.Session, Fed.Fed}
-use Rattle.input_pieces.specs.Session.{nextDesk, sayLine, runOf, runFrom, takenOf, fedRun, fedAs}
-use Rattle.input_whole.specs.Ends.{startSession, missingFeed, closing, closingPiece, closedNext}
+use Rattle.input_pieces.specs.declared.{Session.Session}
+use Rattle.input_pieces.specs.Session.{deskOf, nextDesk, sayLine, runOf, runFrom, takenOf}
+use Rattle.input_whole.specs.Ends.{startDesk, Started, missingFeed, closing, closingPiece, closedNext}
 use Rattle.input_whole.specs.Transcript.{Closing, done, more, Through, fed, ended, served, TranscriptServed, EveryFeedGoesOn, lastDesk}
 use Rattle.input_pieces.proofs.Capped.{read-capped}
 use Rattle.input_whole.proofs.Sized.{Sized, run-sized}
@@ -47,8 +47,7 @@ toList d from = cond (d .ready) (left (d .register) from) []
 
 none-left : (r : Register) (from : ℕ) → length (r .points) ≡ 32 → from ≡ 32 → left r from ≡ []
 unfolding listingFrom
-none-left r from h e =
-    rw e (ap (listingFrom 33) (ap (λ (n : ℕ). drop n (r .points)) (sym h) ∙ drop-length (r .points)))
+none-left r from h e = rw e (ap (listingFrom 33) (ap (λ (n : ℕ). drop n (r .points)) (sym h) ∙ drop-length (r .points)))
 
 closing-all : {d : Desk} {from : ℕ} {w : List ℕ} → Sized d → from ≤ 32 → Closing d from w → w ≡ toList d from
 closing-all {d} {from} s le (done h) = go (d .ready) refl
@@ -56,8 +55,7 @@ closing-all {d} {from} s le (done h) = go (d .ready) refl
     go : (b : Bool) → d .ready ≡ b → [] ≡ cond b (left (d .register) from) []
     go true e = sym (none-left (d .register) from (s e) (omega arith))
     go false e = refl
-closing-all {d} {from} s le (more {w = w} before after x c rest) =
-    let n = length before in
+closing-all {d} {from} s le (more {w = w} before after x c rest) = let n = length before in
     let at : x .next ≡ closedNext d from n = ap (λ (y : Listed). y .next) (c .answer) in
     let long : x .written ≡ length (closingPiece d from n) = ap (λ (y : Listed). y .written) (c .answer) in
     let text : take (x .written) after ≡ closingPiece d from n =
@@ -105,8 +103,8 @@ module _ (s : Session) (l : List ℕ) (is : s .part ≡ begunOf l) (short : leng
   kept-is : kept (s .part) ≡ l
   kept-is = ap kept is ∙ kept-begun l short
 
-  run-is : (input : List ℕ) → runFrom s input ≡ runOf (s .desk) l input
-  run-is input = ap (λ (p : List ℕ). runOf (s .desk) p input) kept-is
+  run-is : (input : List ℕ) → runFrom s input ≡ runOf (deskOf s) l input
+  run-is input = ap (λ (p : List ℕ). runOf (deskOf s) p input) kept-is
 
   missing-is : missingFeed s ≡ missing l
   unfolding begunOf
@@ -130,47 +128,47 @@ pub record Runs (d : Desk) (l input w : List ℕ) (e : Desk) : Type 0 where
   pub desk : e ≡ deskBy d l input
   pub sized : Sized e
 
-through : {s : Session} {input w : List ℕ} {e : Desk} (l : List ℕ) → s .part ≡ begunOf l → length l ≤ keptBytes → Sized (s .desk) →
-    Through s input w e → Runs (s .desk) l input w e
-unfolding fedAs
+sized-at : {d e : Desk} → d ≡ e → Sized e → Sized d
+sized-at e h = subst (λ (x : Desk). Sized x) (sym e) h
+
+through : {s : Session} {input w : List ℕ} {e : Desk} (l : List ℕ) → s .part ≡ begunOf l → length l ≤ keptBytes → Sized (deskOf s) →
+    Through s input w e → Runs (deskOf s) l input w e
 through {s} l is short sized (fed {piece = c} {rest = rest} {w = w} before after f h next) =
-    let r = fedRun s c before in
-    let a = take (takenOf c before) c in
-    let run = run-is s l is short a in
-    let text : take (f .written) after ≡ r .out =
-    ap₂ (λ (k : ℕ) (o : List ℕ). take k o) (ap (λ (y : Fed). y .written) (h .result)) (h .bytes) ∙ put-start (r .out) before
+    let r = runFrom s (take (takenOf c before) c) in let a = take (takenOf c before) c in
+    let run = run-is s l is short a in let text : take (f .written) after ≡ r .out =
+    ap₂ (λ (k : ℕ) (o : List ℕ). take k o) (h .runs .written) (h .runs .bytes) ∙ put-start (r .out) before
     in
-    let desk-is : f .session .desk ≡ r .state = ap (λ (y : Fed). y .session .desk) (h .result) in
-    let part-is : f .session .part ≡ begunOf (r .part) = ap (λ (y : Fed). y .session .part) (h .result) in
-    let taken-is : take (f .taken) c ≡ a = ap (λ (y : Fed). take (y .taken) c) (h .result) in
-    let part-le : length (r .part) ≤ keptBytes = ap-le run (run-part-le nextDesk sayLine (s .desk) l a short) in
-    let sized′ : Sized (f .session .desk) = rw (desk-is, run) (run-sized (s .desk) l a sized) in
+    let desk-is : deskOf (f .session) ≡ r .state = h .runs .desk in
+    let part-is : f .session .part ≡ begunOf (r .part) = h .runs .part in
+    let taken-is : take (f .taken) c ≡ a = ap (λ (k : ℕ). take k c) (h .taken) in
+    let part-le : length (r .part) ≤ keptBytes = ap-le run (run-part-le nextDesk sayLine (deskOf s) l a short) in
+    let sized′ : Sized (deskOf (f .session)) = sized-at (desk-is ∙ ap (λ (x : Run Desk). x .state) run) (run-sized (deskOf s) l a sized) in
     let tail = through (r .part) part-is part-le sized′ next in
     record {
-      text = rw (text, tail .text, desk-is, taken-is, run) (sym (said-append (s .desk) l a rest));
-      desk = rw (tail .desk, desk-is, taken-is, run) (sym (desk-append (s .desk) l a rest));
+      text = rw (text, tail .text, desk-is, taken-is, run) (sym (said-append (deskOf s) l a rest));
+      desk = rw (tail .desk, desk-is, taken-is, run) (sym (desk-append (deskOf s) l a rest));
       sized = tail .sized;
     }
   where
     ap-le : {x y : Run Desk} → x ≡ y → length (y .part) ≤ keptBytes → length (x .part) ≤ keptBytes
     ap-le e k = rw e k
 through {s} l is short sized (ended before after f h room) =
-    let r = fedRun s (missingFeed s) before in
+    let r = runFrom s (take (takenOf (missingFeed s) before) (missingFeed s)) in
     let enough : fitting (length before / 24) (missingFeed s) ≡ length (missingFeed s) =
     fitting-all (length before / 24) (missingFeed s) (omega (arith, missing-short (eqb (s .part .len) 0)))
     in
     let all : take (takenOf (missingFeed s) before) (missingFeed s) ≡ missing l =
     take-all (takenOf (missingFeed s) before) (missingFeed s) (omega (arith, enough)) ∙ missing-is s l is short
     in
-    let run : r ≡ runOf (s .desk) l (missing l) = ap (runFrom s) all ∙ run-is s l is short (missing l) in
+    let run : r ≡ runOf (deskOf s) l (missing l) = ap (runFrom s) all ∙ run-is s l is short (missing l) in
     let text : take (f .written) after ≡ r .out =
-    ap₂ (λ (k : ℕ) (o : List ℕ). take k o) (ap (λ (y : Fed). y .written) (h .result)) (h .bytes) ∙ put-start (r .out) before
+    ap₂ (λ (k : ℕ) (o : List ℕ). take k o) (h .runs .written) (h .runs .bytes) ∙ put-start (r .out) before
     in
-    let desk-is : f .session .desk ≡ r .state = ap (λ (y : Fed). y .session .desk) (h .result) in
+    let desk-is : deskOf (f .session) ≡ r .state = h .runs .desk in
     record {
-      text = rw (text, run) (last-line (s .desk) l .0);
-      desk = rw (desk-is, run) (last-line (s .desk) l .1);
-      sized = rw (desk-is, run) (run-sized (s .desk) l (missing l) sized);
+      text = rw (text, run) (last-line (deskOf s) l .0);
+      desk = rw (desk-is, run) (last-line (deskOf s) l .1);
+      sized = sized-at (desk-is ∙ ap (λ (x : Run Desk). x .state) run) (run-sized (deskOf s) l (missing l) sized);
     }
 
 -- a line says what its first bytes, as many as are kept, say
@@ -180,28 +178,27 @@ say-capped d l = rw (read-capped l)
 next-capped : (d : Desk) (l : List ℕ) → nextDesk d (capped l) ≡ nextDesk d l
 next-capped d l = rw (read-capped l)
 
-from-start : (input w : List ℕ) (e : Desk) → Through startSession input w e → Runs (startSession .desk) [] input w e
-unfolding startSession
-from-start input w e h = through [] refl (omega arith) (λ q. absurd (false≢true q)) h
+from-start : (s : Session) → Started s → (input w : List ℕ) (e : Desk) → Through s input w e → Runs startDesk [] input w e
+unfolding startDesk
+from-start s st input w e h = let sized : Sized (deskOf s) = sized-at (st .desk) (λ q. absurd (false≢true q)) in
+    rw (st .desk) at (through [] (st .part) (omega arith) sized h)
 
 pub transcript-served : TranscriptServed
-transcript-served input v (served {w = w} {c = c} {d = d} h close) =
-    let r = from-start input w d h in
-    let tail : c ≡ closing (deskBy (startSession .desk) [] input) =
+transcript-served s st input v (served {w = w} {c = c} {d = d} h close) = let r = from-start s st input w d h in
+    let tail : c ≡ closing (deskBy startDesk [] input) =
     closing-from-start d c (r .sized) close ∙ ap closing (r .desk) in
     ap₂ (λ (x y : List ℕ). x ++ y) (r .text) tail
-    ∙ run-transcript nextDesk sayLine say-capped next-capped closing (startSession .desk) input
+    ∙ run-transcript nextDesk sayLine say-capped next-capped closing startDesk input
 
 -- the desk that an input comes to, line by line
-pub desk-reached : (input w : List ℕ) (d : Desk) → Through startSession input w d → d ≡ lastDesk input
+pub desk-reached : (s : Session) → Started s → (input w : List ℕ) (d : Desk) → Through s input w d → d ≡ lastDesk input
 unfolding linesOf capped
-desk-reached input w d h =
-    from-start input w d h .desk ∙ run-lines nextDesk sayLine say-capped next-capped (startSession .desk) [] input .1
+desk-reached s st input w d h =
+    from-start s st input w d h .desk ∙ run-lines nextDesk sayLine say-capped next-capped startDesk [] input .1
 
 pub every-feed-goes-on : EveryFeedGoesOn
-unfolding fedAs
-every-feed-goes-on s piece out =
+every-feed-goes-on s piece before after f h =
     record {
-      most = fitting-le (length out / 24) piece;
-      some = λ room any. fitting-some (length out / 24) piece (omega arith) any;
+      most = omega (arith, h .taken, fitting-le (length before / 24) piece);
+      some = λ room any. omega (arith, h .taken, fitting-some (length before / 24) piece (omega arith) any);
     }

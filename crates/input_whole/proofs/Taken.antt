@@ -1,17 +1,13 @@
 -- No more is taken than the part of a buffer that was handed in.
 use Prim.Native.Nat.{ℕ, _-_, _/_, _≤_}
-use mathlib.Core.Path.{_≡_, ap}
 use mathlib.Core.List.{List}
 use native.Mathlib.Omega.{arith}
 use lib.ListN.{length, take, drop, length-take}
 use Rattle.input_lines.proofs.Feeds.{fitting-le}
 use Rattle.input_pieces.specs.declared.{Session.Session, Fed.Fed}
-use Rattle.input_pieces.specs.Session.{takenOf, fedAs, FedBy}
+use Rattle.input_pieces.specs.Session.{FedBy}
 
 pub part-taken : (s : Session) (input : List ℕ) (from end : ℕ) (before after : List ℕ) (f : Fed) →
     FedBy s (take (end - from) (drop from input)) before after f → f .taken ≤ end - from
-unfolding fedAs
-part-taken s input from end before after f h =
-    let piece = take (end - from) (drop from input) in
-    let e : f .taken ≡ takenOf piece before = ap (λ (x : Fed). x .taken) (h .result) in
-    omega (arith, fitting-le (length before / 24) piece, length-take (end - from) (drop from input))
+part-taken s input from end before after f h = let piece = take (end - from) (drop from input) in
+    omega (arith, h .taken, fitting-le (length before / 24) piece, length-take (end - from) (drop from input))

@@ -22,10 +22,11 @@ use Rattle.questions.proofs.Asking.{asking}
 use Rattle.line_listing.proofs.ByBook.{listing-by-book}
 use Rattle.input_lines.specs.Pinned.Lines.{linesOf}
 use Rattle.input_lines.specs.Machine.{said, afterLines, transcript}
+use Rattle.register.specs.Opens.{noRegister}
 use Rattle.input_desk.specs.declared.{Desk.Desk}
 use Rattle.input_desk.specs.Desk.{desk, answerOf, deskAfter}
 use Rattle.input_pieces.specs.Session.{nextDesk, sayLine}
-use Rattle.input_whole.specs.Ends.{startSession, closing}
+use Rattle.input_whole.specs.Ends.{startDesk, closing}
 use Rattle.input_whole.specs.Transcript.{
   closed,
   at,
@@ -58,8 +59,7 @@ open-said : (ls : List (List ℕ)) (l : ℕ → List Span) (n : ℕ → List ℕ
     said nextDesk sayLine (desk true r) ls ≡ said nextBook sayBook (at b) ls
 unfolding said answerOf deskAfter
 open-said [] l n b r h = refl
-open-said (x ∷ ls) l n b r h =
-    go (readLine x) (open-said ls l n b r h)
+open-said (x ∷ ls) l n b r h = go (readLine x) (open-said ls l n b r h)
     (λ c. open-said ls (λ p. l p ++ readNow c l n b r h p) (λ p. n p ++ enrolledNow c l n b r h p) (D.next b c) (applied r c .register)
     (call-agree c l n b r h))
   where
@@ -116,23 +116,23 @@ closed-said r (x ∷ ls) = go (readLine x) (closed-said r ls)
 -- ---- the story
 
 -- where a story leaves a desk with this register behind it
-abbrev deskOf : Register → Story → Desk
-deskOf r untold = desk false r
-deskOf r (told o cs) = desk true (R.after (R.opened o) cs)
+abbrev endOf : Register → Story → Desk
+endOf r untold = desk false r
+endOf r (told o cs) = desk true (R.after (R.opened o) cs)
 
-closed-after : (r : Register) (ls : List (List ℕ)) → afterLines nextDesk sayLine (desk false r) ls ≡ deskOf r (storyOf (map readLine ls))
+closed-after : (r : Register) (ls : List (List ℕ)) → afterLines nextDesk sayLine (desk false r) ls ≡ endOf r (storyOf (map readLine ls))
 unfolding afterLines storyOf deskAfter
 closed-after r [] = refl
 closed-after r (x ∷ ls) = go (readLine x) (closed-after r ls)
   where
-    opening : (o : Opening) (b : Bool) → afterLines nextDesk sayLine (desk false r) ls ≡ deskOf r (storyOf (map readLine ls)) →
+    opening : (o : Opening) (b : Bool) → afterLines nextDesk sayLine (desk false r) ls ≡ endOf r (storyOf (map readLine ls)) →
         afterLines nextDesk sayLine (cond b (desk true (R.opened o)) (desk false r)) ls
-        ≡ deskOf r (cond b (told o (callsIn (map readLine ls))) (storyOf (map readLine ls)))
+        ≡ endOf r (cond b (told o (callsIn (map readLine ls))) (storyOf (map readLine ls)))
     opening o true same = open-after ls (R.opened o)
     opening o false same = same
 
-    go : (m : Message) → afterLines nextDesk sayLine (desk false r) ls ≡ deskOf r (storyOf (map readLine ls)) →
-        afterLines nextDesk sayLine (deskAfter (desk false r) m) ls ≡ deskOf r (storyOf (m ∷ map readLine ls))
+    go : (m : Message) → afterLines nextDesk sayLine (desk false r) ls ≡ endOf r (storyOf (map readLine ls)) →
+        afterLines nextDesk sayLine (deskAfter (desk false r) m) ls ≡ endOf r (storyOf (m ∷ map readLine ls))
     go (Message.Open o) same = opening o (isAccepted (openingAnswer o)) same
     go (Message.Ask c) same = same
     go Message.Unreadable same = same
@@ -157,22 +157,20 @@ accepted-told : (s : Story) (o : Opening) (cs : List Call) → s ≡ told o cs �
 unfolding Accepted
 accepted-told s o cs e h = rw e at h
 
-story-desk : (s : Story) → deskOf (startSession .desk .register) s ≡ storyDesk s
-unfolding startSession
+story-desk : (s : Story) → endOf noRegister s ≡ storyDesk s
+unfolding startDesk
 story-desk untold = refl
 story-desk (told o cs) = refl
 
 -- the closing lines of the desk that a story comes to
 closing-told : (s : Story) → Accepted s → closing (storyDesk s) ≡ bookClosing s
-unfolding Accepted startSession
+unfolding Accepted startDesk
 closing-told untold h = refl
 closing-told (told o cs) h = listing-by-book o h cs
 
 pub every-input : EveryInput
-unfolding startSession
-every-input input =
-    let ms = map readLine (linesOf input) in
-    let r = startSession .desk .register in
+unfolding startDesk
+every-input input = let ms = map readLine (linesOf input) in let r = noRegister in
     let end : lastDesk input ≡ storyDesk (storyOf ms) = closed-after r (linesOf input) ∙ story-desk (storyOf ms) in
     record {
       answers = closed-said r (linesOf input);
@@ -184,9 +182,8 @@ every-input input =
 
 pub every-output : EveryOutput
 unfolding bookOutput transcript
-every-output input w h =
-    let t = every-input input in
-    transcript-served input w h ∙ ap₂ (λ (x y : List ℕ). x ++ y) (t .answers) (t .closing-lines)
+every-output s st input w h = let t = every-input input in
+    transcript-served s st input w h ∙ ap₂ (λ (x y : List ℕ). x ++ y) (t .answers) (t .closing-lines)
 
 pub every-desk : EveryDesk
-every-desk input w d h = desk-reached input w d h ∙ every-input input .desk
+every-desk s st input w d h = desk-reached s st input w d h ∙ every-input input .desk

@@ -15,10 +15,15 @@ use Rattle.line_listing.specs.Pinned.Pieces
 use Rattle.line_listing.specs.Listing.{listing}
 use Rattle.line_listing.specs.Pinned.Pieces.{piece}
 use Rattle.input_pieces.specs.declared.{Session.Session}
+use Rattle.input_pieces.specs.Session.{deskOf}
 
--- Before any input: the register of a desk that is not ready is not looked at.
-unfoldable pub startSession : Session
-startSession = record { desk = desk false noRegister; part = begunOf [] }
+-- Before any input: the register of a desk that is not ready is not looked at, and no line has begun.
+unfoldable pub startDesk : Desk
+startDesk = desk false noRegister
+
+pub record Started (s : Session) : Type 0 where
+  pub desk : deskOf s ≡ startDesk
+  pub part : s .part ≡ begunOf []
 
 -- The line feed that a last line lacks.
 abbrev pub missingFeed : Session → List ℕ

@@ -8,7 +8,7 @@ use Prim.Native.String.{String}
 use Rattle.line_text.specs.Ascii.{ascii}
 use Rattle.input_lines.specs.Machine.{transcript}
 use Rattle.input_pieces.specs.Session.{nextDesk, sayLine}
-use Rattle.input_whole.specs.Ends.{startSession, closing}
+use Rattle.input_whole.specs.Ends.{startDesk, closing}
 use Rattle.input_whole.specs.Transcript.{bookOutput}
 
 -- Lines as text, each with its line feed.
@@ -17,7 +17,7 @@ text [] = []
 text (l ∷ ls) = ascii l ++ (10 ∷ text ls)
 
 pub record Writes (input output : List String) : Type 0 where
-  pub by-desk : transcript nextDesk sayLine closing (startSession .desk) (text input) ≡ text output
+  pub by-desk : transcript nextDesk sayLine closing startDesk (text input) ≡ text output
   pub by-book : bookOutput (text input) ≡ text output
 
 pub record TranscriptExamples : Type 0 where

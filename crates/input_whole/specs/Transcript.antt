@@ -24,8 +24,8 @@ use Rattle.input_lines.specs.Machine.{said, afterLines, transcript}
 use Rattle.input_desk.specs.declared.{Desk.Desk}
 use Rattle.input_desk.specs.Desk.{desk, unreadable}
 use Rattle.input_pieces.specs.declared.{Session.Session, Fed.Fed}
-use Rattle.input_pieces.specs.Session.{nextDesk, sayLine, fedAs, FedBy}
-use Rattle.input_whole.specs.Ends.{startSession, missingFeed, closing, ClosedFrom}
+use Rattle.input_pieces.specs.Session.{deskOf, nextDesk, sayLine, FedBy}
+use Rattle.input_whole.specs.Ends.{startDesk, Started, missingFeed, closing, ClosedFrom}
 
 -- ---- what is handed on for writing
 
@@ -43,7 +43,7 @@ pub data Through : Session → List ℕ → List ℕ → Desk → Type 0 where
       Through (f .session) rest w d → Through s (take (f .taken) piece ++ rest) (take (f .written) after ++ w) d
   ended : {s : Session} (before after : List ℕ) (f : Fed) → FedBy s (missingFeed s) before after f →
       24 ≤ length before →
-      Through s [] (take (f .written) after) (f .session .desk)
+      Through s [] (take (f .written) after) (deskOf (f .session))
 
 -- And then `close`.
 pub data Served : Session → List ℕ → List ℕ → Type 0 where
@@ -51,17 +51,17 @@ pub data Served : Session → List ℕ → List ℕ → Type 0 where
 
 -- However an input is cut, what is handed on is the answers to its lines, in order, and then the closing lines.
 abbrev pub TranscriptServed : Type 0
-TranscriptServed = (input w : List ℕ) → Served startSession input w →
-    w ≡ transcript nextDesk sayLine closing (startSession .desk) input
+TranscriptServed = (s : Session) → Started s → (input w : List ℕ) → Served s input w →
+    w ≡ transcript nextDesk sayLine closing startDesk input
 
 -- `feed` takes no more than it is handed, and with room for one answer some of it: to hand in the rest again and
 -- again takes all.
-pub record FeedGoesOn (s : Session) (piece out : List ℕ) : Type 0 where
-  pub most : fedAs s piece out .taken ≤ length piece
-  pub some : 24 ≤ length out → 0 < length piece → 0 < fedAs s piece out .taken
+pub record FeedGoesOn (piece out : List ℕ) (f : Fed) : Type 0 where
+  pub most : f .taken ≤ length piece
+  pub some : 24 ≤ length out → 0 < length piece → 0 < f .taken
 
 abbrev pub EveryFeedGoesOn : Type 0
-EveryFeedGoesOn = (s : Session) (piece out : List ℕ) → FeedGoesOn s piece out
+EveryFeedGoesOn = (s : Session) (piece before after : List ℕ) (f : Fed) → FedBy s piece before after f → FeedGoesOn piece before f
 
 -- ---- what that means: the day book beside it
 
@@ -114,10 +114,10 @@ storyTold input = storyOf (map readLine (linesOf input))
 
 -- The desk at the end of an input, line by line; and by its story: the register after the calls that its lines read as.
 abbrev pub lastDesk : List ℕ → Desk
-lastDesk input = afterLines nextDesk sayLine (startSession .desk) (linesOf input)
+lastDesk input = afterLines nextDesk sayLine startDesk (linesOf input)
 
 abbrev pub storyDesk : Story → Desk
-storyDesk untold = startSession .desk
+storyDesk untold = startDesk
 storyDesk (told o cs) = desk true (register o cs)
 
 -- The closing lines, by the day book and the list alone.
@@ -131,7 +131,7 @@ bookOutput input = said nextBook sayBook closed (linesOf input) ++ bookClosing (
 
 pub record TranscriptTold (input : List ℕ) : Type 0 where
   -- the answers printed are the day book's for the calls that the lines read as
-  pub answers : said nextDesk sayLine (startSession .desk) (linesOf input) ≡
+  pub answers : said nextDesk sayLine startDesk (linesOf input) ≡
       said nextBook sayBook closed (linesOf input)
   -- so are the closing lines; there are none where no opening was accepted
   pub closing-lines : closing (lastDesk input) ≡ bookClosing (storyTold input)
@@ -145,8 +145,8 @@ EveryInput = (input : List ℕ) → TranscriptTold input
 
 -- What `registre` writes: however an input is cut, the whole of what is handed on is the day book's output.
 abbrev pub EveryOutput : Type 0
-EveryOutput = (input w : List ℕ) → Served startSession input w → w ≡ bookOutput input
+EveryOutput = (s : Session) → Started s → (input w : List ℕ) → Served s input w → w ≡ bookOutput input
 
 -- What `ask` asks: the desk that an input comes to, however it is cut.
 abbrev pub EveryDesk : Type 0
-EveryDesk = (input w : List ℕ) (d : Desk) → Through startSession input w d → d ≡ storyDesk (storyTold input)
+EveryDesk = (s : Session) → Started s → (input w : List ℕ) (d : Desk) → Through s input w d → d ≡ storyDesk (storyTold input)

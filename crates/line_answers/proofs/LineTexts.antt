@@ -34,21 +34,17 @@ shown-length (some d) = day-length d
 -- an answer line, piece by piece
 module _ (k : Kind) (a : Answer) where
   abbrev pub answerPieces : List ℕ
-  answerPieces =
-      word (shownKind k (number a)) ++ ((59 ∷ verdict (isAccepted a) ∷ 59 ∷ []) ++
+  answerPieces = word (shownKind k (number a)) ++ ((59 ∷ verdict (isAccepted a) ∷ 59 ∷ []) ++
       (decimal (number a) [] ++ ((59 ∷ []) ++ (dateShown (date a) [] ++ (10 ∷ [])))))
 
   pub answer-pieces : answerLine k a ≡ answerPieces
   unfolding answerLine
-  answer-pieces =
-      ap (λ (l : List ℕ). word (shownKind k (number a)) ++ (59 ∷ verdict (isAccepted a) ∷ 59 ∷ l))
+  answer-pieces = ap (λ (l : List ℕ). word (shownKind k (number a)) ++ (59 ∷ verdict (isAccepted a) ∷ 59 ∷ l))
       (decimal-append (number a) (59 ∷ dateShown (date a) (10 ∷ [])) ∙
       ap (λ (l : List ℕ). decimal (number a) [] ++ (59 ∷ l)) (shown-append (date a) (10 ∷ [])))
 
   pub answer-length : length (answerLine k a) ≡ length (word (shownKind k (number a))) + length (decimal (number a) []) + 13
-  answer-length =
-      let pieces = ap length answer-pieces in
-      let date = shown-length (date a) in
+  answer-length = let pieces = ap length answer-pieces in let date = shown-length (date a) in
       simp length-append at pieces ∙ omega arith
 
 -- the length of an answer line, as the code adds it up
@@ -59,25 +55,19 @@ answer-size k a n shown size hn hs e = rw (answer-length k a, ← hn, ← hs) e
 -- a period line, piece by piece
 module _ (p : ℕ) (q : Period) where
   abbrev pub periodPieces : List ℕ
-  periodPieces =
-      decimal p [] ++ ((59 ∷ []) ++ (dayText (q .start) [] ++ ((59 ∷ []) ++
+  periodPieces = decimal p [] ++ ((59 ∷ []) ++ (dayText (q .start) [] ++ ((59 ∷ []) ++
       (decimal (q .holder) [] ++ ((59 ∷ []) ++ (decimal (q .volume) [] ++ (10 ∷ [])))))))
 
   pub period-pieces : periodLine p q ≡ periodPieces
   unfolding periodLine
-  period-pieces =
-      decimal-append p _ ∙
-      ap (λ (l : List ℕ). decimal p [] ++ (59 ∷ l))
-      (day-append (q .start) _ ∙
-      ap (λ (l : List ℕ). dayText (q .start) [] ++ (59 ∷ l))
-      (decimal-append (q .holder) _ ∙
+  period-pieces = decimal-append p _ ∙
+      ap (λ (l : List ℕ). decimal p [] ++ (59 ∷ l)) (day-append (q .start) _ ∙
+      ap (λ (l : List ℕ). dayText (q .start) [] ++ (59 ∷ l)) (decimal-append (q .holder) _ ∙
       ap (λ (l : List ℕ). decimal (q .holder) [] ++ (59 ∷ l)) (decimal-append (q .volume) (10 ∷ []))))
 
   pub period-length : length (periodLine p q) ≡
       length (decimal p []) + length (decimal (q .holder) []) + length (decimal (q .volume) []) + 12
-  period-length =
-      let pieces = ap length period-pieces in
-      let start = day-length (q .start) in
+  period-length = let pieces = ap length period-pieces in let start = day-length (q .start) in
       simp length-append at pieces ∙ omega arith
 
 -- a total line, piece by piece
@@ -87,35 +77,22 @@ module _ (p v : ℕ) where
 
   pub total-pieces : totalLine p v ≡ totalPieces
   unfolding totalLine
-  total-pieces =
-      ap (_++_ (ascii "total;"))
+  total-pieces = ap (_++_ (ascii "total;"))
       (decimal-append p (59 ∷ decimal v (10 ∷ [])) ∙ ap (λ (l : List ℕ). decimal p [] ++ (59 ∷ l)) (decimal-append v (10 ∷ [])))
 
   pub total-length : length (totalLine p v) ≡ length (decimal p []) + length (decimal v []) + 8
-  total-length =
-      let pieces = ap length total-pieces in
-      simp length-append at pieces ∙ omega arith
+  total-length = let pieces = ap length total-pieces in simp length-append at pieces ∙ omega arith
 
 -- how long an answer line, a period line and a total line can be
 pub answer-short : (k : Kind) (a : Answer) (j : ℕ) → 0 < j → number a < 10 ^ j → length (answerLine k a) ≤ 21 + j
-answer-short k a j p h =
-    let all = answer-length k a in
-    let name = sound (shownKind k (number a)) .short in
-    let digits = decimal-length j (number a) p h in
-    omega arith
+answer-short k a j p h = let all = answer-length k a in let name = sound (shownKind k (number a)) .short in
+    let digits = decimal-length j (number a) p h in omega arith
 
 pub period-short : (p : ℕ) (q : Period) (i j k : ℕ) → 0 < i → 0 < j → 0 < k → p < 10 ^ i → q .holder < 10 ^ j →
     q .volume < 10 ^ k → length (periodLine p q) ≤ 12 + i + j + k
-period-short p q i j k hi hj hk hp hh hv =
-    let all = period-length p q in
-    let point = decimal-length i p hi hp in
-    let holder = decimal-length j (q .holder) hj hh in
-    let volume = decimal-length k (q .volume) hk hv in
-    omega arith
+period-short p q i j k hi hj hk hp hh hv = let all = period-length p q in let point = decimal-length i p hi hp in
+    let holder = decimal-length j (q .holder) hj hh in let volume = decimal-length k (q .volume) hk hv in omega arith
 
 pub total-short : (p v i k : ℕ) → 0 < i → 0 < k → p < 10 ^ i → v < 10 ^ k → length (totalLine p v) ≤ 8 + i + k
-total-short p v i k hi hk hp hv =
-    let all = total-length p v in
-    let point = decimal-length i p hi hp in
-    let volume = decimal-length k v hk hv in
-    omega arith
+total-short p v i k hi hk hp hv = let all = total-length p v in let point = decimal-length i p hi hp in
+    let volume = decimal-length k v hk hv in omega arith

@@ -37,9 +37,7 @@ sorts-length second i (suc n) = ap suc (sorts-length second (suc i) n)
 pub sorts-next : (second n i : ℕ) → i < n →
     sortsFrom second i (n - i) ≡ sortAt second i ∷ sortsFrom second (i + 1) (n - (i + 1))
 unfolding sortsFrom
-sorts-next second n i h =
-    let e : n - i ≡ suc (n - (i + 1)) = omega arith in
-    rw (e, add-one i)
+sorts-next second n i h = let e : n - i ≡ suc (n - (i + 1)) = omega arith in rw (e, add-one i)
 
 pub sorts-none : (second n i : ℕ) → n ≤ i → sortsFrom second i (n - i) ≡ []
 unfolding sortsFrom
@@ -68,8 +66,7 @@ one-more vs i v h = rw (add-one i) (take-suc-set vs i v h)
 
 pub zeros-left : (vs : List ℕ) (i v : ℕ) → i < length vs → length vs ≡ 7 → drop i vs ≡ replicate (7 - i) 0 →
     drop (i + 1) (set vs i v) ≡ replicate (7 - (i + 1)) 0
-zeros-left vs i v h n e =
-    let less : 7 - i ≡ suc (7 - suc i) = omega arith in
+zeros-left vs i v h n e = let less : 7 - i ≡ suc (7 - suc i) = omega arith in
     let parts : getD vs i 0 ∷ drop (suc i) vs ≡ 0 ∷ replicate (7 - suc i) 0 = sym (drop-cons vs i 0 h) ∙ rw less at e in
     let rest : drop (suc i) vs ≡ replicate (7 - suc i) 0 = cc in
     rw (add-one i) (drop-set-lt (suc i) vs i v (omega arith) ∙ rest)

@@ -54,8 +54,7 @@ pub fields-back : (fs : List Field) (acc : List ℕ) → fitAll fs ≡ true →
     fieldsOf (sortsIn fs) acc (fieldsText fs) ≡ values (acc ++ valuesIn fs) []
 unfolding fieldsOf fitAll
 fields-back [] acc h = rw append-nil
-fields-back (f ∷ fs) acc h =
-    let fit = and-left (fits (f .sort) (f .value)) (fitAll fs) h in
+fields-back (f ∷ fs) acc h = let fit = and-left (fits (f .sort) (f .value)) (fitAll fs) h in
     rw (field-back (f .sort) (f .value) (fieldsText fs) fit (fields-stop fs))
     (fields-back fs (acc ++ (f .value ∷ [])) (and-right (fits (f .sort) (f .value)) (fitAll fs) h) ∙
     ap (λ (vs : List ℕ). values vs []) (append-assoc acc (f .value ∷ []) (valuesIn fs)))
@@ -66,8 +65,7 @@ field-append Sort.Date n l = ap (_∷_ 59) (day-append n l)
 field-append Sort.Number n l = ap (_∷_ 59) (decimal-append n l)
 
 field-before : (k : Sort) (n : ℕ) (l m : List ℕ) → fieldText k n (l ++ m) ≡ fieldText k n l ++ m
-field-before k n l m =
-    field-append k n (l ++ m) ∙ sym (append-assoc (fieldText k n []) l m) ∙
+field-before k n l m = field-append k n (l ++ m) ∙ sym (append-assoc (fieldText k n []) l m) ∙
     ap (λ (x : List ℕ). x ++ m) (sym (field-append k n l))
 
 -- all fields, read: they, and what follows their text
@@ -80,17 +78,14 @@ pub record FieldsAre (ks : List Sort) (l r acc vs : List ℕ) : Type 0 where
 
 pub fields-only : (ks : List Sort) (acc l vs r : List ℕ) → fieldsOf ks acc l ≡ values vs r → FieldsAre ks l r acc vs
 unfolding fieldsOf fitAll
-fields-only [] acc l vs r e =
-    let q : acc ≡ vs = cc in
+fields-only [] acc l vs r e = let q : acc ≡ vs = cc in
     record { fields = []; sorts = refl; all = sym q ∙ sym (append-nil acc); text = cc; fit = refl }
 fields-only (k ∷ ks) acc l vs r e = go (λ n x. fields-only ks (acc ++ (n ∷ [])) x vs r) (fieldOf k l) refl e where
   go : ((n : ℕ) (x : List ℕ) → fieldsOf ks (acc ++ (n ∷ [])) x ≡ values vs r → FieldsAre ks x r (acc ++ (n ∷ [])) vs) →
       (x : Parsed) → fieldOf k l ≡ x → andThen x (λ n x. fieldsOf ks (acc ++ (n ∷ [])) x) ≡ values vs r →
       FieldsAre (k ∷ ks) l r acc vs
   go ih bad p e = absurd (let z : _≡_ {A = ℕ} 0 1 = cc in omega arith)
-  go ih (number n x) p e =
-      let f = field-only k n l x p in
-      let w = ih n x e in
+  go ih (number n x) p e = let f = field-only k n l x p in let w = ih n x e in
       record {
         fields = field k n ∷ w .fields;
         sorts = ap (_∷_ k) (w .sorts);
@@ -111,13 +106,11 @@ unfolding fieldsFrom sortsFrom
 fields-of-values second zero [] acc e = refl
 fields-of-values second zero (f ∷ fs) acc e = absurd (let z : _≡_ {A = ℕ} 0 1 = cc in omega arith)
 fields-of-values second (suc n) [] acc e = absurd (let z : _≡_ {A = ℕ} 0 1 = cc in omega arith)
-fields-of-values second (suc n) (f ∷ fs) acc e =
-    let here : f .sort ≡ sortAt second (length acc) = cc in
+fields-of-values second (suc n) (f ∷ fs) acc e = let here : f .sort ≡ sortAt second (length acc) = cc in
     let rest : sortsIn fs ≡ sortsFrom second (suc (length acc)) n = cc in
     let long : length (acc ++ (f .value ∷ [])) ≡ suc (length acc) = length-append acc (f .value ∷ []) ∙ omega arith in
     let ih = fields-of-values second n fs (acc ++ (f .value ∷ [])) (rest ∙ ap (λ (i : ℕ). sortsFrom second i n) (sym long)) in
-    rw (getD-append-seam acc (f .value) (valuesIn fs) 0, ← here)
-    (ap (_∷_ f) (rw (long, append-assoc) at ih))
+    rw (getD-append-seam acc (f .value) (valuesIn fs) 0, ← here) (ap (_∷_ f) (rw (long, append-assoc) at ih))
 
 -- values with zeros behind them
 pub getD-zeros : (vs : List ℕ) (n i : ℕ) → getD (vs ++ replicate n 0) i 0 ≡ getD vs i 0
@@ -153,5 +146,4 @@ fields-short (f ∷ fs) h =
     let first = field-short (f .sort) (f .value) (and-left (fits (f .sort) (f .value)) (fitAll fs) h) in
     let rest = fields-short fs (and-right (fits (f .sort) (f .value)) (fitAll fs) h) in
     let sum = ap length (field-append (f .sort) (f .value) (fieldsText fs)) ∙
-    length-append (fieldText (f .sort) (f .value) []) (fieldsText fs) in
-    omega arith
+    length-append (fieldText (f .sort) (f .value) []) (fieldsText fs) in omega arith

@@ -43,6 +43,5 @@ module _ (last : KnownDate) (shape : Shape) (from : ℕ) (s after : List ℕ) (r
 
   -- the values of all fields and the text from the position behind them on, or none
   pub fields-read : IsKnown last → fieldsIn shape (drop from s) ≡ cond (r .ok) (values (x .read) (drop (r .end) s)) unread
-  fields-read k =
-      sym (known-stays .same last shape (drop from s) k) ∙
+  fields-read k = sym (known-stays .same last shape (drop from s) k) ∙
       rw (fields-end, ap (λ (y : LineFields). y .ok) (h .result))

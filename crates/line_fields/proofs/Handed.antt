@@ -63,13 +63,9 @@ step-none s at x e = ap (foundWith at (drop at s)) (sym e)
 
 value-was : (s : List ℕ) (at i v : ℕ) (k : KnownDate) (x : ParsedWith) → LeavesWith (drop at s) x →
     foundWith at (drop at s) x ≡ FieldFound.On v i k → (x ≡ value v (drop i s) k) × Within s at i
-value-was s at i v k (value n r d) e p =
-    let same : n ≡ v = cc in
-    let date : d ≡ k = cc in
-    let there : at + (length (drop at s) - length r) ≡ i = cc in
-    let w = end-place s at r e in
-    let rest : r ≡ drop i s = sym (w .0) ∙ ap (λ (j : ℕ). drop j s) there in
-    (cc, rw there at (w .1))
+value-was s at i v k (value n r d) e p = let same : n ≡ v = cc in let date : d ≡ k = cc in
+    let there : at + (length (drop at s) - length r) ≡ i = cc in let w = end-place s at r e in
+    let rest : r ≡ drop i s = sym (w .0) ∙ ap (λ (j : ℕ). drop j s) there in (cc, rw there at (w .1))
 value-was s at i v k none e p = absurd (let z : _≡_ {A = ℕ} 0 1 = cc in omega arith)
 
 none-was : (at : ℕ) (l : List ℕ) (x : ParsedWith) → foundWith at l x ≡ FieldFound.Bad → x ≡ none
@@ -78,8 +74,7 @@ none-was at l none p = refl
 
 module _ (s : List ℕ) (at : ℕ) (k : KnownDate) (t : Sort) (f : FieldFound) (e : f ≡ foundWith at (drop at s) (fieldWith k t (drop at s))) where
   pub field-was : (i v : ℕ) (d : KnownDate) → f ≡ FieldFound.On v i d → (fieldWith k t (drop at s) ≡ value v (drop i s) d) × Within s at i
-  field-was i v d p =
-      value-was s at i v d (fieldWith k t (drop at s)) (field-leaves k t (drop at s)) (sym e ∙ p)
+  field-was i v d p = value-was s at i v d (fieldWith k t (drop at s)) (field-leaves k t (drop at s)) (sym e ∙ p)
 
   pub field-was-none : f ≡ FieldFound.Bad → fieldWith k t (drop at s) ≡ none
   field-was-none p = none-was at (drop at s) (fieldWith k t (drop at s)) (sym e ∙ p)
@@ -87,9 +82,7 @@ module _ (s : List ℕ) (at : ℕ) (k : KnownDate) (t : Sort) (f : FieldFound) (
 -- behind its `;`
 step-next : (s : List ℕ) (at : ℕ) (x : ParsedWith) → at < length s → LeavesWith (drop (at + 1) s) x →
     foundWith (at + 1) (drop (at + 1) s) x ≡ foundWith at (drop at s) x
-step-next s at (value v r k) h e =
-    let short = ends-short (drop (at + 1) s) r e in
-    let here = length-drop at s in
+step-next s at (value v r k) h e = let short = ends-short (drop (at + 1) s) r e in let here = length-drop at s in
     let there = length-drop (at + 1) s in
     ap (λ (n : ℕ). FieldFound.On v n k) (omega arith)
 step-next s at none h e = refl
@@ -105,9 +98,7 @@ field-step s at k t f h e p =
 module _ (at : ℕ) (l : List ℕ) (f : Found) (g : ℕ → KnownDate) where
   pub found-value : (v i : ℕ) (x : Parsed) → f ≡ foundAt at l x → f ≡ field.Value v i →
       FieldFound.On v i (g v) ≡ foundWith at l (knownBy g x)
-  found-value v i (number n r) e p =
-      let same : n ≡ v = cc in
-      let there : at + (length l - length r) ≡ i = cc in
+  found-value v i (number n r) e p = let same : n ≡ v = cc in let there : at + (length l - length r) ≡ i = cc in
       rw (same, there)
   found-value v i bad e p = absurd (let z : _≡_ {A = ℕ} 0 1 = cc in omega arith)
 

@@ -36,9 +36,7 @@ take-bytes (suc n) (c ∷ l) h = (h 0, take-bytes n l (λ i. h (suc i)))
 unpack-packed : (l : List ℕ) → AreBytes l → unpacked (length l) (packed l) ≡ l
 unfolding unpacked
 unpack-packed [] h = refl
-unpack-packed (c ∷ l) h =
-    let small = h .0 in
-    let first : (c + 256 * packed l) % 256 ≡ c = omega arith in
+unpack-packed (c ∷ l) h = let small = h .0 in let first : (c + 256 * packed l) % 256 ≡ c = omega arith in
     let rest : (c + 256 * packed l) / 256 ≡ packed l = omega arith in
     rw (first, rest) (ap (_∷_ c) (unpack-packed l (h .1)))
 
@@ -70,17 +68,14 @@ day-bytes n = go (dateAnswer n) where
 -- the known date is read where its bytes stand
 pub known-day : (k : KnownDate) (l : List ℕ) → IsKnown k → isSame (take 8 l) (knownText k) ≡ true →
     dayIn l ≡ number (k .day) (drop 8 l)
-known-day k l h e =
-    let same = same-words (take 8 l) (knownText k) e ∙ h .text in
+known-day k l h e = let same = same-words (take 8 l) (knownText k) e ∙ h .text in
     let whole : l ≡ dayText (k .day) (drop 8 l) =
     sym (take-append-drop 8 l) ∙ ap (λ (t : List ℕ). t ++ drop 8 l) same ∙ sym (day-append (k .day) (drop 8 l)) in
     ap dayIn whole ∙ day-back (k .day) (drop 8 l) (h .inside)
 
 -- a date that was read
 pub now-known : (n : ℕ) (l r : List ℕ) → dayIn l ≡ number n r → IsKnown (record { bytes = packed (take 8 l); day = n })
-now-known n l r e =
-    let w = day-only n l r e in
-    let text : take 8 l ≡ dayText n [] =
+now-known n l r e = let w = day-only n l r e in let text : take 8 l ≡ dayText n [] =
     ap (take 8) (w .0 ∙ day-append n r) ∙ take-at (dayText n []) r 8 (day-length n) in
     record {
       inside = w .1;
@@ -97,24 +92,19 @@ day-short : (l : List ℕ) → length l < 8 → dayIn l ≡ bad
 day-short l h = go (dayIn l) refl where
   go : (x : Parsed) → dayIn l ≡ x → dayIn l ≡ bad
   go bad e = e
-  go (number n r) e =
-      let long = ap length (day-only n l r e .0 ∙ day-append n r) ∙ length-append (dayText n []) r in
-      let eight = day-length n in
-      absurd (omega arith)
+  go (number n r) e = let long = ap length (day-only n l r e .0 ∙ day-append n r) ∙ length-append (dayText n []) r in
+      let eight = day-length n in absurd (omega arith)
 
 -- a date read with a known one: too short, the known one, another
 module _ (k : KnownDate) (l : List ℕ) where
   pub date-short : length l < 8 → dateWith k l ≡ none
   unfolding dateWith
-  date-short h =
-      let few = length-take 8 l in
-      let eight = unpacked-length 8 (k .bytes) in
+  date-short h = let few = length-take 8 l in let eight = unpacked-length 8 (k .bytes) in
       rw (other-length (take 8 l) (knownText k) (λ e. omega arith), day-short l h)
 
   pub date-same : 8 ≤ length l → AreBytes (take 8 l) → packed (take 8 l) ≡ k .bytes → dateWith k l ≡ value (k .day) (drop 8 l) k
   unfolding dateWith
-  date-same long b e =
-      let text = ap (unpacked 8) (sym e) ∙ eight-unpacked (take 8 l) b (length-take-le 8 l long) in
+  date-same long b e = let text = ap (unpacked 8) (sym e) ∙ eight-unpacked (take 8 l) b (length-take-le 8 l long) in
       rw (text, same-self (take 8 l))
 
   pub date-other : k .bytes < 256 ^ 8 → (packed (take 8 l) ≡ k .bytes → ⊥) →
@@ -131,23 +121,19 @@ cons-at s at h = rw (add-one at) (drop-cons s at 0 h)
 
 pub four-bytes : (s : List ℕ) (at : ℕ) → at + 4 ≤ length s →
     take 4 (drop at s) ≡ getD s at 0 ∷ getD s (at + 1) 0 ∷ getD s (at + 2) 0 ∷ getD s (at + 3) 0 ∷ []
-four-bytes s at h =
-    let e₂ : at + 1 + 1 ≡ at + 2 = omega arith in
-    let e₃ : at + 2 + 1 ≡ at + 3 = omega arith in
-    rw (
-      cons-at s at (omega arith),
-      cons-at s (at + 1) (omega arith),
-      e₂,
-      cons-at s (at + 2) (omega arith),
-      e₃,
-      cons-at s (at + 3) (omega arith),
-    )
+four-bytes s at h = let e₂ : at + 1 + 1 ≡ at + 2 = omega arith in let e₃ : at + 2 + 1 ≡ at + 3 = omega arith in rw (
+  cons-at s at (omega arith),
+  cons-at s (at + 1) (omega arith),
+  e₂,
+  cons-at s (at + 2) (omega arith),
+  e₃,
+  cons-at s (at + 3) (omega arith),
+)
 
 -- eight bytes are four and four
 pub eight-packed : (s : List ℕ) (at : ℕ) → at + 8 ≤ length s →
     packed (take 8 (drop at s)) ≡ packed (take 4 (drop at s)) + 4294967296 * packed (take 4 (drop (at + 4) s))
-eight-packed s at h =
-    let parts : take 8 (drop at s) ≡ take 4 (drop at s) ++ take 4 (drop (at + 4) s) =
+eight-packed s at h = let parts : take 8 (drop at s) ≡ take 4 (drop at s) ++ take 4 (drop (at + 4) s) =
     take-add 4 4 (drop at s) ∙ ap (λ (l : List ℕ). take 4 (drop at s) ++ take 4 l) (drop-drop 4 at s) in
     ap packed parts ∙ four-first (take 4 (drop (at + 4) s))
   where

@@ -20,8 +20,7 @@ kind-of-length n (k ∷ ks) w e = go (kind-of-length n ks w e) (eqb (length (wor
   go : kindIn ks w ≡ kindIn (ofLength n ks) w → (b : Bool) → eqb (length (word k)) n ≡ b →
       cond (isSame w (word k)) k (kindIn ks w) ≡ kindIn (cond b (k ∷ ofLength n ks) (ofLength n ks)) w
   go ih true q = ap (cond (isSame w (word k)) k) ih
-  go ih false q =
-      let other : isSame w (word k) ≡ false = other-length w (word k) (λ s. eqb-false _ _ q (sym s ∙ e)) in
+  go ih false q = let other : isSame w (word k) ≡ false = other-length w (word k) (λ s. eqb-false _ _ q (sym s ∙ e)) in
       rw other ih
 
 -- a word of another length names none

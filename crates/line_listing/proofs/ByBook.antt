@@ -43,15 +43,14 @@ point-told r p lo hi z = go (pointAt p (r .points) .fields .enrolled) refl
   where
     go : (b : Bool) → pointAt p (r .points) .fields .enrolled ≡ b
         → pointLines p (pointAt p (r .points)) ≡ withTotal p (periodsOf (pointAt p (r .points))) (advanceTold (advanceAnswer r p))
-    go true e =
-        rw (
-          le-ltb p 1 lo,
-          le-ltb 32 p hi,
-          e,
-          used-count (pointAt p (r .points) .history) z,
-          lines-first p (pointAt p (r .points) .history .count) (pointAt p (r .points) .history .periods)
-              (omega (arith, z .slots, z .some)),
-        )
+    go true e = rw (
+      le-ltb p 1 lo,
+      le-ltb 32 p hi,
+      e,
+      used-count (pointAt p (r .points) .history) z,
+      lines-first p (pointAt p (r .points) .history .count) (pointAt p (r .points) .history .periods)
+          (omega (arith, z .slots, z .some)),
+    )
     go false e = rw (le-ltb p 1 lo, le-ltb 32 p hi, e)
 
 -- points one behind the other
@@ -59,8 +58,7 @@ rising-told : (f : ℕ → List ℕ) (gs : List Point) (p : ℕ) → ((i : ℕ) 
     → listingFrom p gs ≡ rising f p (length gs)
 unfolding listingFrom rising
 rising-told f [] p k = refl
-rising-told f (g ∷ gs) p k =
-    let first : pointLines p g ≡ f p = rw (add-zero p) at (k 0 (omega arith)) in
+rising-told f (g ∷ gs) p k = let first : pointLines p g ≡ f p = rw (add-zero p) at (k 0 (omega arith)) in
     let rest : listingFrom (p + 1) gs ≡ rising f (suc p) (length gs) =
     ap (λ (n : ℕ). listingFrom n gs) (add-one p) ∙ rising-told f gs (suc p) shifted in
     ap₂ (λ (a b : List ℕ). a ++ b) first rest
@@ -74,8 +72,7 @@ module _ (o : Opening) (ok : isAccepted (openingAnswer o) ≡ true) (calls : Lis
   bookLines p = withTotal p (bookPeriods o calls p) (bookAdvance o calls p)
 
   point-by-book : (p : ℕ) → 1 ≤ p → p ≤ 32 → pointLines p (pointAt p (register o calls .points)) ≡ bookLines p
-  point-by-book p lo hi =
-      point-told (register o calls) p lo hi (point-sized o ok calls p lo hi)
+  point-by-book p lo hi = point-told (register o calls) p lo hi (point-sized o ok calls p lo hi)
       ∙ rw (periods-are o ok calls p lo hi, advance-is o ok calls p)
 
   count : length (register o calls .points) ≡ 32
@@ -83,12 +80,10 @@ module _ (o : Opening) (ok : isAccepted (openingAnswer o) ≡ true) (calls : Lis
 
   pub each-by-book : (i : ℕ) → i < length (register o calls .points)
       → pointLines (1 + i) (getD (register o calls .points) i noPoint) ≡ bookLines (1 + i)
-  each-by-book i lt =
-      let k : 1 + i - 1 ≡ i = omega arith in
+  each-by-book i lt = let k : 1 + i - 1 ≡ i = omega arith in
       rw k at (point-by-book (1 + i) (omega arith) (omega (arith, count)))
 
 pub listing-by-book : ListingByBook
 unfolding listing bookListing
-listing-by-book o ok calls =
-    rising-told (bookLines o ok calls) (register o calls .points) 1 (each-by-book o ok calls)
+listing-by-book o ok calls = rising-told (bookLines o ok calls) (register o calls .points) 1 (each-by-book o ok calls)
     ∙ ap (rising (bookLines o ok calls) 1) (count o ok calls)

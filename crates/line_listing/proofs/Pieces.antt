@@ -17,13 +17,11 @@ pub listing-split : (p n : ℕ) (gs : List Point) → listingFrom p (take n gs) 
 unfolding listingFrom
 listing-split p zero gs = rw (add-zero p)
 listing-split p (suc n) [] = refl
-listing-split p (suc n) (g ∷ gs) =
-    let k : p + suc n ≡ p + 1 + n = omega arith in
+listing-split p (suc n) (g ∷ gs) = let k : p + suc n ≡ p + 1 + n = omega arith in
     rw (k, append-assoc) (ap (λ (l : List ℕ). pointLines p g ++ l) (listing-split (p + 1) n gs))
 
 one : (r : Register) (from room : ℕ) → piece r from room ++ left r (from + taken from room) ≡ left r from
-one r from room =
-    let k : from + taken from room + 1 ≡ from + 1 + taken from room = omega arith in
+one r from room = let k : from + taken from room + 1 ≡ from + 1 + taken from room = omega arith in
     rw (k, ← (drop-drop (taken from room) from (r .points)))
     (listing-split (from + 1) (taken from room) (drop from (r .points)))
 
@@ -48,8 +46,7 @@ none-left r n h = rw (← h, drop-length (r .points))
 
 all : (r : Register) (rooms : List ℕ) → length (r .points) ≡ 32 → reached 0 rooms ≡ 32 → pieces r 0 rooms ≡ listing r
 unfolding listing
-all r rooms h k =
-    sym (append-nil (pieces r 0 rooms)) ∙
+all r rooms h k = sym (append-nil (pieces r 0 rooms)) ∙
     ap (λ (l : List ℕ). pieces r 0 rooms ++ l) (sym (none-left r 32 h) ∙ ap (left r) (sym k)) ∙ pieces-left r 0 rooms
 
 pub pieces-join : PiecesJoin

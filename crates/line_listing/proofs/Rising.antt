@@ -25,8 +25,7 @@ unfolding listingFrom pointLines
 listing-one p zero [] = refl
 listing-one p (suc n) [] = refl
 listing-one p zero (g ∷ gs) = rw (add-zero p) (append-nil (pointLines p g))
-listing-one p (suc n) (g ∷ gs) =
-    let k : p + suc n ≡ p + 1 + n = omega arith in
+listing-one p (suc n) (g ∷ gs) = let k : p + suc n ≡ p + 1 + n = omega arith in
     rw (k, append-assoc) (ap (λ (l : List ℕ). pointLines p g ++ l) (listing-one (p + 1) n gs))
 
 pub listing-next : (p n : ℕ) (gs : List Point) →
@@ -40,9 +39,7 @@ from-to n k = record { next = n; written = k }
 pub listed : (r : Register) (from n : ℕ) (o o₁ : List ℕ) (e : ℕ) → n ≡ taken from (length o) →
     AppendedWithin (n * 918) 0 (listingFrom (from + 1) (take n (drop from (r .points)))) o o₁ e →
     ListedFrom r from o o₁ (from-to (from + n) e)
-listed r from n o o₁ e h w =
-    let short = w .short in
-    let p = room-put 0 _ o o₁ e (w .text) (omega arith) in
+listed r from n o o₁ e h w = let short = w .short in let p = room-put 0 _ o o₁ e (w .text) (omega arith) in
     record {
       bytes = rw (← h) (p .0);
       answer = rw (← h) (ap (λ (k : ℕ). from-to (from + n) k) (p .1 ∙ omega arith));

@@ -39,9 +39,7 @@ module _ (l : List ℕ) (e : ℕ) (k : Kind) (row : KindRow) (v : List ℕ) (r :
 
   line-is : readLine l ≡ messageWith k (cond (r .ok) (values (x .read) (drop (r .end) l)) unread)
   unfolding readLine
-  line-is =
-      let all =
-      ap (λ (q : KindRow). fieldsOf (sortsOf (q .shape)) [] (drop e l)) (sym hr) ∙
+  line-is = let all = ap (λ (q : KindRow). fieldsOf (sortsOf (q .shape)) [] (drop e l)) (sym hr) ∙
       sym (fields-are (row .shape) (drop e l) (rw hr (sound k .few))) ∙ fields-read last (row .shape) e l v r read known in
       rw (le-leb (length l) longestLine short, ← he, ← hk, all)
 
@@ -54,7 +52,6 @@ module _ (l : List ℕ) (e : ℕ) (k : Kind) (row : KindRow) (v : List ℕ) (r :
 
   pub line-all : r .ok ≡ true → length l ≤ r .end → (m : Message) → m ≡ messageOf k v →
       _≡_ {A = LineMessage} (record { kind = k; message = m }) (lineMessage (readLine l))
-  line-all ok h m e =
-      let all : readLine l ≡ messageOf k (x .read) = line-is ∙ rw (ok, drop-of-length-le l h) in
+  line-all ok h m e = let all : readLine l ≡ messageOf k (x .read) = line-is ∙ rw (ok, drop-of-length-le l h) in
       let own = e ∙ ap (messageOf k) (read .values) ∙ message-zeros k (x .read) (mostFields - length (x .read)) ∙ sym all in
       of-kind k v m e ∙ ap lineMessage own

@@ -49,28 +49,22 @@ module _ (m : Message) where
 
   -- also with zeros behind their values
   pub fields-own : fieldsAs (shapeOf (kindOf m)) (valuesOf (said m) .values) ≡ said m .fields
-  fields-own =
-      let vs = valuesIn (said m .fields) in
+  fields-own = let vs = valuesIn (said m .fields) in
       fields-zeros _ 0 _ vs (mostFields - length vs) ∙ sym (ap (λ (s : Said). s .fields) said-own)
 
   pub sorts-own : sortsIn (said m .fields) ≡ sortsOf (shapeOf (kindOf m))
   sorts-own = ap (λ (s : Said). sortsIn (s .fields)) said-own ∙ sorts-as _ 0 _ _
 
   pub line-short : fitAll (said m .fields) ≡ true → length (lineOf m) ≤ 90
-  line-short fit =
-      let fields = rw sorts-own at (fields-short (said m .fields) fit) in
-      let sum = length-append (word (kindOf m)) (fieldsText (said m .fields)) in
-      let small = sound (kindOf m) .small in
+  line-short fit = let fields = rw sorts-own at (fields-short (said m .fields) fit) in
+      let sum = length-append (word (kindOf m)) (fieldsText (said m .fields)) in let small = sound (kindOf m) .small in
       omega arith
 
   -- its line reads as it
   pub line-back : fitAll (said m .fields) ≡ true → readLine (lineOf m) ≡ m
   unfolding readLine
-  line-back fit =
-      let w = word (kindOf m) in
-      let t = fieldsText (said m .fields) in
-      let long : length (w ++ t) ≤ longestLine = let q = line-short fit in omega arith in
-      rw (
+  line-back fit = let w = word (kindOf m) in let t = fieldsText (said m .fields) in
+      let long : length (w ++ t) ≤ longestLine = let q = line-short fit in omega arith in rw (
         le-leb (length (w ++ t)) longestLine long,
         word-ends w t (sound (kindOf m) .one-word) (fields-begin (said m .fields)),
         take-at w t (length w) refl,
@@ -78,22 +72,19 @@ module _ (m : Message) where
         sound (kindOf m) .named,
         ← sorts-own,
         fields-back (said m .fields) [] fit,
-      )
-      (said-back m)
+      ) (said-back m)
 
 -- a line of a kind's word and of fields that were read is the line of its message
 module _ (t F : List ℕ) (k : Kind) (vs : List ℕ) (e : t ≡ word k ++ F) (f : FieldsAre (sortsOf (shapeOf k)) F [] [] vs) where
   pub said-is : said (messageOf k vs) ≡ line k (f .fields)
-  said-is =
-      says k vs ∙ ap (λ (v : List ℕ). line k (fieldsAs (shapeOf k) v)) (f .all) ∙
+  said-is = says k vs ∙ ap (λ (v : List ℕ). line k (fieldsAs (shapeOf k) v)) (f .all) ∙
       ap (line k) (fields-of-values (shapeOf k .second) (shapeOf k .count) (f .fields) [] (f .sorts))
 
   pub line-is : (t ≡ lineOf (messageOf k vs)) × (fitAll (said (messageOf k vs) .fields) ≡ true)
-  line-is =
-      let text = f .text ∙ append-nil (fieldsText (f .fields)) in (
-        e ∙ ap (_++_ (word k)) text ∙ ap (λ (s : Said). word (s .kind) ++ fieldsText (s .fields)) (sym said-is),
-        ap (λ (s : Said). fitAll (s .fields)) said-is ∙ f .fit,
-      )
+  line-is = let text = f .text ∙ append-nil (fieldsText (f .fields)) in (
+    e ∙ ap (_++_ (word k)) text ∙ ap (λ (s : Said). word (s .kind) ++ fieldsText (s .fields)) (sym said-is),
+    ap (λ (s : Said). fitAll (s .fields)) said-is ∙ f .fit,
+  )
 
 -- a line that is read as a message that is not Unreadable is that message's line
 line-was : (l : List ℕ) (m : Message) → readLine l ≡ m → (m ≡ Message.Unreadable → ⊥) → (l ≡ lineOf m) × (isWritable m ≡ true)

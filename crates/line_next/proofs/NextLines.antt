@@ -89,11 +89,9 @@ word-whole (c ∷ l) = go (word-whole l) (eqb c 59) (eqb c 10) refl where
 first-line : (t r l : List ℕ) → Plain t → l ≡ t ++ r → feedFirst r ≡ true →
     (firstLine l ≡ t) × (length l ≡ untilFeed l + length r)
 first-line t [] l p e h = absurd (let z : _≡_ {A = ℕ} 0 1 = cc in omega arith)
-first-line t (c ∷ r) l p e h =
-    let ten : c ≡ 10 = eqb-true c 10 h in
+first-line t (c ∷ r) l p e h = let ten : c ≡ 10 = eqb-true c 10 h in
     let end : untilFeed l ≡ length t = ap untilFeed (e ∙ ap (λ (x : ℕ). t ++ (x ∷ r)) ten) ∙ plain-end t r p in
-    let sum = ap length e ∙ length-append t (c ∷ r) in
-    (rw (end, e) (take-at t (c ∷ r) (length t) refl), omega arith)
+    let sum = ap length e ∙ length-append t (c ∷ r) in (rw (end, e) (take-at t (c ∷ r) (length t) refl), omega arith)
 
 -- a word that names no kind is no line
 no-line : (w : List ℕ) → wordEnd w ≡ length w → kindNamed w ≡ Kind.Unknown → readLine w ≡ Message.Unreadable
@@ -119,10 +117,8 @@ module _ (l : List ℕ) (n : ℕ) (vs r : List ℕ) (hn : n ≡ stopAt l) (feed 
       fieldsOf (sortsOf (shapeOf k)) [] (drop n l) ≡ values vs r →
       (readLine (firstLine l) ≡ messageOf k vs) × (length l ≡ untilFeed l + length r)
   unfolding fieldsOf sortsFrom
-  fields-line k (named q) hk hf =
-      let a = fields-only (sortsOf (shapeOf k)) [] (drop n l) vs r hf in
-      let T = fieldsText (a .fields) in
-      let whole : l ≡ (word k ++ T) ++ r =
+  fields-line k (named q) hk hf = let a = fields-only (sortsOf (shapeOf k)) [] (drop n l) vs r hf in
+      let T = fieldsText (a .fields) in let whole : l ≡ (word k ++ T) ++ r =
       sym (take-append-drop n l) ∙ ap₂ _++_ q (a .text) ∙ sym (append-assoc (word k) T r) in
       let plain = plain-append (word k) T (plain-word (word k) (sound k .in-line)) (plain-fields (a .fields)) in
       let first = first-line (word k ++ T) r l plain whole feed in
@@ -130,12 +126,9 @@ module _ (l : List ℕ) (n : ℕ) (vs r : List ℕ) (hn : n ≡ stopAt l) (feed 
       record { fields = a .fields; sorts = a .sorts; all = a .all; text = sym (append-nil T); fit = a .fit } in
       let own = line-is (word k ++ T) T k vs refl alone in
       (ap readLine (first .0 ∙ own .0) ∙ line-back (messageOf k vs) (own .1), first .1)
-  fields-line k unnamed hk hf =
-      let rest : drop n l ≡ r = let read : values [] (drop n l) ≡ values vs r = hf in cc in
-      let end = word-is-line l (rw (← hn, rest) feed) in
-      let long = sym (ap length rest) ∙ length-drop n l in
-      let some = feed-some r feed in
-      let here = hn ∙ sym end in
+  fields-line k unnamed hk hf = let rest : drop n l ≡ r = let read : values [] (drop n l) ≡ values vs r = hf in cc in
+      let end = word-is-line l (rw (← hn, rest) feed) in let long = sym (ap length rest) ∙ length-drop n l in
+      let some = feed-some r feed in let here = hn ∙ sym end in
       (rw end (no-line (take (stopAt l) l) (word-whole l) (rw (← hn) (sym hk))), omega arith)
 
 -- with a right known date
@@ -155,8 +148,7 @@ module _ (k : KnownDate) (buf : List ℕ) (from : ℕ) (right : IsKnown k) where
 
   -- its fields are those that are read without a known date
   fields-of : x .ok ≡ true → fieldsOf (sortsOf (shapeOf (firstKind text))) [] (drop (stopAt text) text) ≡ values (x .read) (x .rest)
-  fields-of e =
-      sym (fields-are (shapeOf (firstKind text)) (drop (stopAt text) text) (sound (firstKind text) .few)) ∙
+  fields-of e = sym (fields-are (shapeOf (firstKind text)) (drop (stopAt text) text) (sound (firstKind text) .few)) ∙
       sym (known-stays .same k (shapeOf (firstKind text)) (drop (stopAt text) text) right) ∙
       ap (λ (b : Bool). cond b (values (x .read) (x .rest)) unread) e
 

@@ -30,23 +30,20 @@ module _ (at : ℕ) (t o : List ℕ) (h : at + length t ≤ length o) where
   -- what is behind a text, and what is before its end
   pub put-drop : drop (at + length t) (put at t o) ≡ drop (at + length t) o
   unfolding put
-  put-drop =
-      let e : length (take at o ++ t) ≡ at + length t = rw (length-append, before-length) in
+  put-drop = let e : length (take at o ++ t) ≡ at + length t = rw (length-append, before-length) in
       rw (← (append-assoc (take at o) t (drop (at + length t) o)))
       (drop-at (take at o ++ t) (drop (at + length t) o) (at + length t) e)
 
   pub put-take : take (at + length t) (put at t o) ≡ take at o ++ t
   unfolding put
-  put-take =
-      let e : length (take at o ++ t) ≡ at + length t = rw (length-append, before-length) in
+  put-take = let e : length (take at o ++ t) ≡ at + length t = rw (length-append, before-length) in
       rw (← (append-assoc (take at o) t (drop (at + length t) o)))
       (take-at (take at o ++ t) (drop (at + length t) o) (at + length t) e)
 
 -- two texts, one behind the other, are one
 pub put-append : (at : ℕ) (t u o : List ℕ) → at + length t ≤ length o → put (at + length t) u (put at t o) ≡ put at (t ++ u) o
 unfolding put
-put-append at t u o h =
-    let far : drop (at + length t + length u) (put at t o) ≡ drop (at + length (t ++ u)) o =
+put-append at t u o h = let far : drop (at + length t + length u) (put at t o) ≡ drop (at + length (t ++ u)) o =
     sym (drop-drop (length u) (at + length t) (put at t o)) ∙ ap (drop (length u)) (put-drop at t o h) ∙
     drop-drop (length u) (at + length t) o ∙ rw (length-append, add-assoc)
     in
@@ -55,28 +52,24 @@ put-append at t u o h =
 -- what a contract says where there is room, and where there is none
 module _ (at : ℕ) (t o o′ : List ℕ) (r : ℕ) (w : Appended at t o o′ r) where
   pub room-put : at + length t ≤ length o → (o′ ≡ put at t o) × (r ≡ at + length t)
-  room-put h =
-      let e = le-leb (at + length t) (length o) h in
+  room-put h = let e = le-leb (at + length t) (length o) h in
       (w .bytes ∙ ap (λ (b : Bool). cond b (put at t o) o) e, w .end ∙ ap (λ (b : Bool). cond b (at + length t) at) e)
 
   pub no-room : length o < at + length t → (o′ ≡ o) × (r ≡ at)
-  no-room h =
-      let e = lt-leb (at + length t) (length o) h in
+  no-room h = let e = lt-leb (at + length t) (length o) h in
       (w .bytes ∙ ap (λ (b : Bool). cond b (put at t o) o) e, w .end ∙ ap (λ (b : Bool). cond b (at + length t) at) e)
 
 -- and the other way round
 pub appended : (at : ℕ) (t o o′ : List ℕ) (r : ℕ) → at + length t ≤ length o → o′ ≡ put at t o → r ≡ at + length t →
     Appended at t o o′ r
-appended at t o o′ r h e f =
-    let q = le-leb (at + length t) (length o) h in
+appended at t o o′ r h e f = let q = le-leb (at + length t) (length o) h in
     record {
       bytes = e ∙ sym (ap (λ (b : Bool). cond b (put at t o) o) q);
       end = f ∙ sym (ap (λ (b : Bool). cond b (at + length t) at) q);
     }
 
 pub not-appended : (at : ℕ) (t o : List ℕ) → length o < at + length t → Appended at t o o at
-not-appended at t o h =
-    let q = lt-leb (at + length t) (length o) h in
+not-appended at t o h = let q = lt-leb (at + length t) (length o) h in
     record {
       bytes = sym (ap (λ (b : Bool). cond b (put at t o) o) q);
       end = sym (ap (λ (b : Bool). cond b (at + length t) at) q);
@@ -95,8 +88,7 @@ rest-start at t o h = record { same = refl; end = refl; long = refl; fits = h }
 -- a writer puts the front of it
 pub rest-next : (at : ℕ) (t o : List ℕ) (at₁ : ℕ) (u v o₁ : List ℕ) (at₂ : ℕ) (o₂ : List ℕ) →
     Rest at t o at₁ (u ++ v) o₁ → Appended at₁ u o₁ o₂ at₂ → Rest at t o at₂ v o₂
-rest-next at t o at₁ u v o₁ at₂ o₂ p w =
-    let sum = length-append u v in
+rest-next at t o at₁ u v o₁ at₂ o₂ p w = let sum = length-append u v in
     let room : at₁ + length u ≤ length o₁ = omega (arith, p .end, p .long, p .fits) in
     let q = room-put at₁ u o₁ o₂ at₂ w room in
     record {
@@ -111,13 +103,11 @@ pub rest-done : (at : ℕ) (t o : List ℕ) (at₁ : ℕ) (u o₁ : List ℕ) (a
     Rest at t o at₁ u o₁ → Appended at₁ u o₁ o₂ at₂ → Appended at t o o₂ at₂
 rest-done at t o at₁ u o₁ at₂ o₂ p w =
     let room : at₁ + length u ≤ length o₁ = omega (arith, p .end, p .long, p .fits) in
-    let q = room-put at₁ u o₁ o₂ at₂ w room in
-    appended at t o o₂ at₂ (p .fits) (q .0 ∙ p .same) (q .1 ∙ p .end)
+    let q = room-put at₁ u o₁ o₂ at₂ w room in appended at t o o₂ at₂ (p .fits) (q .0 ∙ p .same) (q .1 ∙ p .end)
 
 -- nothing is left
 pub rest-none : (at : ℕ) (t o : List ℕ) (at₁ : ℕ) (o₁ : List ℕ) → Rest at t o at₁ [] o₁ → Appended at t o o₁ at₁
-rest-none at t o at₁ o₁ p =
-    appended at t o o₁ at₁ (p .fits) (sym (put-none at₁ o₁) ∙ p .same) (omega (arith, p .end))
+rest-none at t o at₁ o₁ p = appended at t o o₁ at₁ (p .fits) (sym (put-none at₁ o₁) ∙ p .same) (omega (arith, p .end))
 
 -- two texts, put one behind the other into zeros
 drop-zeros : (n k : ℕ) → drop k (replicate {A = ℕ} n 0) ≡ replicate (n - k) 0

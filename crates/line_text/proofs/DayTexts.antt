@@ -11,8 +11,7 @@ use Rattle.line_text.proofs.Fixed.{fixed-append, fixed-length}
 
 -- a day's text, on the calendar or off it, has eight bytes, whatever stands behind it
 date-append : (x : Date) (l : List ℕ) → dateText x l ≡ dateText x [] ++ l
-date-append x l =
-    ap (λ (t : List ℕ). fixed 4 (x .year) (fixed 2 (x .month) t)) (fixed-append 2 (x .day) [] l) ∙
+date-append x l = ap (λ (t : List ℕ). fixed 4 (x .year) (fixed 2 (x .month) t)) (fixed-append 2 (x .day) [] l) ∙
     ap (fixed 4 (x .year)) (fixed-append 2 (x .month) (fixed 2 (x .day) []) l) ∙
     fixed-append 4 (x .year) (fixed 2 (x .month) (fixed 2 (x .day) [])) l
 

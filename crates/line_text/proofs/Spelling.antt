@@ -51,8 +51,7 @@ pub count-one : (v : ℕ) → v < 10 → length (decimal v []) ≡ 1
 count-one v h = ap length (decimal-one v [] h)
 
 pub count-step : (v : ℕ) → 10 ≤ v → v < 10 ^ 20 → length (decimal v []) ≡ length (decimal (v / 10) []) + 1
-count-step v h k =
-    ap length (decimal-step v [] h k ∙ decimal-append (v / 10) ((48 + v % 10) ∷ [])) ∙
+count-step v h k = ap length (decimal-step v [] h k ∙ decimal-append (v / 10) ((48 + v % 10) ∷ [])) ∙
     length-append (decimal (v / 10) []) ((48 + v % 10) ∷ [])
 
 spell-longer : (k n : ℕ) (l : List ℕ) → length l ≤ length (spell k n l)
@@ -81,9 +80,7 @@ spell-length (suc j) k n l p h = go (ltb n 10) refl (spell-length j (k - 1) (n /
       (0 < k - 1 → n / 10 < 10 ^ (k - 1) → length (spell j (n / 10) ((48 + n % 10) ∷ l)) ≤ k - 1 + suc (length l)) →
       length (cond b ((48 + n) ∷ l) (spell j (n / 10) ((48 + n % 10) ∷ l))) ≤ k + length l
   go true e ih = omega arith
-  go false e ih =
-      let q : 10 ≤ n = ltb-false n 10 e in
-      let t : 1 < k = two k q h in
+  go false e ih = let q : 10 ≤ n = ltb-false n 10 e in let t : 1 < k = two k q h in
       let w : length (spell j (n / 10) ((48 + n % 10) ∷ l)) ≤ k - 1 + suc (length l) = ih (omega arith) (tenth k t h) in
       omega arith
     where

@@ -43,11 +43,8 @@ room-left k w h = omega (arith, within-length w (omega arith), within-end w (ome
 -- where there is room for both, one more text is put
 pub within-more : (m k : ℕ) {at : ℕ} {t u o o₁ o₂ : List ℕ} {e₁ e₂ : ℕ} → AppendedWithin m at t o o₁ e₁
     → AppendedWithin k e₁ u o₁ o₂ e₂ → at + (m + k) ≤ length o → AppendedWithin (m + k) at (t ++ u) o o₂ e₂
-within-more m k {at} {t} {u} {o} {o₁} {o₂} {e₁} {e₂} w v h =
-    let sum = length-append t u in
-    let short = w .short in
-    let short₂ = v .short in
-    let front : at + length t ≤ length o = omega arith in
+within-more m k {at} {t} {u} {o} {o₁} {o₂} {e₁} {e₂} w v h = let sum = length-append t u in let short = w .short in
+    let short₂ = v .short in let front : at + length t ≤ length o = omega arith in
     let p = room-put at t o o₁ e₁ (w .text) front in
     let len : length o₁ ≡ length o = ap length (p .0) ∙ put-length at t o front in
     let q = room-put e₁ u o₁ o₂ e₂ (v .text) (omega (arith, p .1)) in
@@ -62,7 +59,6 @@ pub appended-within : {at : ℕ} {t o o₁ : List ℕ} {e : ℕ} → Appended at
 appended-within {at} {t} {o} {o₁} {e} w h = go (leb (at + length t) (length o)) refl
   where
     go : (b : Bool) → leb (at + length t) (length o) ≡ b → e ≤ length o₁
-    go true k =
-        let room = leb-true (at + length t) (length o) k in
+    go true k = let room = leb-true (at + length t) (length o) k in
         omega (arith, room-put at t o o₁ e w room .1, appended-length at t o o₁ e w)
     go false k = omega (arith, no-room at t o o₁ e w (leb-false _ _ k) .1, appended-length at t o o₁ e w)

@@ -28,23 +28,19 @@ record Short (x : Date) : Type 0 where
   day : x .day < 10 ^ 2
 
 date-short : (n : ℕ) → n ≤ lastDay → Short (dateOf n)
-date-short n h =
-    let r = real-is _ _ _ (one-to-one .date-is-real n h) in
+date-short n h = let r = real-is _ _ _ (one-to-one .date-is-real n h) in
     let days = length-bounds (leapRow (dateOf n .year)) (dateOf n .month - 1) (row-is (dateOf n .year)) (omega arith) in
     record { year = omega arith; month = omega arith; day = omega arith }
 
 pub day-back : (n : ℕ) (l : List ℕ) → n ≤ lastDay → dayIn (dayText n l) ≡ number n l
 unfolding dayIn
-day-back n l h =
-    let x = dateOf n in
-    let s = date-short n h in
-    rw (
-      on-calendar n h,
-      fixed-back 4 (x .year) (fixed 2 (x .month) (fixed 2 (x .day) l)) (s .year),
-      fixed-back 2 (x .month) (fixed 2 (x .day) l) (s .month),
-      fixed-back 2 (x .day) l (s .day),
-      one-to-one .day-date-day n h,
-    )
+day-back n l h = let x = dateOf n in let s = date-short n h in rw (
+  on-calendar n h,
+  fixed-back 4 (x .year) (fixed 2 (x .month) (fixed 2 (x .day) l)) (s .year),
+  fixed-back 2 (x .month) (fixed 2 (x .day) l) (s .month),
+  fixed-back 2 (x .day) l (s .day),
+  one-to-one .day-date-day n h,
+)
 
 -- a date that was read, part after part
 module _ (n : ℕ) (l r : List ℕ) where
@@ -53,9 +49,7 @@ module _ (n : ℕ) (l r : List ℕ) where
   date-was y m d l₁ l₂ l₃ ey em ed e = go (dayAnswer y m d) refl e where
     go : (a : DayAnswer) → dayAnswer y m d ≡ a → dayRead a l₃ ≡ number n r → (l ≡ dayText n r) × (n ≤ lastDay)
     go DayAnswer.NoDate p q = absurd (let z : _≡_ {A = ℕ} 0 1 = cc in omega arith)
-    go (DayAnswer.Day k) p q =
-        let same : k ≡ n = cc in
-        let rest : l₃ ≡ r = cc in
+    go (DayAnswer.Day k) p q = let same : k ≡ n = cc in let rest : l₃ ≡ r = cc in
         let has = one-to-one .day-has-date y m d n (p ∙ ap DayAnswer.Day same) in
         let text : dayText n r ≡ dateText (date y m d) r = rw (on-calendar n (has .0), has .1) in (
           fixed-only 4 y l l₁ ey .0 ∙ ap (fixed 4 y) (fixed-only 2 m l₁ l₂ em .0 ∙ ap (fixed 2 m) (fixed-only 2 d l₂ l₃ ed .0)) ∙

@@ -12,20 +12,14 @@ use Rattle.line_values.proofs.Numbers.{is-digit, digit-range}
 
 fixed-digit : (j v d : ℕ) (l : List ℕ) → d < 10 → fixedOf (suc j) v ((48 + d) ∷ l) ≡ fixedOf j (v * 10 + d) l
 unfolding fixedOf
-fixed-digit j v d l h =
-    let e : 48 + d - 48 ≡ d = omega arith in
-    rw (is-digit d h, e)
+fixed-digit j v d l h = let e : 48 + d - 48 ≡ d = omega arith in rw (is-digit d h, e)
 
 -- the k digits of n are read as n, and then j digits more
 fixed-read : (k j n : ℕ) (l : List ℕ) → n < 10 ^ k → fixedOf (k + j) 0 (fixed k n l) ≡ fixedOf j n l
 unfolding fixed
-fixed-read zero j n l h =
-    let e : n ≡ 0 = omega arith in
-    rw (zero-add j, e)
-fixed-read (suc k) j n l h =
-    let more : suc k + j ≡ k + suc j = omega arith in
-    let whole : n / 10 * 10 + n % 10 ≡ n = omega arith in
-    rw more
+fixed-read zero j n l h = let e : n ≡ 0 = omega arith in rw (zero-add j, e)
+fixed-read (suc k) j n l h = let more : suc k + j ≡ k + suc j = omega arith in
+    let whole : n / 10 * 10 + n % 10 ≡ n = omega arith in rw more
     (fixed-read k (suc j) (n / 10) ((48 + n % 10) ∷ l) (omega arith) ∙
     fixed-digit j (n / 10) (n % 10) l (omega arith) ∙ ap (λ (x : ℕ). fixedOf j x l) whole)
 
@@ -35,8 +29,7 @@ fixed-back k n l h = rw (add-zero k) at (fixed-read k 0 n l h)
 
 fixed-last : (j v c : ℕ) (l : List ℕ) → 48 ≤ c → c ≤ 57 → fixed (suc j) (v * 10 + (c - 48)) l ≡ fixed j v (c ∷ l)
 unfolding fixed
-fixed-last j v c l a b =
-    let d : (v * 10 + (c - 48)) / 10 ≡ v = digits-div v (omega arith) in
+fixed-last j v c l a b = let d : (v * 10 + (c - 48)) / 10 ≡ v = digits-div v (omega arith) in
     let m : 48 + (v * 10 + (c - 48)) % 10 ≡ c = ap (λ (x : ℕ). 48 + x) (digits-mod v (omega arith)) ∙ omega arith in
     rw (d, m)
 
@@ -44,10 +37,7 @@ fixed-last j v c l a b =
 fixed-written : (k j v n : ℕ) (l r : List ℕ) → v < 10 ^ j → fixedOf k v l ≡ number n r →
     (fixed j v l ≡ fixed (j + k) n r) × (n < 10 ^ (j + k))
 unfolding fixedOf
-fixed-written zero j v n l r h e =
-    let q : v ≡ n = cc in
-    let s : l ≡ r = cc in
-    rw (add-zero j, ← q, ← s) (refl, h)
+fixed-written zero j v n l r h e = let q : v ≡ n = cc in let s : l ≡ r = cc in rw (add-zero j, ← q, ← s) (refl, h)
 fixed-written (suc k) j v n [] r h e = absurd (let z : _≡_ {A = ℕ} 0 1 = cc in omega arith)
 fixed-written (suc k) j v n (c ∷ l) r h e =
     go (fixed-written k (suc j) (v * 10 + (c - 48)) n l r) (isDigit c) refl e where
@@ -55,10 +45,8 @@ fixed-written (suc k) j v n (c ∷ l) r h e =
           (fixed (suc j) (v * 10 + (c - 48)) l ≡ fixed (suc j + k) n r) × (n < 10 ^ (suc j + k))) →
           (b : Bool) → isDigit c ≡ b → cond b (fixedOf k (v * 10 + (c - 48)) l) bad ≡ number n r →
           (fixed j v (c ∷ l) ≡ fixed (j + suc k) n r) × (n < 10 ^ (j + suc k))
-      go ih true f e =
-          let q : (48 ≤ c) × (c ≤ 57) = digit-range c f in
-          let more : suc j + k ≡ j + suc k = omega arith in
-          let w = ih (omega arith) e in
+      go ih true f e = let q : (48 ≤ c) × (c ≤ 57) = digit-range c f in
+          let more : suc j + k ≡ j + suc k = omega arith in let w = ih (omega arith) e in
           rw (← more) (sym (fixed-last j v c l (q .0) (q .1)) ∙ w .0, w .1)
       go ih false f e = absurd (let z : _≡_ {A = ℕ} 0 1 = cc in omega arith)
 

@@ -85,8 +85,7 @@ answer-leaves DayAnswer.NoDate l = tt
 
 pub day-leaves : (l : List ℕ) → Leaves l (dayIn l)
 unfolding dayIn
-day-leaves l =
-    leaves-then l (fixedOf 4 0 l) _ (fixed-leaves 4 0 l) (λ y l₁.
+day-leaves l = leaves-then l (fixedOf 4 0 l) _ (fixed-leaves 4 0 l) (λ y l₁.
     leaves-then l₁ (fixedOf 2 0 l₁) _ (fixed-leaves 2 0 l₁) (λ m l₂.
     leaves-then l₂ (fixedOf 2 0 l₂) _ (fixed-leaves 2 0 l₂) (λ d r. answer-leaves (dayAnswer y m d) r)))
 
@@ -102,9 +101,7 @@ place s at i w = rw (length-drop at s, length-drop i s) (omega arith)
 -- where an end of the text behind at stands
 pub end-place : (s : List ℕ) (at : ℕ) (r : List ℕ) → Ends (drop at s) r →
     (drop (at + (length (drop at s) - length r)) s ≡ r) × Within s at (at + (length (drop at s) - length r))
-end-place s at r e =
-    let sum = ap length (e .whole) ∙ length-append (e .read) r in
-    let long = length-drop at s in
+end-place s at r e = let sum = ap length (e .whole) ∙ length-append (e .read) r in let long = length-drop at s in
     let read : length (e .read) ≡ length (drop at s) - length r = omega arith in (
       sym (drop-drop (length (drop at s) - length r) at s) ∙
           ap (drop (length (drop at s) - length r)) (e .whole) ∙
@@ -123,10 +120,8 @@ field-bad s at x e = ap (foundAt at (drop at s)) (sym e)
 -- and what was read, from what is handed back
 value-was : (s : List ℕ) (at i v : ℕ) (x : Parsed) → Leaves (drop at s) x → foundAt at (drop at s) x ≡ Found.Value v i →
     (x ≡ number v (drop i s)) × Within s at i
-value-was s at i v (number n r) e p =
-    let same : n ≡ v = cc in
-    let there : at + (length (drop at s) - length r) ≡ i = cc in
-    let w = end-place s at r e in
+value-was s at i v (number n r) e p = let same : n ≡ v = cc in
+    let there : at + (length (drop at s) - length r) ≡ i = cc in let w = end-place s at r e in
     (ap (λ (m : ℕ). number m r) same ∙ ap (number v) (sym (w .0) ∙ ap (λ (j : ℕ). drop j s) there), rw there at (w .1))
 value-was s at i v bad e p = absurd (let z : _≡_ {A = ℕ} 0 1 = cc in omega arith)
 
@@ -136,8 +131,7 @@ bad-was at l bad p = refl
 
 pub fixed-was : (k : ℕ) (s : List ℕ) (at i v : ℕ) (f : Found) → f ≡ foundAt at (drop at s) (fixedOf k 0 (drop at s)) →
     f ≡ Found.Value v i → (fixedOf k 0 (drop at s) ≡ number v (drop i s)) × Within s at i
-fixed-was k s at i v f e p =
-    value-was s at i v (fixedOf k 0 (drop at s)) (fixed-leaves k 0 (drop at s)) (sym e ∙ p)
+fixed-was k s at i v f e p = value-was s at i v (fixedOf k 0 (drop at s)) (fixed-leaves k 0 (drop at s)) (sym e ∙ p)
 
 pub fixed-was-bad : (k : ℕ) (s : List ℕ) (at : ℕ) (f : Found) → f ≡ foundAt at (drop at s) (fixedOf k 0 (drop at s)) →
     f ≡ Found.Bad → fixedOf k 0 (drop at s) ≡ bad
@@ -146,18 +140,14 @@ fixed-was-bad k s at f e p = bad-was at (drop at s) (fixedOf k 0 (drop at s)) (s
 -- what is read behind one byte more
 field-step : (s : List ℕ) (at : ℕ) (x : Parsed) → at < length s → Leaves (drop (at + 1) s) x →
     foundAt (at + 1) (drop (at + 1) s) x ≡ foundAt at (drop at s) x
-field-step s at (number v r) h e =
-    let short = ends-short (drop (at + 1) s) r e in
-    let here = length-drop at s in
-    let there = length-drop (at + 1) s in
-    ap (Found.Value v) (omega arith)
+field-step s at (number v r) h e = let short = ends-short (drop (at + 1) s) r e in let here = length-drop at s in
+    let there = length-drop (at + 1) s in ap (Found.Value v) (omega arith)
 field-step s at bad h e = refl
 
 pub number-field : (s : List ℕ) (at v : ℕ) (f : Found) → at < length s →
     numberOf (drop at s) ≡ moreOf v (drop (at + 1) s) →
     f ≡ foundAt (at + 1) (drop (at + 1) s) (moreOf v (drop (at + 1) s)) → f ≡ numberAt s at
-number-field s at v f h e p =
-    p ∙ field-step s at (moreOf v (drop (at + 1) s)) h (more-leaves v (drop (at + 1) s)) ∙
+number-field s at v f h e p = p ∙ field-step s at (moreOf v (drop (at + 1) s)) h (more-leaves v (drop (at + 1) s)) ∙
     ap (foundAt at (drop at s)) (sym e)
 
 -- one position after another

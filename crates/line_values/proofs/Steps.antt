@@ -73,9 +73,7 @@ module _ (s : List ℕ) (i : ℕ) (h : i < length s) where
   pub fixed-on : (end v : ℕ) → i < end → isDigit (getD s i 0) ≡ true →
       fixedOf (end - i) v (drop i s) ≡ fixedOf (end - (i + 1)) (v * 10 + (getD s i 0 - 48)) (drop (i + 1) s)
   unfolding fixedOf
-  fixed-on end v p e =
-      let n : end - i ≡ suc (end - (i + 1)) = omega arith in
-      rw (n, drop-cons s i 0 h, e, add-one i)
+  fixed-on end v p e = let n : end - i ≡ suc (end - (i + 1)) = omega arith in rw (n, drop-cons s i 0 h, e, add-one i)
 
 -- fewer bytes than digits
 pub fixed-few : (k v : ℕ) (l : List ℕ) → length l < k → fixedOf k v l ≡ bad
@@ -89,20 +87,15 @@ fixed-few (suc k) v (c ∷ l) h = go (isDigit c) (fixed-few k (v * 10 + (c - 48)
 
 pub fixed-end : (s : List ℕ) (i end v : ℕ) → end ≡ i → fixedOf (end - i) v (drop i s) ≡ number v (drop end s)
 unfolding fixedOf
-fixed-end s i end v e =
-    let none : i - i ≡ 0 = omega arith in
-    rw (e, none)
+fixed-end s i end v e = let none : i - i ≡ 0 = omega arith in rw (e, none)
 
 -- a number of k digits, and with one more
 pub fixed-small : (v k : ℕ) → v < 10 ^ k → k < 10 → v < 10 ^ 9
-fixed-small v k h b =
-    let p : 10 ^ k ≤ 10 ^ 9 = pow-le-pow-right {n = 10} (omega arith) {i = k} {j = 9} (omega arith) in
+fixed-small v k h b = let p : 10 ^ k ≤ 10 ^ 9 = pow-le-pow-right {n = 10} (omega arith) {i = k} {j = 9} (omega arith) in
     omega arith
 
 pub fixed-grows : (v c at i : ℕ) → v < 10 ^ (i - at) → at ≤ i → c ≤ 57 → v * 10 + (c - 48) < 10 ^ (i + 1 - at)
-fixed-grows v c at i h a b =
-    let e : i + 1 - at ≡ suc (i - at) = omega arith in
-    rw e (omega arith)
+fixed-grows v c at i h a b = let e : i + 1 - at ≡ suc (i - at) = omega arith in rw e (omega arith)
 
 -- a date, part after part
 module _ (l : List ℕ) where
@@ -156,8 +149,7 @@ unfolding isSame
 same-words [] [] h = refl
 same-words [] (y ∷ b) h = absurd (let z : _≡_ {A = ℕ} 0 1 = cc in omega arith)
 same-words (x ∷ a) [] h = absurd (let z : _≡_ {A = ℕ} 0 1 = cc in omega arith)
-same-words (x ∷ a) (y ∷ b) h =
-    ap₂ (λ (n : ℕ) (l : List ℕ). n ∷ l) (eqb-true x y (and-left (eqb x y) (isSame a b) h))
+same-words (x ∷ a) (y ∷ b) h = ap₂ (λ (n : ℕ) (l : List ℕ). n ∷ l) (eqb-true x y (and-left (eqb x y) (isSame a b) h))
     (same-words a b (and-right (eqb x y) (isSame a b) h))
 
 pub same-self : (a : List ℕ) → isSame a a ≡ true

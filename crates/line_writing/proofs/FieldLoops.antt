@@ -14,9 +14,7 @@ use Rattle.line_fields.proofs.FieldTexts.{field-append}
 pub fields-next : (second n i : ℕ) (vs : List ℕ) → i < n →
     fieldsFrom second i (n - i) vs ≡ field (sortAt second i) (getD vs i 0) ∷ fieldsFrom second (i + 1) (n - (i + 1)) vs
 unfolding fieldsFrom
-fields-next second n i vs h =
-    let e : n - i ≡ suc (n - (i + 1)) = omega arith in
-    rw (e, add-one i)
+fields-next second n i vs h = let e : n - i ≡ suc (n - (i + 1)) = omega arith in rw (e, add-one i)
 
 pub fields-none : (second n i : ℕ) (vs : List ℕ) → n ≤ i → fieldsFrom second i (n - i) vs ≡ []
 unfolding fieldsFrom

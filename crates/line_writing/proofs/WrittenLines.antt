@@ -53,7 +53,5 @@ module _ (m : Message) (p : Values) (row : KindRow) (hp : p ≡ valuesOf (said m
     pub line-written : (o₂ : List ℕ) (r : ℕ) → Appended at fields o₁ o₂ r →
         _≡_ {A = Line} (record { len = r; bytes = o₂ }) (writtenLine m)
     unfolding writtenLine
-    line-written o₂ r v =
-        let all = zeros-put longestLine (word (p .kind)) fields o₁ o₂ at r room w v in
-        let text = its-text m fit ∙ line-is in
-        rw (text, all .0, all .1)
+    line-written o₂ r v = let all = zeros-put longestLine (word (p .kind)) fields o₁ o₂ at r room w v in
+        let text = its-text m fit ∙ line-is in rw (text, all .0, all .1)

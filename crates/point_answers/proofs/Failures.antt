@@ -25,7 +25,5 @@ module _ (S : Settings) (day : ℕ) (u : List Bool) (t s : ℕ) where
   -- what those rows have seen to
   pub failure-fits : isAccepted (firstOf (failureRows S day u t s) Answer.Accepted) ≡ true → (1 ≤ s) × (s ≤ 99) × (t ≤ lastDay)
   unfolding failureRows rows
-  failure-fits ok =
-      let k = pass _ _ _ _ ok in
-      let n = neither (ltb s 1) (ltb 99 s) (k .0) in
+  failure-fits ok = let k = pass _ _ _ _ ok in let n = neither (ltb s 1) (ltb 99 s) (k .0) in
       (ltb-false s 1 (n .0), ltb-false 99 s (n .1), dated-also day t _ _ _ (k .1) .1 .calendar)

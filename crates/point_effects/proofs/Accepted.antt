@@ -44,8 +44,7 @@ module _ (S : Settings) (t : ℕ) (f : Fields) where
 
   pub service-fits : (s k : ℕ) → Accepted S t (PointAction.IntoService s k) f → (s ≤ 99) × (k ≤ 999999999)
   unfolding answerAt rowsAt
-  service-fits s k h =
-      let n = neither (notSupplier s) (notKey k) (pass _ _ _ _ (h .ok) .0) in
+  service-fits s k h = let n = neither (notSupplier s) (notKey k) (pass _ _ _ _ (h .ok) .0) in
       (within 1 99 s (n .0) .1, within 1 999999999 k (n .1) .1)
 
   pub default-fits : (k : ℕ) → Accepted S t (PointAction.DefaultSupply k) f → k ≤ 999999999
@@ -54,9 +53,7 @@ module _ (S : Settings) (t : ℕ) (f : Fields) where
 
   pub request-fits : (s k r : ℕ) → Accepted S t (PointAction.Request s k r) f → (s ≤ 99) × (effectiveDay S t r ≤ lastDay)
   unfolding answerAt rowsAt
-  request-fits s k r h =
-      let a = pass _ _ _ _ (h .ok) in
-      let b = dated-also (h .day) t _ _ _ (a .1) .1 .rest in
+  request-fits s k r h = let a = pass _ _ _ _ (h .ok) in let b = dated-also (h .day) t _ _ _ (a .1) .1 .rest in
       let c = pass _ _ _ _ (pass _ _ _ _ (pass _ _ _ _ b .1) .1) in
       (within 1 99 s (neither (notSupplier s) (notKey k) (a .0) .0) .1, ltb-false lastDay (effectiveDay S t r) (neither (ltb r t || ltb (threeMonthsAfter t) r) (isPast (effectiveDay S t r)) (c .0) .1))
 
@@ -66,11 +63,8 @@ module _ (S : Settings) (t : ℕ) (f : Fields) where
 
   pub reading-fits : (d x z : ℕ) → Accepted S t (PointAction.Reading d x z) f → Readable f d x z
   unfolding answerAt rowsAt
-  reading-fits d x z h =
-      let a = pass _ _ _ _ (h .ok) in
-      let b = dated-also (h .day) t _ _ _ (a .1) in
-      let c = pass _ _ _ _ (pass _ _ _ _ (b .1 .rest) .1) in
-      let e = pass _ _ _ _ (c .1) in
+  reading-fits d x z h = let a = pass _ _ _ _ (h .ok) in let b = dated-also (h .day) t _ _ _ (a .1) in
+      let c = pass _ _ _ _ (pass _ _ _ _ (b .1 .rest) .1) in let e = pass _ _ _ _ (c .1) in
       let i = neither _ _ (neither _ _ (e .0) .0) in
       rw (← (h .same)) (record {
         calendar = ltb-false lastDay d (b .0);
@@ -81,21 +75,15 @@ module _ (S : Settings) (t : ℕ) (f : Fields) where
 
   pub change-fits : (x z b a y : ℕ) → Accepted S t (PointAction.MeterChange x z b a y) f → Readable f t x z × (b ≤ 8) × (a ≤ 3)
   unfolding answerAt rowsAt
-  change-fits x z b a y h =
-      let k = pass _ _ _ _ (h .ok) in
-      let n = neither (notMark z) (notWheels b a) (k .0) in
-      let d = dated (h .day) t _ _ (k .1) in
-      let c = pass _ _ _ _ (pass _ _ _ _ (d .rest) .1) in
-      let e = pass _ _ _ _ (c .1) in
-      let i = neither _ _ (neither _ _ (neither _ (leb _ y) (e .0) .0) .0) in
+  change-fits x z b a y h = let k = pass _ _ _ _ (h .ok) in let n = neither (notMark z) (notWheels b a) (k .0) in
+      let d = dated (h .day) t _ _ (k .1) in let c = pass _ _ _ _ (pass _ _ _ _ (d .rest) .1) in
+      let e = pass _ _ _ _ (c .1) in let i = neither _ _ (neither _ _ (neither _ (leb _ y) (e .0) .0) .0) in
       let r : Readable f t x z = rw (← (h .same)) (record {
         calendar = d .calendar;
         forward = leb-false t (h .view .fields .reading .day) (neither (leb t (h .view .fields .reading .day)) (ltb t t) (c .0) .0);
         index = leb-false (fullTurn (h .view .fields .meter)) x (i .0);
         mark = within 0 1 z (n .0) .1;
-      }) in
-      let w = wheels b a (n .1) in
-      (r, w .0, w .1)
+      }) in let w = wheels b a (n .1) in (r, w .0, w .1)
 
 -- An effect without a reading, and that of an accepted call, are written down as the definition enters them.
 pub unread-noted : (t : ℕ) (e : Effect) (h : History) → spansIn e ≡ [] → noted t e h ≡ entered t e h
@@ -105,8 +93,7 @@ unread-noted t e h q = rw q
 read-noted : (t : ℕ) (f g : Fields) (d x z : ℕ) (h : History) → Readable f d x z
     → noted t (Effect.Read (spanTo f d x z) g) h ≡ entered t (Effect.Read (spanTo f d x z) g) h
 unfolding noted
-read-noted t f g d x z h k =
-    let e = read-span f d x z (k .index) (k .mark) in
+read-noted t f g d x z h k = let e = read-span f d x z (k .index) (k .mark) in
     rw (rw e at (read-booked (f .meter) (f .reading) d x z (k .forward) (k .calendar) h))
 
 pub accepted-noted : (S : Settings) (t : ℕ) (a : PointAction) (f : Fields) (h : History) → Accepted S t a f
@@ -130,8 +117,7 @@ failed-noted S t s f h le = rw (le-leb t lastDay le) (go (eqb (f .supply .holder
   where
     go : (b : Bool) → noted t (cond b
         (Effect.Name (withSupply f (supply (S .resort) (SupplyKind.LastResort (t + S .b)) (dropped s (f .supply .pending)))))
-        (Effect.Keep (withPending f (dropped s (f .supply .pending))))) h
-        ≡ entered t (cond b
+        (Effect.Keep (withPending f (dropped s (f .supply .pending))))) h ≡ entered t (cond b
         (Effect.Name (withSupply f (supply (S .resort) (SupplyKind.LastResort (t + S .b)) (dropped s (f .supply .pending)))))
         (Effect.Keep (withPending f (dropped s (f .supply .pending))))) h
     go true = unread-noted t _ h refl

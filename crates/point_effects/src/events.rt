@@ -60,7 +60,7 @@ fn ends_before(k: SupplyKind, day: u32) -> bool
 }
 
 // What falls due first by day t: a request and a deadline on one day, the request.
-fn due_by(set: Settings, t: u32, k: SupplyKind, q: Pending) -> Due
+pub fn due_by(set: Settings, t: u32, k: SupplyKind, q: Pending) -> Due
     requires { ⌜ t ≤ 73048 ⌝ }
     ensures { λ r. ⌜ r ≡ dueBy set t k q ⌝ }
 {

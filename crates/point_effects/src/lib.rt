@@ -6,6 +6,7 @@ use effects::effect_of;
 pub use effects::fail;
 pub use effects::fills;
 pub use events::catch_up;
+pub use events::due_by;
 use point_answers::answer_at;
 use point_checks::is_accepted;
 use point_periods::named;

@@ -21,7 +21,7 @@ pub fn period_count(h: History) -> usize
 }
 
 // The newest period starts on a day.
-pub fn starts_on(day: u32, h: History) -> bool
+fn starts_on(day: u32, h: History) -> bool
     ensures { λ r. ⌜ r ≡ startsOn day h ⌝ }
 {
     let n = slots(h.count);

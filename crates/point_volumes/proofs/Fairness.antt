@@ -13,10 +13,8 @@ both true b h = (refl, h)
 both false b h = absurd (false≢true h)
 
 pub fair : (s : Span) → isFair s ≡ true → Fair s
-fair s h =
-    let a = both _ (leb (s .advance * s .unit) mostVolume) h in
-    let b = both _ (leb (s .advance) mostVolume) (a .0) in
-    let c = both _ (leb (s .unit) 1000) (b .0) in
+fair s h = let a = both _ (leb (s .advance * s .unit) mostVolume) h in
+    let b = both _ (leb (s .advance) mostVolume) (a .0) in let c = both _ (leb (s .unit) 1000) (b .0) in
     let d = both (ltb (s .from) (s .to)) (leb (s .to) lastDay) (c .0) in
     record {
       forward = ltb-true _ _ (d .0);

@@ -15,8 +15,7 @@ module _ (s : Span) (f : Fair s) (d : ℕ) where
 
   pub given-all : s .to ≤ d → given s d ≡ s .advance * s .unit
   unfolding given upTo
-  given-all le =
-      let k : min (d - s .from) (s .to - s .from) ≡ s .to - s .from = omega arith in
+  given-all le = let k : min (d - s .from) (s .to - s .from) ≡ s .to - s .from = omega arith in
       let z : s .advance * (s .to - s .from) / (s .to - s .from) ≡ s .advance = mul-div-left (s .advance) (omega (arith, f .forward)) in
       rw (k, z)
 
@@ -25,9 +24,7 @@ module _ (s : Span) (f : Fair s) (d : ℕ) where
   given-part le = let k : min (d - s .from) (s .to - s .from) ≡ d - s .from = omega arith in rw k
 
   pub part-most : d ≤ s .to → s .advance * (d - s .from) / (s .to - s .from) * s .unit ≤ mostVolume
-  part-most le =
-      le-trans
-      (mul-le-mul-right (s .unit)
+  part-most le = le-trans (mul-le-mul-right (s .unit)
       (div-le-of-le-mul _ (rw (mul-comm (s .to - s .from) (s .advance)) (mul-le-mul-left (s .advance) (omega arith)))))
       (f .volume)
 

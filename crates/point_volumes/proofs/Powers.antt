@@ -19,6 +19,5 @@ unit-most m = power-up (3 - m .after) 3 (omega arith)
 
 pub turn-unit : (m : Meter) → fullTurn m * unitOf m ≤ 10 ^ 11
 unfolding fullTurn unitOf
-turn-unit m =
-    rw (← (pow-add 10 (min (m .before) 8 + min (m .after) 3) (3 - m .after)))
+turn-unit m = rw (← (pow-add 10 (min (m .before) 8 + min (m .after) 3) (3 - m .after)))
     (power-up (min (m .before) 8 + min (m .after) 3 + (3 - m .after)) 11 (omega arith))

@@ -19,8 +19,7 @@ unfolding advanceOf
 advance-most last x z turn a b = omega (arith, mul-le-mul-right turn b)
 
 -- V, or nothing: two full turns at the most.
-read-most : (m : Meter) (last x z : ℕ)
-    → advanceRead last x z (fullTurn m) ≤ 2 * fullTurn m
+read-most : (m : Meter) (last x z : ℕ) → advanceRead last x z (fullTurn m) ≤ 2 * fullTurn m
 read-most m last x z = go (ltb x (fullTurn m)) (leb z 1) refl refl
   where
     go : (a b : Bool) → ltb x (fullTurn m) ≡ a → leb z 1 ≡ b → cond (a && b) (advanceOf last x z (fullTurn m)) 0 ≤ 2 * fullTurn m
@@ -31,23 +30,19 @@ read-most m last x z = go (ltb x (fullTurn m)) (leb z 1) refl refl
 module _ (m : Meter) (last : Reading) (d x z : ℕ) where
   volume-most : spanRead m last d x z .advance * spanRead m last d x z .unit ≤ mostVolume
   unfolding spanRead
-  volume-most =
-      le-trans (mul-le-mul-right (unitOf m) (read-most m (last .index) x z))
+  volume-most = le-trans (mul-le-mul-right (unitOf m) (read-most m (last .index) x z))
       (rw (mul-assoc 2 (fullTurn m) (unitOf m)) (omega (arith, turn-unit m)))
 
   module _ (forward : last .day < d) (within : d ≤ lastDay) where
     fair-read : isFair (spanRead m last d x z) ≡ true
     unfolding spanRead
-    fair-read =
-        let v = volume-most in
-        let a = read-most m (last .index) x z in
-        rw (
-          lt-ltb _ _ forward,
-          le-leb _ _ within,
-          le-leb _ _ (unit-most m),
-          le-leb (advanceRead (last .index) x z (fullTurn m)) mostVolume (omega (arith, a, turn-most m)),
-          le-leb _ _ v,
-        )
+    fair-read = let v = volume-most in let a = read-most m (last .index) x z in rw (
+      lt-ltb _ _ forward,
+      le-leb _ _ within,
+      le-leb _ _ (unit-most m),
+      le-leb (advanceRead (last .index) x z (fullTurn m)) mostVolume (omega (arith, a, turn-most m)),
+      le-leb _ _ v,
+    )
 
     pub read-booked : (h : History) → bookedIfFair (spanRead m last d x z) h ≡ booked (spanRead m last d x z) h
     unfolding bookedIfFair

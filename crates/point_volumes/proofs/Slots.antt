@@ -13,20 +13,15 @@ module _ (c : ℕ → ℕ) (from e : ℕ) where
       → bookedSlots c from e i ps ≡ set ps (i - 1) (bookedPeriod c e (getD ps (i - 1) noPeriod))
   unfolding bookedSlots
   slots-last zero ps h le = absurd (omega arith)
-  slots-last (suc i) ps h le =
-      let k : suc i - 1 ≡ i = omega arith in
-      let l : getD ps i noPeriod .start ≤ from = rw k at le in
-      rw (k, le-leb _ _ l)
+  slots-last (suc i) ps h le = let k : suc i - 1 ≡ i = omega arith in
+      let l : getD ps i noPeriod .start ≤ from = rw k at le in rw (k, le-leb _ _ l)
 
-  pub slots-on : (i : ℕ) (ps : List Period) → 0 < i → from < getD ps (i - 1) noPeriod .start
-      → bookedSlots c from e i ps
+  pub slots-on : (i : ℕ) (ps : List Period) → 0 < i → from < getD ps (i - 1) noPeriod .start → bookedSlots c from e i ps
       ≡ bookedSlots c from (getD ps (i - 1) noPeriod .start) (i - 1) (set ps (i - 1) (bookedPeriod c e (getD ps (i - 1) noPeriod)))
   unfolding bookedSlots
   slots-on zero ps h lt = absurd (omega arith)
-  slots-on (suc i) ps h lt =
-      let k : suc i - 1 ≡ i = omega arith in
-      let l : from < getD ps i noPeriod .start = rw k at lt in
-      rw (k, lt-leb _ _ l)
+  slots-on (suc i) ps h lt = let k : suc i - 1 ≡ i = omega arith in
+      let l : from < getD ps i noPeriod .start = rw k at lt in rw (k, lt-leb _ _ l)
 
   pub slots-none : (ps : List Period) → bookedSlots c from e 0 ps ≡ ps
   unfolding bookedSlots

@@ -7,6 +7,4 @@ pub use booking::book;
 pub use booking::book_newest;
 pub use meter::full_turn;
 pub use meter::turn_of;
-pub use meter::unit_of;
-pub use reading::less;
 pub use reading::span_to;

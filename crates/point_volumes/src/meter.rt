@@ -50,7 +50,7 @@ pub fn turn_of(m: Meter) -> u64
 }
 
 // U, in thousandths of a cubic metre.
-pub fn unit_of(m: Meter) -> u64
+pub(crate) fn unit_of(m: Meter) -> u64
     ensures { λ r. ⌜ r ≡ unitOf m ⌝ }
 {
     let after = m.after as u64;

@@ -10,7 +10,7 @@ ghost use Rattle.rules.specs.Volumes.{advanceOf};
 ghost use Rattle.point_volumes.specs.Between.{advanceRead, spanRead};
 
 // a - b, and 0 where b is the larger.
-pub fn less(a: u64, b: u64) -> u64
+pub(crate) fn less(a: u64, b: u64) -> u64
     ensures { λ r. ⌜ r ≡ a - b ⌝ }
 {
     if a < b { 0 } else { a - b }

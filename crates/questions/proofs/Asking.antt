@@ -81,13 +81,11 @@ module _ (o : Opening) (ok : isAccepted (openingAnswer o) ≡ true) (calls : Lis
     -- the periods that the register keeps are the day book's
     pub periods-are : periodsOf (pointAt p (r .points)) ≡ bookPeriods o calls p
     unfolding bookPeriods
-    periods-are =
-        let h = tied .point in
+    periods-are = let h = tied .point in
         rw same-day (periods-told point (h .sized) (volume l) (g .cells) (h .told) (r .day) (h .live))
 
     unborn : unasked r p ≡ true → (n ≡ []) × (listed (point .history) ≡ [])
-    unborn off =
-        let h = tied .point in
+    unborn off = let h = tied .point in
         h .born .outside (rw (h .same) (not-on _ (rw (le-ltb p 1 lo, le-ltb 32 p hi) at off)))
 
   -- a point that may not be asked of: the day book has nothing to tell
@@ -106,8 +104,7 @@ module _ (o : Opening) (ok : isAccepted (openingAnswer o) ≡ true) (calls : Lis
         go : (a b : Bool) → notPoint p ≡ a → cond (a || b) none (nth m (bookPeriods o calls p)) ≡ none
         go true b e = refl
         go false true e = refl
-        go false false e =
-            let k = range-in 1 32 p e in
+        go false false e = let k = range-in 1 32 p e in
             rw (← (periods-are (k .0) (k .1)), take-listed (point .history) (point-sized (k .0) (k .1)), unborn (k .0) (k .1) off .1)
 
   -- a point that may be asked of
@@ -131,14 +128,12 @@ module _ (o : Opening) (ok : isAccepted (openingAnswer o) ≡ true) (calls : Lis
     slots = omega (arith, h .point .sized .slots, h .point .sized .some)
 
     falling : Desc (suc (r .day)) (listed (point .history))
-    falling =
-        rw (h .point .told)
+    falling = rw (h .point .told)
         (tally-desc (volume l) (g .cells) (suc (r .day)) 0 (live-runs (r .day) (g .cells) (h .point .live)))
 
     holder-asked : (d : ℕ) → since .enrolment ≤ d → d ≤ r .day → Tells d (holderAnswer r p d) (holderOn d (g .cells))
     unfolding holderAnswer
-    holder-asked d le due =
-        let a = day-book-agrees o ok calls .points p (here .0) (here .1) in
+    holder-asked d le due = let a = day-book-agrees o ok calls .points p (here .0) (here .1) in
         rw (on, le-ltb (r .day) d due, used-all)
         (among-covered d (point .history .count) (point .history .periods) _ slots (a .covered (since .enrolment) d (since .one) le due))
 
@@ -148,27 +143,23 @@ module _ (o : Opening) (ok : isAccepted (openingAnswer o) ≡ true) (calls : Lis
 
     holder-early : (d : ℕ) → d < since .enrolment → holderAnswer r p d ≡ holder.OffRange
     unfolding holderAnswer
-    holder-early d lt =
-        let o = since .start (suc (r .day)) in
-        elim (decLe d (r .day)) [
-          | yes due ↦ rw (on, le-ltb (r .day) d due, used-all)
-              (among-before d (point .history .count) (point .history .periods) (suc (r .day)) falling (omega (arith, o)))
-          | no late ↦ holder-late d (omega arith)
-        ]
+    holder-early d lt = let o = since .start (suc (r .day)) in elim (decLe d (r .day)) [
+      | yes due ↦ rw (on, le-ltb (r .day) d due, used-all)
+          (among-before d (point .history .count) (point .history .periods) (suc (r .day)) falling (omega (arith, o)))
+      | no late ↦ holder-late d (omega arith)
+    ]
 
     advance-asked : advanceAnswer r p ≡ advance.Volume (registered l)
     unfolding advanceAnswer
     advance-asked =
         let small : registered l < 2 ^ 64 = omega (arith, h .point .most, h .fine .past, run-day o ok calls) in
-        rw (on, used-all)
-        (ap advance.Volume
+        rw (on, used-all) (ap advance.Volume
         (sum-exact (point .history .count) (point .history .periods) (rw (h .point .sum) small) ∙ h .point .sum))
 
     period-asked : (m : ℕ) → periodTold (periodAnswer r p m) ≡ cond (eqb m 0) none (nth (m - 1) (periodsOf point))
     unfolding periodAnswer
     period-asked zero = rw on
-    period-asked (suc m) =
-        let k : suc m - 1 ≡ m = omega arith in
+    period-asked (suc m) = let k : suc m - 1 ≡ m = omega arith in
         rw (on, used-all, le-ltb (suc m) 1 (omega arith), ne-eqb (suc m) 0 (λ q. not-suc-le-zero {n = 0} (omega arith)), k)
         (elim (decLe (suc m) (point .history .count)) [
           | yes y ↦ rw (
@@ -190,16 +181,13 @@ module _ (o : Opening) (ok : isAccepted (openingAnswer o) ≡ true) (calls : Lis
           ≡ cond (notPoint p) none (sinceEnrolment n (λ e. cond (leb e d && leb d (r .day)) (holderOn d (g .cells)) none))
       go true off =
           rw (none-made off (λ e. cond (leb e d && leb d (r .day)) (holderOn d (g .cells)) none)) (unfold holderAnswer in rw off)
-      go false on =
-          let e = since on .enrolment in
-          rw (is-point on, since on .one)
-          (elim (decLe e d) [
-            | yes le ↦ (elim (decLe d (r .day)) [
-              | yes due ↦ rw (le-leb e d le, le-leb d (r .day) due) (holder-asked on d le due .0)
-              | no late ↦ rw (le-leb e d le, lt-leb d (r .day) (omega arith)) (ap holderTold (holder-late on d (omega arith)))
-            ])
-            | no le ↦ rw (lt-leb e d (omega arith)) (ap holderTold (holder-early on d (omega arith)))
-          ])
+      go false on = let e = since on .enrolment in rw (is-point on, since on .one) (elim (decLe e d) [
+        | yes le ↦ (elim (decLe d (r .day)) [
+          | yes due ↦ rw (le-leb e d le, le-leb d (r .day) due) (holder-asked on d le due .0)
+          | no late ↦ rw (le-leb e d le, lt-leb d (r .day) (omega arith)) (ap holderTold (holder-late on d (omega arith)))
+        ])
+        | no le ↦ rw (lt-leb e d (omega arith)) (ap holderTold (holder-early on d (omega arith)))
+      ])
 
   period-is : (m : ℕ) → periodTold (periodAnswer r p m) ≡ bookPeriod o calls p m
   unfolding bookPeriod

@@ -20,16 +20,14 @@ tally-periods : (vol : ℕ → ℕ) (cs : List Cell) (e end a : ℕ) (l : List P
     → a ≡ sumDays vol e (end - e) → reverseAux (tally vol cs a) l ≡ periodsIn vol end cs l
 unfolding tally periodsIn
 tally-periods vol [] e end a l r le q = refl
-tally-periods vol (cell d h true ∷ cs) e end a l r le q =
-    rw (sumDays-more vol d e end a (r .0) le q)
+tally-periods vol (cell d h true ∷ cs) e end a l r le q = rw (sumDays-more vol d e end a (r .0) le q)
     (tally-periods vol cs d d 0 (period d h (sumDays vol d (end - d)) ∷ l) (r .1) (omega arith) (sumDays-none vol d))
 tally-periods vol (cell d h false ∷ cs) e end a l r le q =
     tally-periods vol cs d end (a + vol d) l (r .1) (omega arith) (sumDays-more vol d e end a (r .0) le q)
 
 pub periods-told : (g : Point) → Sized (g .history) → (vol : ℕ → ℕ) (cs : List Cell) → listed (g .history) ≡ tally vol cs 0
     → (t : ℕ) → Live t cs → periodsOf g ≡ periodsIn vol (suc t) cs []
-periods-told g sized vol cs told t live =
-    rw (take-listed (g .history) sized, told)
+periods-told g sized vol cs told t live = rw (take-listed (g .history) sized, told)
     (tally-periods vol cs (suc t) (suc t) 0 [] (live-runs t cs live) (omega arith) (sumDays-none vol (suc t)))
 
 -- the n-th of the first c

@@ -35,8 +35,7 @@ day-next r c le = go (isAccepted (says r c)) refl
   where
     go : (b : Bool) → isAccepted (says r c) ≡ b
         → cond b (done (c .today) (c .action) (advanced (c .today) r)) r .day ≤ lastDay
-    go true ok =
-        rw (done-day (c .today) (c .action) (advanced (c .today) r), advanced-day (c .today) r)
+    go true ok = rw (done-day (c .today) (c .action) (advanced (c .today) r), advanced-day (c .today) r)
         (passed (r .settings) (r .day) (r .contracts) (c .today) (c .action) _ ok .0)
     go false q = le
 
@@ -47,8 +46,7 @@ day-after (c ∷ cs) r le = day-after cs (applied r c .register) (day-next r c l
 
 opened-day : (o : Opening) → isAccepted (openingAnswer o) ≡ true → o .day ≤ lastDay
 unfolding openingAnswer
-opened-day o ok =
-    let a = pass _ _ _ _ (pass _ _ _ _ (pass _ _ _ _ ok .1) .1) in
+opened-day o ok = let a = pass _ _ _ _ (pass _ _ _ _ (pass _ _ _ _ ok .1) .1) in
     let b = pass _ _ _ _ (pass _ _ _ _ (pass _ _ _ _ (a .1) .1) .1) in
     ltb-false lastDay (o .day) (pass _ _ _ _ (b .1) .0)
 

@@ -59,11 +59,9 @@ module _ (d : ℕ) where
   unfolding holderAmong lastOf
   among-covers zero ps l x le k q =
       let z : [] ≡ x ∷ [] = sym (ap holders (k .1)) ∙ q in let w : _≡_ {A = ℕ} 0 1 = cc z in absurd (omega arith)
-  among-covers (suc n) ps l x le k q =
-      let p : Period = getD ps n noPeriod in
+  among-covers (suc n) ps l x le k q = let p : Period = getD ps n noPeriod in
       let r : holders (covering d (take n ps ++ p ∷ l)) ≡ x ∷ [] =
-      rw (take-suc ps n noPeriod le, append-snoc (take n ps) p l) at q in
-      elim (decLe (p .start) d) [
+      rw (take-suc ps n noPeriod le, append-snoc (take n ps) p l) at q in elim (decLe (p .start) d) [
         | yes y ↦ rw (le-leb _ _ y) (sym (last-covers (take n ps) l p none y k) ∙ ap (lastOf none) r, refl)
         | no y ↦ rw (lt-leb (p .start) d (omega arith))
             (among-covers n ps (p ∷ l) x (omega arith) (ahead-cons p l (omega arith) k) r)
@@ -79,13 +77,11 @@ module _ (d : ℕ) where
       → holderAmong d n ps ≡ holder.OffRange
   unfolding holderAmong recent oldest
   among-before zero ps e r o = refl
-  among-before (suc n) ps e r o =
-      let p : Period = getD ps n noPeriod in
+  among-before (suc n) ps e r o = let p : Period = getD ps n noPeriod in
       let k = oldest-le (p .start) (recent n ps) (desc-up (recent n ps) (omega arith) (r .1)) in
       rw (lt-leb (p .start) d (omega (arith, o, k))) (among-before n ps (p .start) (r .1) o)
 
 pub sum-exact : (n : ℕ) (ps : List Period) → sumVolumes (recent n ps) < 2 ^ 64 → sumOf n ps ≡ sumVolumes (recent n ps)
 unfolding sumOf recent sumVolumes
 sum-exact zero ps fits = refl
-sum-exact (suc n) ps fits =
-    rw (sum-exact n ps (omega arith)) (mod-eq-of-lt (omega arith) ∙ omega arith)
+sum-exact (suc n) ps fits = rw (sum-exact n ps (omega arith)) (mod-eq-of-lt (omega arith) ∙ omega arith)

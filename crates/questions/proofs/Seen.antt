@@ -69,8 +69,7 @@ applied-unseen : (r : Register) (t : ℕ) (a : Action) → withoutPending (done 
 unfolding applied done
 applied-unseen r t a e = go (isAccepted (says r (on t a))) refl
   where
-    go : (b : Bool) → isAccepted (says r (on t a)) ≡ b
-        → withoutPending (cond b (done t a (advanced t r)) r)
+    go : (b : Bool) → isAccepted (says r (on t a)) ≡ b → withoutPending (cond b (done t a (advanced t r)) r)
         ≡ withoutPending (cond b (cond (isAccepted (says r (on t Action.Day))) (done t Action.Day (advanced t r)) r) r)
     go true ok = rw (day-accepted r t a ok) e
     go false ok = refl

@@ -16,18 +16,14 @@ module _ (d : ℕ) (ps : List Period) where
       → holderAmong d i ps ≡ holder.Holder (getD ps (i - 1) noPeriod .holder)
   unfolding holderAmong
   among-found zero h le = absurd (omega arith)
-  among-found (suc i) h le =
-      let k : suc i - 1 ≡ i = omega arith in
-      let l : getD ps i noPeriod .start ≤ d = rw k at le in
-      rw (k, le-leb _ _ l)
+  among-found (suc i) h le = let k : suc i - 1 ≡ i = omega arith in
+      let l : getD ps i noPeriod .start ≤ d = rw k at le in rw (k, le-leb _ _ l)
 
   pub among-passed : (i : ℕ) → 0 < i → d < getD ps (i - 1) noPeriod .start → holderAmong d i ps ≡ holderAmong d (i - 1) ps
   unfolding holderAmong
   among-passed zero h lt = absurd (omega arith)
-  among-passed (suc i) h lt =
-      let k : suc i - 1 ≡ i = omega arith in
-      let l : d < getD ps i noPeriod .start = rw k at lt in
-      rw (k, lt-leb _ _ l)
+  among-passed (suc i) h lt = let k : suc i - 1 ≡ i = omega arith in
+      let l : d < getD ps i noPeriod .start = rw k at lt in rw (k, lt-leb _ _ l)
 
   pub among-none : holderAmong d 0 ps ≡ holder.OffRange
   unfolding holderAmong

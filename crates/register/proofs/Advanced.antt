@@ -41,6 +41,5 @@ caughtUp-none S t = go (leb t lastDay)
     go false = refl
 
 pub point-caughtUp : (S : Settings) (t p : ℕ) (ps : List Point) → pointAt p (map (caughtUp S t) ps) ≡ caughtUp S t (pointAt p ps)
-point-caughtUp S t p ps =
-    ap (λ (d : Point). getD (map (caughtUp S t) ps) (p - 1) d) (sym (caughtUp-none S t))
+point-caughtUp S t p ps = ap (λ (d : Point). getD (map (caughtUp S t) ps) (p - 1) d) (sym (caughtUp-none S t))
     ∙ List·getD-map (caughtUp S t) ps (p - 1) noPoint

@@ -79,8 +79,7 @@ module _ (r : Register) (t p : ℕ) (a : PointAction) where
   found-point h lo hi = rw (le-ltb p 1 lo, le-ltb 32 p hi, advanced-on t r h)
 
   abbrev stored : Register
-  stored =
-      register (broughtUp t r .settings) (broughtUp t r .day) (broughtUp t r .contracts)
+  stored = register (broughtUp t r .settings) (broughtUp t r .day) (broughtUp t r .contracts)
       (set (broughtUp t r .points) (p - 1) (acted (r .settings) t a (pointOn t p r)))
 
   in-range : isAccepted ruling ≡ true → (t ≤ lastDay) × (1 ≤ p) × (p ≤ 32)
@@ -89,8 +88,7 @@ module _ (r : Register) (t p : ℕ) (a : PointAction) where
 
   at-accepted : isAccepted ruling ≡ true → outcome ruling stored ≡ applied r (callAt t p a)
   unfolding applied done
-  at-accepted ok =
-      let w = in-range ok in
+  at-accepted ok = let w = in-range ok in
       rw (at-says, ok, advanced-on t r (w .0), found-point (w .0) (w .1) (w .2), advanced-settings t r)
 
   -- the same of the ruling x on the point g that was found
@@ -124,8 +122,7 @@ module _ (r : Register) (t p : ℕ) (a : PointAction) where
 
     point-is : isAccepted (x .answer) ≡ true → noted t (x .effect) (g .history) ≡ acted (r .settings) t a (pointOn t p r)
     unfolding acted
-    point-is z =
-        ap (λ (y : Effect). noted t y (g .history)) (effect-is z)
+    point-is z = ap (λ (y : Effect). noted t y (g .history)) (effect-is z)
         ∙ accepted-noted (r .settings) t a (g .fields) (g .history) (was-accepted z) ∙ ap (acted (r .settings) t a) e
 
     pub ruling-accepted : (n : Register) (h : Point) → n ≡ broughtUp t r → h ≡ noted t (x .effect) (g .history) → isAccepted (x .answer) ≡ true

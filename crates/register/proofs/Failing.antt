@@ -73,6 +73,5 @@ module _ (t s : ℕ) (r : Register) where
       pub failure-done : b ≡ false → (ps : List Point) → ps ≡ map (failedOn (r .settings) t s) (n .points)
           → outcome a (register (n .settings) (n .day) (set (n .contracts) s false) ps) ≡ applied r (on t (Action.Failure s))
       unfolding applied after done
-      failure-done y ps l =
-          let w : filled ≡ false = sym filled-is ∙ y in
+      failure-done y ps l = let w : filled ≡ false = sym filled-is ∙ y in
           rw (l, up, failedOn-is (r .settings) t s (failure-in .2), says-first, w, ok, advanced-settings t r, e, ok)

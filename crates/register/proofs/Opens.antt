@@ -12,13 +12,8 @@ use Rattle.register.specs.Opens.{InRange}
 
 pub opening-in-range : (o : Opening) → isAccepted (openingAnswer o) ≡ true → InRange o
 unfolding openingAnswer
-opening-in-range o ok =
-    let w = pass _ _ _ _ ok in
-    let a = pass _ _ _ _ (w .1) in
-    let b = pass _ _ _ _ (a .1) in
-    let s = pass _ _ _ _ (b .1) in
-    let l = pass _ _ _ _ (s .1) in
-    let d = pass _ _ _ _ (pass _ _ _ _ (l .1) .1) in
+opening-in-range o ok = let w = pass _ _ _ _ ok in let a = pass _ _ _ _ (w .1) in let b = pass _ _ _ _ (a .1) in
+    let s = pass _ _ _ _ (b .1) in let l = pass _ _ _ _ (s .1) in let d = pass _ _ _ _ (pass _ _ _ _ (l .1) .1) in
     record {
       w = within 0 10 (o .w) (w .0) .1;
       a = within 1 400 (o .a) (a .0) .1;

@@ -23,8 +23,7 @@ module _ (f : ℕ → Bool) where
   any-found p (suc n) h e = rw e
 
   pub any-passed : (i : ℕ) → i < 32 → f (i + 1) ≡ false → anyPoint (i + 1) (32 - i) f ≡ anyPoint (i + 1 + 1) (32 - (i + 1)) f
-  any-passed i h e =
-      let k : 32 - i - 1 ≡ 32 - (i + 1) = omega arith in
+  any-passed i h e = let k : 32 - i - 1 ≡ 32 - (i + 1) = omega arith in
       rw (← k, add-one (i + 1)) (any-next (i + 1) (32 - i) (omega arith) e)
 
   pub any-none : (p : ℕ) → anyPoint p 0 f ≡ false

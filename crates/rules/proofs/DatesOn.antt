@@ -35,8 +35,7 @@ three-months-after-8009 = rw (date-of 2021 12 5 8009 refl)
 
 pub working-days-after-19-may : workingBetween 7809 7815 ≡ 2
 unfolding calendar workingDays
-working-days-after-19-may =
-    rw (date-of 2021 5 20 7810 refl, date-of 2021 5 21 7811 refl, date-of 2021 5 24 7814 refl)
+working-days-after-19-may = rw (date-of 2021 5 20 7810 refl, date-of 2021 5 21 7811 refl, date-of 2021 5 24 7814 refl)
 
 pub working-days-after-20-may : workingBetween 7810 7815 ≡ 1
 unfolding calendar workingDays

@@ -78,18 +78,15 @@ pub record Passed (day t : ℕ) (rs : List Row) (a : Answer) : Type 0 where
 
 pub dated : (day t : ℕ) (rs : List Row) (a : Answer) → isAccepted (firstOf ((isPast t ⇒ 20) ∷ (runsBack day t ⇒ 21) ∷ rs) a) ≡ true
     → Passed day t rs a
-dated day t rs a ok =
-    let k = pass (isPast t) 20 ((runsBack day t ⇒ 21) ∷ rs) a ok in
+dated day t rs a ok = let k = pass (isPast t) 20 ((runsBack day t ⇒ 21) ∷ rs) a ok in
     let l = pass (runsBack day t) 21 rs a (k .1) in
     record { calendar = ltb-false lastDay t (k .0); on = ltb-false t day (l .0); rest = l .1 }
 
 -- Where another day is given.
 pub dated-also : (day t : ℕ) (x : Bool) (rs : List Row) (a : Answer)
     → isAccepted (firstOf ((isPast t || x ⇒ 20) ∷ (runsBack day t ⇒ 21) ∷ rs) a) ≡ true → (x ≡ false) × Passed day t rs a
-dated-also day t x rs a ok =
-    let k = pass (isPast t || x) 20 ((runsBack day t ⇒ 21) ∷ rs) a ok in
-    let l = pass (runsBack day t) 21 rs a (k .1) in
-    let n = neither (isPast t) x (k .0) in
+dated-also day t x rs a ok = let k = pass (isPast t || x) 20 ((runsBack day t ⇒ 21) ∷ rs) a ok in
+    let l = pass (runsBack day t) 21 rs a (k .1) in let n = neither (isPast t) x (k .0) in
     (n .1, record { calendar = ltb-false lastDay t (n .0); on = ltb-false t day (l .0); rest = l .1 })
 
 module _ (S : Settings) (day : ℕ) (u : List Bool) (t : ℕ) where
@@ -98,13 +95,11 @@ module _ (S : Settings) (day : ℕ) (u : List Bool) (t : ℕ) where
       → (t ≤ lastDay) × (day ≤ t) × (notPoint p ≡ false)
   unfolding rowsAt
   passed-at p (PointAction.Enrol b a x) v _ ok = let k = dated day t _ _ (pass _ _ _ _ ok .1) in (k .calendar, k .on, pass _ _ _ _ (k .rest) .0)
-  passed-at p (PointAction.IntoService s k) v _ ok =
-      let k = dated day t _ _ (pass _ _ _ _ ok .1) in
+  passed-at p (PointAction.IntoService s k) v _ ok = let k = dated day t _ _ (pass _ _ _ _ ok .1) in
       (k .calendar, k .on, neither (notPoint p) _ (pass _ _ _ _ (pass _ _ _ _ (k .rest) .1) .0) .0)
   passed-at p (PointAction.DefaultSupply k) v _ ok =
       let k = dated-also day t _ _ _ (pass _ _ _ _ ok .1) .1 in (k .calendar, k .on, neither (notPoint p) _ (pass _ _ _ _ (k .rest) .0) .0)
-  passed-at p (PointAction.Request s k r) v _ ok =
-      let k = dated-also day t _ _ _ (pass _ _ _ _ ok .1) .1 in
+  passed-at p (PointAction.Request s k r) v _ ok = let k = dated-also day t _ _ _ (pass _ _ _ _ ok .1) .1 in
       (k .calendar, k .on, neither (notPoint p) _ (pass _ _ _ _ (pass _ _ _ _ (k .rest) .1) .0) .0)
   passed-at p (PointAction.Cancel s) v _ ok =
       let k = dated day t _ _ (pass _ _ _ _ ok .1) in (k .calendar, k .on, neither (notPoint p) _ (pass _ _ _ _ (k .rest) .0) .0)
@@ -129,7 +124,5 @@ module _ (S : Settings) (day : ℕ) (u : List Bool) (t : ℕ) where
   pub accepted-point : (p : ℕ) (a : PointAction) (v : ℕ → View) → isAccepted (answerTo S day u t (Action.At p a) v) ≡ true
       → (t ≤ lastDay) × (1 ≤ p) × (p ≤ 32)
   unfolding answerTo rows
-  accepted-point p a v ok =
-      let w = passed-at p a (v p) _ ok in
-      let k = neither (ltb p 1) (ltb 32 p) (w .2) in
+  accepted-point p a v ok = let w = passed-at p a (v p) _ ok in let k = neither (ltb p 1) (ltb 32 p) (w .2) in
       (w .0, ltb-false p 1 (k .0), ltb-false 32 p (k .1))

@@ -11,6 +11,5 @@ array-share-prefix-out : tie.Need-array-share-prefix-out
 array-share-prefix-out c = appended-within (c .before .put-reply .ensures) (omega arith)
 
 pub answer-one-spec : {M : Type 1} → statement M
-answer-one-spec =
-    tie.close (tie.spec (λ c. search needs) (λ c κs. search needs) array-share-prefix-out
+answer-one-spec = tie.close (tie.spec (λ c. search needs) (λ c κs. search needs) array-share-prefix-out
     (λ c. sym (length-take-le _ _ (array-share-prefix-out (c .before)))) (λ c κs. search needs) (λ c. search needs))

@@ -8,12 +8,8 @@ use Rattle.ask_lines.proofs.put_date.Statement.{statement}
 use Rattle.ask_lines.proofs.put_date.Tie as tie
 
 returns : tie.Need-returns
-returns c =
-    let k = c .before .before in
-    let d = k .before .before .before .before in
-    let a = d .before .before .before .args in
-    let eight = day-length (a .day) in
-    rw (day-append (a .day) (a .end ∷ []))
+returns c = let k = c .before .before in let d = k .before .before .before .before in
+    let a = d .before .before .before .args in let eight = day-length (a .day) in rw (day-append (a .day) (a .end ∷ []))
     (within-more 8 1 (within (d .put-day .ensures) (omega arith)) (within (k .put-byte .ensures) (omega arith)) (omega arith))
 
 pub put-date-spec : {M : Type 1} → statement M

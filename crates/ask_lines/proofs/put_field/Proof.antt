@@ -9,11 +9,8 @@ use Rattle.ask_lines.proofs.put_field.Statement.{statement}
 use Rattle.ask_lines.proofs.put_field.Tie as tie
 
 returns : tie.Need-returns
-returns c =
-    let k = c .before .before in
-    let n = k .before .before .before .before in
-    let a = n .before .before .before .args in
-    rw (decimal-append (a .v) (a .end ∷ []))
+returns c = let k = c .before .before in let n = k .before .before .before .before in
+    let a = n .before .before .before .args in rw (decimal-append (a .v) (a .end ∷ []))
     (within-more 20 1 (within (n .put-number .ensures) (digits-few (a .v) (omega arith)))
     (within (k .put-byte .ensures) (omega arith)) (omega arith))
 

@@ -5,8 +5,7 @@ use Rattle.ask_lines.proofs.put_holder.Statement.{statement}
 use Rattle.ask_lines.proofs.put_holder.Tie as tie
 
 pub put-holder-spec : {M : Type 1} → statement M
-put-holder-spec =
-    tie.close (tie.spec (λ c. search needs) (λ c. search needs) (λ c κs. search needs) (λ c. search needs)
+put-holder-spec = tie.close (tie.spec (λ c. search needs) (λ c. search needs) (λ c κs. search needs) (λ c. search needs)
     (λ c κs. search needs) (λ c. search needs)
     (λ c. let k = c .before .before in unfold holderReply in rw (k .before .before .before .answer .given .1) (k .put-ok .ensures))
     (λ c. search needs)

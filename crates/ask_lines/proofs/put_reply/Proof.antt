@@ -12,14 +12,10 @@ array-share-prefix-text : tie.Need-array-share-prefix-text
 array-share-prefix-text c = appended-within (c .before .before .put-answer .ensures .text) (omega arith)
 
 returns : tie.Need-returns
-returns c =
-    let c₂ = c .before .before in
-    let w = c₂ .before .before .before .before .put-answer .ensures in
-    let s = w .short in
-    rw (appended-take 0 _ _ _ _ (w .text) (omega arith)) at (c₂ .put-word .ensures)
+returns c = let c₂ = c .before .before in let w = c₂ .before .before .before .before .put-answer .ensures in
+    let s = w .short in rw (appended-take 0 _ _ _ _ (w .text) (omega arith)) at (c₂ .put-word .ensures)
 
 pub put-reply-spec : {M : Type 1} → statement M
-put-reply-spec =
-    tie.close (tie.spec (λ c. search needs) (λ c κs. search needs) array-share-prefix-text
+put-reply-spec = tie.close (tie.spec (λ c. search needs) (λ c κs. search needs) array-share-prefix-text
     (λ c. sym (length-take-le _ _ (array-share-prefix-text (c .before)))) (λ c κs. search needs) (λ c. search needs)
     returns)

@@ -6,10 +6,8 @@ use Rattle.ask_words.proofs.asked_by.Statement.{statement}
 use Rattle.ask_words.proofs.asked_by.Tie as tie
 
 pub asked-by-spec : {M : Type 1} → statement M
-asked-by-spec =
-    tie.close (tie.spec (λ c κs. search needs)
+asked-by-spec = tie.close (tie.spec (λ c κs. search needs)
     (λ c. unfold askedBy in rw (c .before .if1 .taken) (c .by-one .ensures)) (λ c κs. search needs)
     (λ c. unfold askedBy in rw (c .before .if2 .taken) (c .by-two .ensures)) (λ c κs. search needs)
-    (λ c. unfold askedBy in rw (c .before .if3 .taken) (c .by-three .ensures))
-    (λ c. unfold askedBy in
+    (λ c. unfold askedBy in rw (c .before .if3 .taken) (c .by-three .ensures)) (λ c. unfold askedBy in
     rw (ne-eqb _ 1 (c .before .before .if1 .left), ne-eqb _ 2 (c .before .if2 .left), ne-eqb _ 3 (c .if3 .left))))

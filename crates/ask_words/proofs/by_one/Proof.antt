@@ -5,7 +5,6 @@ use Rattle.ask_words.proofs.by_one.Statement.{statement}
 use Rattle.ask_words.proofs.by_one.Tie as tie
 
 pub by-one-spec : {M : Type 1} → statement M
-by-one-spec =
-    tie.close (tie.spec (λ c. search needs) (λ c κs. search needs)
+by-one-spec = tie.close (tie.spec (λ c. search needs) (λ c κs. search needs)
     (λ c. unfold byOne in rw (← (c .before .same .ensures), c .if1 .taken))
     (λ c. unfold byOne in rw (← (c .before .same .ensures), c .if1 .left)))

@@ -12,9 +12,7 @@ use Rattle.ask_words.proofs.date_value.Tie as tie
 
 returns : tie.Need-returns
 unfolding dateValue
-returns c =
-    let c₃ = c .before .before .before in
-    let w = c₃ .args .word .now in
+returns c = let c₃ = c .before .before .before in let w = c₃ .args .word .now in
     c .whole .ensures ∙ ap (wholeOf (length w)) (c .before .date-at .ensures) ∙ whole-value w (dayIn w) (day-leaves w)
 
 pub date-value-spec : {M : Type 1} → statement M

@@ -12,9 +12,7 @@ use Rattle.ask_words.proofs.number_value.Tie as tie
 
 returns : tie.Need-returns
 unfolding numberValue
-returns c =
-    let c₃ = c .before .before .before in
-    let w = c₃ .args .word .now in
+returns c = let c₃ = c .before .before .before in let w = c₃ .args .word .now in
     c .whole .ensures ∙ ap (wholeOf (length w)) (c .before .number-at .ensures) ∙ whole-value w (numberOf w) (number-leaves w)
 
 pub number-value-spec : {M : Type 1} → statement M

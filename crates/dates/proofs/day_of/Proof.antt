@@ -7,8 +7,7 @@ use Rattle.dates.proofs.day_of.Statement.{statement}
 use Rattle.dates.proofs.day_of.Tie as tie
 
 returns-6 : tie.Need-returns-6
-returns-6 c =
-    let long = rw (c .before .before .leap-row .ensures .0) at (c .before .length .ensures .0) in
+returns-6 c = let long = rw (c .before .before .leap-row .ensures .0) at (c .before .length .ensures .0) in
     sym (no-date _ _ _ (λ r. omega arith))
 
 returns-7 : tie.Need-returns-7
@@ -22,8 +21,7 @@ returns-7 c =
       month-to-12 = omega arith;
       day-from-1 = omega arith;
       day-to-last = omega arith;
-    } in
-    found _ _ _ _ real (c .day-number .ensures .0)
+    } in found _ _ _ _ real (c .day-number .ensures .0)
 
 pub day-of-spec : {M : Type 1} → statement M
 day-of-spec =

@@ -18,24 +18,15 @@ abbrev μ-loop : tie.MeasureT-loop
 μ-loop first last count₀ d₀ count d = last + 1 - d
 
 loop-again : tie.Need-loop-again Inv-loop μ-loop
-loop-again c =
-    let d = c .before .before .before .loop .d in
-    let step = walk-step d (c .before .before .before .before .args .last) (omega arith) in
-    ⊎-elim (λ w.
-    let e : isWorking d ≡ true = sym (c .before .is-working .ensures) ∙ w .0 .taken in
-    let s = rw e at step in
-    omega arith) (λ w.
-    let e : isWorking d ≡ false = sym (c .before .is-working .ensures) ∙ w .0 .left in
-    let s = rw e at step in
-    omega arith)
-    (c .if1 .came)
+loop-again c = let d = c .before .before .before .loop .d in
+    let step = walk-step d (c .before .before .before .before .args .last) (omega arith) in ⊎-elim (λ w.
+    let e : isWorking d ≡ true = sym (c .before .is-working .ensures) ∙ w .0 .taken in let s = rw e at step in
+    omega arith) (λ w. let e : isWorking d ≡ false = sym (c .before .is-working .ensures) ∙ w .0 .left in
+    let s = rw e at step in omega arith) (c .if1 .came)
 
 returns : tie.Need-returns Inv-loop μ-loop
-returns c =
-    let none = walk-end (c .before .loop .d) (c .before .before .args .last) (omega arith) in
-    omega arith
+returns c = let none = walk-end (c .before .loop .d) (c .before .before .args .last) (omega arith) in omega arith
 
 pub count-working-spec : {M : Type 1} → statement M
-count-working-spec =
-    tie.close (tie.spec Inv-loop μ-loop (λ c. search needs) (λ c κs. search needs) (λ c. search needs)
+count-working-spec = tie.close (tie.spec Inv-loop μ-loop (λ c. search needs) (λ c κs. search needs) (λ c. search needs)
     (λ c. search needs) (λ c. search needs) loop-again returns)

@@ -5,6 +5,5 @@ use Rattle.holidays.proofs.falls_on.Statement.{statement}
 use Rattle.holidays.proofs.falls_on.Tie as tie
 
 pub falls-on-spec : {M : Type 1} → statement M
-falls-on-spec =
-    tie.close (tie.spec (λ c. unfold fallsOn in simp (ne-eqb _ _ (c .if1 .taken)))
+falls-on-spec = tie.close (tie.spec (λ c. unfold fallsOn in simp (ne-eqb _ _ (c .if1 .taken)))
     (λ c. unfold fallsOn in simp (eq-eqb _ _ (c .before .before .if1 .left))))

@@ -30,19 +30,15 @@ returns-2 c =
     rw easter (sym (first-day _ _ (c .if1 .taken)))
 
 returns-3 : tie.Need-returns-3
-returns-3 c =
-    let easter = sym (c .before .before .before .before .before .easter-day .ensures) ∙
+returns-3 c = let easter = sym (c .before .before .before .before .before .easter-day .ensures) ∙
     c .before .before .before .answer .given .1 in
     rw easter (sym (second-day _ _ (c .before .if1 .left) (c .if2 .taken)))
 
 returns-4 : tie.Need-returns-4
-returns-4 c =
-    let easter = sym (c .before .before .before .before .before .easter-day .ensures) ∙
-    c .before .before .before .answer .given .1 in
-    rw easter (sym (third-day _ _ (c .before .if1 .left) (c .if2 .left)))
+returns-4 c = let easter = sym (c .before .before .before .before .before .easter-day .ensures) ∙
+    c .before .before .before .answer .given .1 in rw easter (sym (third-day _ _ (c .before .if1 .left) (c .if2 .left)))
 
 pub is-after-easter-spec : {M : Type 1} → statement M
-is-after-easter-spec =
-    tie.close (tie.spec (λ c κs. search needs) (λ c. search needs) (λ c. search needs)
+is-after-easter-spec = tie.close (tie.spec (λ c κs. search needs) (λ c. search needs) (λ c. search needs)
     (λ c. unfold isAfterEaster in rw (sym (c .before .before .easter-day .ensures) ∙ c .enum-told .given .1))
     (λ c. search needs) (λ c. search needs) returns-2 (λ c. search needs) returns-3 (λ c. search needs) returns-4)

@@ -17,21 +17,18 @@ abbrev μ-loop : tie.MeasureT-loop
 
 returns : tie.Need-returns Inv-loop μ-loop
 unfolding isFixedHoliday
-returns c =
-    let loop = c .before .before .before .before .loop in
+returns c = let loop = c .before .before .before .before .loop in
     let met = sym (c .before .falls-on .ensures) ∙ c .if1 .taken in
     sym (loop .inv .1 ∙ row-met fixedHolidays (loop .i) _ _ (search needs) met)
 
 loop-again : tie.Need-loop-again Inv-loop μ-loop
-loop-again c =
-    let loop = c .before .before .before .before .loop in
+loop-again c = let loop = c .before .before .before .before .loop in
     let passed = sym (c .before .falls-on .ensures) ∙ c .if1 .left in
     (search needs, loop .inv .1 ∙ row-passed fixedHolidays (loop .i) _ _ (search needs) passed)
 
 returns-2 : tie.Need-returns-2 Inv-loop μ-loop
 unfolding isFixedHoliday
-returns-2 c =
-    let end : c .before .loop .i ≡ 8 = omega arith in
+returns-2 c = let end : c .before .loop .i ≡ 8 = omega arith in
     sym (c .before .loop .inv .1 ∙ ap (λ (n : ℕ). anyFallsOn (drop n fixedHolidays) (c .before .before .args .x)) end)
 
 pub is-fixed-holiday-spec : {M : Type 1} → statement M

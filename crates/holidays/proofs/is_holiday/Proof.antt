@@ -13,18 +13,14 @@ returns c = rw (lt-leb _ _ (answer-off _ (sym (c .before .before .date-of .ensur
 
 returns-2 : tie.Need-returns-2
 unfolding isHoliday isHolidayOn
-returns-2 c =
-    let date = sym (c .before .before .before .before .before .date-of .ensures) ∙
-    c .before .before .before .answer .given .1 in
-    let on = answer-on _ _ date in
+returns-2 c = let date = sym (c .before .before .before .before .before .date-of .ensures) ∙
+    c .before .before .before .answer .given .1 in let on = answer-on _ _ date in
     rw (le-leb _ _ (on .0), ← on .1, ← c .before .is-fixed-holiday .ensures, c .if1 .taken)
 
 returns-3 : tie.Need-returns-3
 unfolding isHoliday isHolidayOn
-returns-3 c =
-    let date = sym (c .before .before .before .before .before .before .before .date-of .ensures) ∙
-    c .before .before .before .before .before .answer .given .1 in
-    let on = answer-on _ _ date in
+returns-3 c = let date = sym (c .before .before .before .before .before .before .before .date-of .ensures) ∙
+    c .before .before .before .before .before .answer .given .1 in let on = answer-on _ _ date in
     let fixed = c .before .before .before .is-fixed-holiday .ensures in
     rw (le-leb _ _ (on .0), ← on .1, ← fixed, c .before .before .if1 .left, c .is-after-easter .ensures)
 

@@ -5,6 +5,5 @@ use borrow.Author.Tests.{eq-eqb, ne-eqb}
 use native.Mathlib.Omega.{arith}
 
 pub fewer-spec : {M : Type 1} → statement M
-fewer-spec =
-    tie.close (tie.spec (λ c. rw (eq-eqb _ _ ((c .before .if1) .taken)) (omega arith)) (λ c. search needs)
+fewer-spec = tie.close (tie.spec (λ c. rw (eq-eqb _ _ ((c .before .if1) .taken)) (omega arith)) (λ c. search needs)
     (λ c. rw (eq-eqb _ _ ((c .before .if1) .taken))) (λ c. rw (ne-eqb _ _ ((c .if1) .left))))

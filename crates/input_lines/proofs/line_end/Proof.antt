@@ -16,32 +16,28 @@ abbrev μ-loop : tie.MeasureT-loop
 μ-loop piece at i₀ i = length piece - i
 
 returns : tie.Need-returns Inv-loop μ-loop
-returns c =
-    omega (
-      arith,
-      (c .before .before .before .loop) .inv,
-      until-here ((c .before .before .before .before) .args .piece .now)
-          ((c .before .before .before .loop) .i) (omega arith) ((c .if1) .taken),
-    )
+returns c = omega (
+  arith,
+  (c .before .before .before .loop) .inv,
+  until-here ((c .before .before .before .before) .args .piece .now)
+      ((c .before .before .before .loop) .i) (omega arith) ((c .if1) .taken),
+)
 
 loop-again : tie.Need-loop-again Inv-loop μ-loop
-loop-again c =
-    rw (add-one ((c .before .before .before .loop) .i)) (omega (
-      arith,
-      (c .before .before .before .loop) .inv,
-      until-later ((c .before .before .before .before) .args .piece .now) ((c .before .before .before .loop) .i) (omega arith) ((c .if1) .left),
-    ))
+loop-again c = rw (add-one ((c .before .before .before .loop) .i)) (omega (
+  arith,
+  (c .before .before .before .loop) .inv,
+  until-later ((c .before .before .before .before) .args .piece .now) ((c .before .before .before .loop) .i) (omega arith) ((c .if1) .left),
+))
 
 returns-2 : tie.Need-returns-2 Inv-loop μ-loop
-returns-2 c =
-    omega (
-      arith,
-      (c .before .loop) .inv,
-      until-le (drop ((c .before .loop) .i) ((c .before .before) .args .piece .now)),
-      length-drop ((c .before .loop) .i) ((c .before .before) .args .piece .now),
-    )
+returns-2 c = omega (
+  arith,
+  (c .before .loop) .inv,
+  until-le (drop ((c .before .loop) .i) ((c .before .before) .args .piece .now)),
+  length-drop ((c .before .loop) .i) ((c .before .before) .args .piece .now),
+)
 
 pub line-end-spec : {M : Type 1} → statement M
-line-end-spec =
-    tie.close (tie.spec Inv-loop μ-loop (λ c. refl) (λ c. search needs) returns (λ c. search needs)
+line-end-spec = tie.close (tie.spec Inv-loop μ-loop (λ c. refl) (λ c. search needs) returns (λ c. search needs)
     (λ c. search needs) loop-again returns-2)

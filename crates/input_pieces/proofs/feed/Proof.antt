@@ -1,36 +1,29 @@
-use borrow.Author.Needs.{needs}
-use Rattle.input_pieces.proofs.feed.Statement.{statement}
-use Rattle.input_pieces.proofs.feed.Tie as tie
+-- As much of the piece as there is room for.
 use Prim.Native.Nat.{_/_}
 use mathlib.Core.Path.{sym}
 use lib.ListN.{length}
 use lib.Seq.{length-take-le}
 use native.Mathlib.Omega.{arith}
+use Rattle.line_answers.specs.Answers.{longestAnswer}
 use Rattle.input_lines.proofs.Feeds.{fitting-le}
-use Rattle.input_pieces.proofs.Turns.{taken-room, piece-fed}
+use Rattle.input_pieces.proofs.Turns.{taken-room}
+use borrow.Author.Needs.{needs}
+use Rattle.input_pieces.proofs.feed.Statement.{statement}
+use Rattle.input_pieces.proofs.feed.Tie as tie
 
 slice-aggregate-answer-lines : tie.Need-slice-aggregate-answer-lines
-slice-aggregate-answer-lines c =
-    sym (length-take-le ((c .before .fitting) .result) ((c .before .before .before .before) .args .piece .now)
-    (omega (
-      arith,
-      (c .before .fitting) .ensures,
-      fitting-le (length ((c .before .before .before .before) .args .out .now) / 24)
-          ((c .before .before .before .before) .args .piece .now),
-    )))
+slice-aggregate-answer-lines c = let fits = c .before .fitting in
+    let a = c .before .before .before .before .before .before .before .before .before .before .args in
+    sym (length-take-le (fits .result) (a .piece .now) (omega (arith, fits .ensures, fitting-le (length (a .out .now) / longestAnswer) (a .piece .now))))
 
 answer-lines-requires : tie.Need-answer-lines-requires
-answer-lines-requires c κs =
-    taken-room ((c .before .before .before .before .before) .args .piece .now) ((c .before .before .before .before .before) .args .out .now)
-    ((c .before .before .fitting) .result) ((c .before .before .fitting) .ensures)
+answer-lines-requires c κs = let fits = c .before .before .fitting in
+    let a = c .before .before .before .before .before .before .before .before .before .before .before .args in
+    taken-room (a .piece .now) (a .out .now) (fits .result) (fits .ensures)
 
 returns : tie.Need-returns
-returns c =
-    piece-fed ((c .before .before .before .before .before .before .before .before .before) .args .s)
-    ((c .before .before .before .before .before .before .before .before .before) .args .piece .now)
-    ((c .before .before .before .before .before .before .before .before .before) .args .out .now) _
-    ((c .before .before .before .before .before .before .fitting) .result) ((c .before .before .before .answer-lines) .result)
-    ((c .before .before .before .before .before .before .fitting) .ensures) ((c .before .before .before .answer-lines) .ensures)
+returns c = let fits = c .before .before .before .before .before .before .fitting in
+    record { taken = fits .ensures; runs = rw (← (fits .ensures)) (c .before .before .before .answer-lines .ensures) }
 
 pub feed-spec : {M : Type 1} → statement M
 feed-spec =

@@ -1,19 +1,17 @@
+-- The closing lines, where a register is open.
+use Rattle.input_pieces.specs.Session.{deskOf}
+use Rattle.input_whole.proofs.Ends.{closed-ready, closed-unready}
 use borrow.Author.Needs.{needs}
 use Rattle.input_whole.proofs.close.Statement.{statement}
 use Rattle.input_whole.proofs.close.Tie as tie
-use Rattle.input_whole.proofs.Ends.{closed-ready, closed-unready}
 
 returns : tie.Need-returns
-returns c =
-    closed-ready ((c .before .before .before .before .before .before .before .before) .args .s .desk)
-    ((c .before .before .before .before .before .before .before .before) .args .from)
-    ((c .before .before .before .before .before .before .before .before) .args .out .now) _ ((c .before .before .put-listing) .result)
-    ((c .before .before .before .before .before .if1) .taken) ((c .before .before .put-listing) .ensures)
+returns c = let a = c .before .before .before .before .before .before .before .before .args in
+    closed-ready (deskOf (a .s)) (a .from) (a .out .now) _ (c .before .before .put-listing .result) (c .before .before .before .before .before .before .if1 .taken)
+    (rw (c .before .before .before .before .before .desk-of .ensures) at (c .before .before .put-listing .ensures))
 
 returns-2 : tie.Need-returns-2
-returns-2 c =
-    closed-unready ((c .before .before .before) .args .s .desk) ((c .before .before .before) .args .from) ((c .before .before .before) .args .out .now)
-    ((c .if1) .left)
+returns-2 c = let a = c .before .before .args in closed-unready (deskOf (a .s)) (a .from) (a .out .now) (c .if1 .left)
 
 pub close-spec : {M : Type 1} → statement M
-close-spec = tie.close (tie.spec (λ c κs. search needs) (λ c. search needs) returns returns-2)
+close-spec = tie.close (tie.spec (λ c κs. search needs) (λ c κs. search needs) (λ c. search needs) returns returns-2)

@@ -7,20 +7,15 @@ use Rattle.line_answers.proofs.answer_size.Statement.{statement}
 use Rattle.line_answers.proofs.answer_size.Tie as tie
 
 add-result : tie.Need-add-result
-add-result c =
-    let c₃ = c .before .before .before in
-    let few = digits-few (c₃ .before .args .n) (omega arith) in
+add-result c = let c₃ = c .before .before .before in let few = digits-few (c₃ .before .args .n) (omega arith) in
     omega (arith, c .before .digit-count .ensures, word-long (c₃ .before .args .shown) _ (c₃ .row-of .ensures) .1)
 
 add-result-2 : tie.Need-add-result-2
-add-result-2 c =
-    let c₃ = c .before .before .before in
-    let few = digits-few (c₃ .before .args .n) (omega arith) in
+add-result-2 c = let c₃ = c .before .before .before in let few = digits-few (c₃ .before .args .n) (omega arith) in
     omega (arith, c .before .digit-count .ensures, word-long (c₃ .before .args .shown) _ (c₃ .row-of .ensures) .1)
 
 returns : tie.Need-returns
-returns c =
-    let c₃ = c .before .before .before in
+returns c = let c₃ = c .before .before .before in
     omega (arith, c .before .digit-count .ensures, word-long (c₃ .before .args .shown) _ (c₃ .row-of .ensures) .0)
 
 pub answer-size-spec : {M : Type 1} → statement M

@@ -6,8 +6,7 @@ use Rattle.line_answers.proofs.day_shown.Statement.{statement}
 use Rattle.line_answers.proofs.day_shown.Tie as tie
 
 pub day-shown-spec : {M : Type 1} → statement M
-day-shown-spec =
-    tie.close (tie.spec (λ c. search needs) (λ c. search needs) (λ c. search needs) (λ c. search needs)
+day-shown-spec = tie.close (tie.spec (λ c. search needs) (λ c. search needs) (λ c. search needs) (λ c. search needs)
     (λ c. search needs) (λ c. search needs) (λ c. unfold dateAnswer fixed in rw (c .enum-told .given .1))
     (λ c. rw (c .before .answer .given .1)) (λ c. unfold dateAnswer fixed in rw (c .enum-told2 .given .1))
     (λ c. rw (c .before .answer2 .given .1)))

@@ -14,31 +14,21 @@ use Rattle.line_answers.proofs.put_period.Statement.{statement}
 use Rattle.line_answers.proofs.put_period.Tie as tie
 
 returns : tie.Need-returns
-returns c =
-    let a = c .before .before .before .before .before .args in
+returns c = let a = c .before .before .before .before .before .args in
     not-appended (a .at) (periodLine (a .point) (a .period)) (a .out .now) (omega (arith, c .before .period-size .ensures))
 
 returns-2 : tie.Need-returns-2
-returns-2 c =
-    let a = c .before .before .before .before .before .before .args in
+returns-2 c = let a = c .before .before .before .before .before .before .args in
     not-appended (a .at) (periodLine (a .point) (a .period)) (a .out .now) (omega (arith, c .before .before .period-size .ensures))
 
 returns-3 : tie.Need-returns-3
-returns-3 c =
-    let c₂ = c .before .before in
-    let c₆ = c₂ .before .before .before .before in
-    let c₁₀ = c₆ .before .before .before .before in
-    let c₁₄ = c₁₀ .before .before .before .before in
-    let c₁₈ = c₁₄ .before .before .before .before in
-    let c₂₂ = c₁₈ .before .before .before .before in
-    let c₂₆ = c₂₂ .before .before .before .before in
-    let c₃₀ = c₂₆ .before .before .before .before in
-    let c₃₄ = c₃₀ .before .before .before .before in
-    let a = c₃₄ .before .before .before .before .args in
-    let pieces = period-pieces (a .point) (a .period) in
-    let t = periodPieces (a .point) (a .period) in
-    let o = a .out .now in
-    let fits : a .at + length t ≤ length o =
+returns-3 c = let c₂ = c .before .before in let c₆ = c₂ .before .before .before .before in
+    let c₁₀ = c₆ .before .before .before .before in let c₁₄ = c₁₀ .before .before .before .before in
+    let c₁₈ = c₁₄ .before .before .before .before in let c₂₂ = c₁₈ .before .before .before .before in
+    let c₂₆ = c₂₂ .before .before .before .before in let c₃₀ = c₂₆ .before .before .before .before in
+    let c₃₄ = c₃₀ .before .before .before .before in let a = c₃₄ .before .before .before .before .args in
+    let pieces = period-pieces (a .point) (a .period) in let t = periodPieces (a .point) (a .period) in
+    let o = a .out .now in let fits : a .at + length t ≤ length o =
     omega (arith, ap length pieces, c₃₄ .period-size .ensures, c₃₀ .before .before .before .if1 .left, c₃₀ .before .before .if2 .left) in
     let s₀ = rest-start (a .at) t o fits in
     let s₁ = rest-next (a .at) t o _ (decimal (a .point) []) _ _ _ _ s₀ (c₃₀ .put-number .ensures) in

@@ -14,28 +14,19 @@ use Rattle.line_answers.proofs.put_total.Statement.{statement}
 use Rattle.line_answers.proofs.put_total.Tie as tie
 
 returns : tie.Need-returns
-returns c =
-    let a = c .before .before .before .args in
+returns c = let a = c .before .before .before .args in
     not-appended (a .at) (totalLine (a .point) (a .advance)) (a .out .now) (omega (arith, c .before .total-size .ensures))
 
 returns-2 : tie.Need-returns-2
-returns-2 c =
-    let a = c .before .before .before .before .args in
+returns-2 c = let a = c .before .before .before .before .args in
     not-appended (a .at) (totalLine (a .point) (a .advance)) (a .out .now) (omega (arith, c .before .before .total-size .ensures))
 
 returns-3 : tie.Need-returns-3
-returns-3 c =
-    let c₂ = c .before .before in
-    let c₆ = c₂ .before .before .before .before in
-    let c₁₀ = c₆ .before .before .before .before in
-    let c₁₄ = c₁₀ .before .before .before .before in
-    let c₁₈ = c₁₄ .before .before .before .before in
-    let c₂₂ = c₁₈ .before .before .before .before in
-    let a = c₂₂ .before .before .before .args in
-    let pieces = total-pieces (a .point) (a .advance) in
-    let t = totalPieces (a .point) (a .advance) in
-    let o = a .out .now in
-    let fits : a .at + length t ≤ length o =
+returns-3 c = let c₂ = c .before .before in let c₆ = c₂ .before .before .before .before in
+    let c₁₀ = c₆ .before .before .before .before in let c₁₄ = c₁₀ .before .before .before .before in
+    let c₁₈ = c₁₄ .before .before .before .before in let c₂₂ = c₁₈ .before .before .before .before in
+    let a = c₂₂ .before .before .before .args in let pieces = total-pieces (a .point) (a .advance) in
+    let t = totalPieces (a .point) (a .advance) in let o = a .out .now in let fits : a .at + length t ≤ length o =
     omega (arith, ap length pieces, c₂₂ .before .total-size .ensures, c₂₂ .if1 .left, c₁₈ .before .before .before .if2 .left) in
     let s₀ = rest-start (a .at) t o fits in
     let s₁ = rest-next (a .at) t o _ (ascii "total;") _ _ _ _ s₀ (c₁₈ .put-word .ensures) in
@@ -45,7 +36,6 @@ returns-3 c =
     rw pieces (rest-done (a .at) t o _ _ _ _ _ s₄ (c₂ .put-byte2 .ensures))
 
 pub put-total-spec : {M : Type 1} → statement M
-put-total-spec =
-    tie.close (tie.spec (λ c κs. search needs) returns (λ c. search needs) returns-2 (λ c. search needs)
+put-total-spec = tie.close (tie.spec (λ c κs. search needs) returns (λ c. search needs) returns-2 (λ c. search needs)
     (λ c κs. search needs) (λ c κs. search needs) (λ c κs. search needs) (λ c κs. search needs) (λ c κs. search needs)
     (λ c. search needs) returns-3)

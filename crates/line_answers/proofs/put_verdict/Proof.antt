@@ -4,9 +4,7 @@ use Rattle.line_answers.proofs.put_verdict.Statement.{statement}
 use Rattle.line_answers.proofs.put_verdict.Tie as tie
 
 returns : tie.Need-returns
-returns c =
-    let c₂ = c .before .before in
-    let c₅ = c₂ .before .before .before in
+returns c = let c₂ = c .before .before in let c₅ = c₂ .before .before .before in
     rw (c₅ .verdict-of .ensures) at (c₂ .put-word .ensures)
 
 pub put-verdict-spec : {M : Type 1} → statement M

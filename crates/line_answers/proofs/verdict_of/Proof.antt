@@ -4,7 +4,6 @@ use Rattle.line_answers.proofs.verdict_of.Statement.{statement}
 use Rattle.line_answers.proofs.verdict_of.Tie as tie
 
 pub verdict-of-spec : {M : Type 1} → statement M
-verdict-of-spec =
-    tie.close (tie.spec (λ c. search needs) (λ c. search needs) (λ c. search needs) (λ c. search needs)
+verdict-of-spec = tie.close (tie.spec (λ c. search needs) (λ c. search needs) (λ c. search needs) (λ c. search needs)
     (λ c. rw (c .enum-told .given .1)) (λ c. rw (c .enum-told2 .given .1)) (λ c. rw (c .enum-told3 .given .1))
     (λ c. rw (c .enum-told4 .given .1)))

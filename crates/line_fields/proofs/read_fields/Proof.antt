@@ -24,27 +24,18 @@ abbrev μ-loop : tie.MeasureT-loop
 μ-loop line from values₀ count second known₀ at₀ i₀ values known at i = count - i
 
 returns : tie.Need-returns Inv-loop μ-loop
-returns c =
-    let a = c .before .before .before .args in
+returns c = let a = c .before .before .before .args in
     all-handed (a .last) (a .shape) (a .from) (a .line .now) (replicate 7 0) (a .from) 0 false (a .last)
     (too-many (a .last) (a .shape) _ (c .if1 .taken)) (within-self (a .line .now) (a .from)) (omega arith) refl refl
 
 loop-holds : tie.Need-loop-holds Inv-loop μ-loop
-loop-holds c =
-    let c₃ = c .before .before .before in
-    let a = c₃ .args in
-    let n = a .shape .count in
+loop-holds c = let c₃ = c .before .before .before in let a = c₃ .args in let n = a .shape .count in
     let all : n - 0 ≡ n = omega arith in
     (omega arith, omega arith, refl, within-self (a .line .now) (a .from), refl, rw all)
 
 returns-2 : tie.Need-returns-2 Inv-loop μ-loop
-returns-2 c =
-    let c₂ = c .before .before in
-    let c₃ = c₂ .before in
-    let c₅ = c₃ .before .before in
-    let c₉ = c₅ .before .before .before .before in
-    let a = c₉ .args in
-    let l = c₅ .loop in
+returns-2 c = let c₂ = c .before .before in let c₃ = c₂ .before in let c₅ = c₃ .before .before in
+    let c₉ = c₅ .before .before .before .before in let a = c₉ .args in let l = c₅ .loop in
     let e = field-was-none (a .line .now) (l .at) (l .known) _ _ (rw (c₃ .sort-at .ensures) at (c₂ .field-at .ensures))
     (c .enum-told .given .1) in
     all-handed (a .last) (a .shape) (a .from) (a .line .now) (l .values) (l .at) (l .i) false (l .known)
@@ -53,15 +44,9 @@ returns-2 c =
     (l .inv .3) (omega arith) (l .inv .2) (l .inv .4)
 
 loop-again : tie.Need-loop-again Inv-loop μ-loop
-loop-again c =
-    let c₃ = c .before .before .before in
-    let c₄ = c₃ .before in
-    let c₆ = c₄ .before .before in
-    let c₁₀ = c₆ .before .before .before .before in
-    let a = c₁₀ .args in
-    let l = c₆ .loop in
-    let v = c .before .v .given .0 .0 in
-    let here : l .i < length (l .values) = omega arith in
+loop-again c = let c₃ = c .before .before .before in let c₄ = c₃ .before in let c₆ = c₄ .before .before in
+    let c₁₀ = c₆ .before .before .before .before in let a = c₁₀ .args in let l = c₆ .loop in
+    let v = c .before .v .given .0 .0 in let here : l .i < length (l .values) = omega arith in
     let f = field-was (a .line .now) (l .at) (l .known) _ _ (rw (c₄ .sort-at .ensures) at (c₃ .field-at .ensures))
     _ _ _ (c .before .v .given .1) in (
       omega arith,
@@ -74,17 +59,13 @@ loop-again c =
     )
 
 returns-3 : tie.Need-returns-3 Inv-loop μ-loop
-returns-3 c =
-    let c₅ = c .before .before .before .before .before in
-    let a = c₅ .args in
-    let l = c .before .loop in
+returns-3 c = let c₅ = c .before .before .before .before .before in let a = c₅ .args in let l = c .before .loop in
     all-handed (a .last) (a .shape) (a .from) (a .line .now) (l .values) (l .at) (l .i) true (l .known)
     (fields-in-is (a .last) (a .shape) _ (omega arith) ∙ l .inv .5 ∙
     fields-done (l .known) (a .shape .second) (a .shape .count) (l .i) _ _ (omega arith))
     (l .inv .3) (omega arith) (l .inv .2) (l .inv .4)
 
 pub read-fields-spec : {M : Type 1} → statement M
-read-fields-spec =
-    tie.close (tie.spec Inv-loop μ-loop returns loop-holds (λ c κs. search needs) (λ c κs. search needs)
+read-fields-spec = tie.close (tie.spec Inv-loop μ-loop returns loop-holds (λ c κs. search needs) (λ c κs. search needs)
     (λ c. search needs) (λ c. search needs) returns-2 (λ c. search needs) (λ c. search needs) (λ c. search needs)
     (λ c. search needs) loop-again returns-3)

@@ -5,13 +5,11 @@ use Rattle.line_fields.proofs.sort_at.Statement.{statement}
 use Rattle.line_fields.proofs.sort_at.Tie as tie
 
 returns-2 : tie.Need-returns-2
-returns-2 c =
-    let a = c .before .before .args in
+returns-2 c = let a = c .before .before .args in
     rw (ne-eqb (a .i) 0 (omega arith), eq-eqb (a .i) (a .second) (omega arith))
 
 returns-3 : tie.Need-returns-3
-returns-3 c =
-    let a = c .before .before .args in
+returns-3 c = let a = c .before .before .args in
     rw (ne-eqb (a .i) 0 (omega arith), ne-eqb (a .i) (a .second) (omega arith))
 
 pub sort-at-spec : {M : Type 1} → statement M

@@ -7,19 +7,15 @@ use Rattle.line_kinds.proofs.is_word.Statement.{statement}
 use Rattle.line_kinds.proofs.is_word.Tie as tie
 
 array-share-prefix-bytes : tie.Need-array-share-prefix-bytes
-array-share-prefix-bytes c =
-    let c₂ = c .before .before in
+array-share-prefix-bytes c = let c₂ = c .before .before in
     rw (c₂ .row-of .ensures) (sound (c₂ .before .before .args .kind) .inside)
 
 slice-aggregate-same : tie.Need-slice-aggregate-same
-slice-aggregate-same c =
-    let c₃ = c .before .before .before in
+slice-aggregate-same c = let c₃ = c .before .before .before in
     rw (c₃ .row-of .ensures) (sym (length-take-le _ _ (sound (c₃ .before .before .args .kind) .inside)))
 
 returns : tie.Need-returns
-returns c =
-    let c₄ = c .before .before .before .before in
-    rw (← (c₄ .row-of .ensures)) (c .same .ensures)
+returns c = let c₄ = c .before .before .before .before in rw (← (c₄ .row-of .ensures)) (c .same .ensures)
 
 pub is-word-spec : {M : Type 1} → statement M
 is-word-spec =

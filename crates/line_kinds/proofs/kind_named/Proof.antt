@@ -7,8 +7,7 @@ use Rattle.line_kinds.proofs.kind_named.Statement.{statement}
 use Rattle.line_kinds.proofs.kind_named.Tie as tie
 
 returns-8 : tie.Need-returns-8
-returns-8 c =
-    let r = c .match .rest in
+returns-8 c = let r = c .match .rest in
     sym (kind-of-none _ (r .0 .0 .0 .0 .0 .0 .1) (r .0 .0 .0 .0 .0 .1) (r .0 .0 .0 .0 .1) (r .0 .0 .0 .1) (r .0 .0 .1) (r .0 .1) (r .1))
 
 pub kind-named-spec : {M : Type 1} → statement M

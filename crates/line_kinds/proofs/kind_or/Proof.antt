@@ -5,6 +5,5 @@ use Rattle.line_kinds.proofs.kind_or.Statement.{statement}
 use Rattle.line_kinds.proofs.kind_or.Tie as tie
 
 pub kind-or-spec : {M : Type 1} → statement M
-kind-or-spec =
-    tie.close (tie.spec (λ c κs. search needs) (λ c. rw (sym (c .before .is-word .ensures) ∙ c .if1 .taken))
+kind-or-spec = tie.close (tie.spec (λ c κs. search needs) (λ c. rw (sym (c .before .is-word .ensures) ∙ c .if1 .taken))
     (λ c. rw (sym (c .before .is-word .ensures) ∙ c .if1 .left)))

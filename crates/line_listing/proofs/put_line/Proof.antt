@@ -7,10 +7,7 @@ use Rattle.line_listing.proofs.put_line.Statement.{statement}
 use Rattle.line_listing.proofs.put_line.Tie as tie
 
 returns : tie.Need-returns
-returns c =
-    let c₂ = c .before .before in
-    let c₅ = c₂ .before .before .before in
-    let a = c₅ .args in
+returns c = let c₂ = c .before .before in let c₅ = c₂ .before .before .before in let a = c₅ .args in
     record {
       text = c₂ .put-period .ensures;
       short = period-within (a .p) (period (a .start) (a .holder) (a .volume))

@@ -7,16 +7,11 @@ use Rattle.line_listing.proofs.put_listing.Statement.{statement}
 use Rattle.line_listing.proofs.put_listing.Tie as tie
 
 same-length : tie.Need-same-length
-same-length c =
-    let c₂ = c .before .before in
-    let c₄ = c₂ .before .before in
+same-length c = let c₂ = c .before .before in let c₄ = c₂ .before .before in
     within-length (c₂ .put-points .ensures) (omega (arith, c₄ .taken-from .ensures))
 
 returns : tie.Need-returns
-returns c =
-    let c₂ = c .before .before in
-    let c₄ = c₂ .before .before in
-    let c₇ = c₄ .before .before .before in
+returns c = let c₂ = c .before .before in let c₄ = c₂ .before .before in let c₇ = c₄ .before .before .before in
     listed (c₇ .args .r) (c₇ .args .from) (c₄ .taken-from .result) _ _ _ (c₄ .taken-from .ensures)
     (c₂ .put-points .ensures)
 

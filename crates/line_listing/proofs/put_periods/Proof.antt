@@ -24,12 +24,8 @@ loop-holds c = (
 )
 
 loop-again : tie.Need-loop-again Inv-loop μ-loop
-loop-again c =
-    let c₂ = c .before .before in
-    let c₆ = c₂ .before .before .before .before in
-    let c₈ = c₆ .before .before in
-    let a = c₈ .args in
-    let l = c₆ .loop in
+loop-again c = let c₂ = c .before .before in let c₆ = c₂ .before .before .before .before in
+    let c₈ = c₆ .before .before in let a = c₈ .args in let l = c₆ .loop in
     let k : 37 * (l .i + 1) ≡ 37 * l .i + 37 = omega arith in (
       omega arith,
       rw (k, lines-next (a .p) (l .i) (a .t5))
@@ -37,16 +33,11 @@ loop-again c =
     )
 
 same-length : tie.Need-same-length Inv-loop μ-loop
-same-length c =
-    let c₃ = c .before .before .before in
-    let a = c₃ .args in
-    let l = c .before .loop in
+same-length c = let c₃ = c .before .before .before in let a = c₃ .args in let l = c .before .loop in
     within-length (l .inv .1) (omega arith)
 
 returns : tie.Need-returns Inv-loop μ-loop
-returns c =
-    let c₃ = c .before .before .before in
-    let z : c .before .loop .i ≡ c₃ .args .n = omega arith in
+returns c = let c₃ = c .before .before .before in let z : c .before .loop .i ≡ c₃ .args .n = omega arith in
     rw (← z) (c .before .loop .inv .1)
 
 pub put-periods-spec : {M : Type 1} → statement M

@@ -28,22 +28,13 @@ loop-holds c = (
 )
 
 put-point-requires : tie.Need-put-point-requires Inv-loop μ-loop
-put-point-requires c κs =
-    let c₃ = c .before .before .before in
-    let c₅ = c₃ .before .before in
-    let a = c₅ .args in
-    let l = c₃ .loop in
-    let len = within-length (l .inv .1) (omega arith) in
-    let end = within-end (l .inv .1) (omega arith) in
-    (omega arith, omega arith)
+put-point-requires c κs = let c₃ = c .before .before .before in let c₅ = c₃ .before .before in let a = c₅ .args in
+    let l = c₃ .loop in let len = within-length (l .inv .1) (omega arith) in
+    let end = within-end (l .inv .1) (omega arith) in (omega arith, omega arith)
 
 loop-again : tie.Need-loop-again Inv-loop μ-loop
-loop-again c =
-    let c₂ = c .before .before in
-    let c₆ = c₂ .before .before .before .before in
-    let c₈ = c₆ .before .before in
-    let a = c₈ .args in
-    let l = c₆ .loop in
+loop-again c = let c₂ = c .before .before in let c₆ = c₂ .before .before .before .before in
+    let c₈ = c₆ .before .before in let a = c₈ .args in let l = c₆ .loop in
     let k : (l .i + 1) * 918 ≡ l .i * 918 + 918 = omega arith in
     let p : a .from + 1 + l .i ≡ a .from + l .i + 1 = omega arith in (
       omega arith,
@@ -52,14 +43,10 @@ loop-again c =
     )
 
 same-length : tie.Need-same-length Inv-loop μ-loop
-same-length c =
-    let l = c .before .loop in
-    within-length (l .inv .1) (omega arith)
+same-length c = let l = c .before .loop in within-length (l .inv .1) (omega arith)
 
 returns : tie.Need-returns Inv-loop μ-loop
-returns c =
-    let c₃ = c .before .before .before in
-    let z : c .before .loop .i ≡ c₃ .args .n = omega arith in
+returns c = let c₃ = c .before .before .before in let z : c .before .loop .i ≡ c₃ .args .n = omega arith in
     rw (← z) (c .before .loop .inv .1)
 
 pub put-points-spec : {M : Type 1} → statement M

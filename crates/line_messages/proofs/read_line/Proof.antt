@@ -10,27 +10,21 @@ use Rattle.line_messages.proofs.read_line.Statement.{statement}
 use Rattle.line_messages.proofs.read_line.Tie as tie
 
 returns-2 : tie.Need-returns-2
-returns-2 c =
-    let c₀ = c .before .before .before in
-    let c₄ = c₀ .before .before .before .before in
+returns-2 c = let c₀ = c .before .before .before in let c₄ = c₀ .before .before .before .before in
     let c₈ = c₄ .before .before .before .before in
     c .unreadable2 .ensures ∙ line-bad (c₈ .before .before .args .line .now) _ _ _ _ _ _ (c₈ .if1 .left) (c₄ .before .before .before .word-end .ensures .0)
     (c₄ .before .kind-named .ensures) (c₄ .row-of .ensures) (c₀ .read-fields .ensures)
     (first-is-known _ (c₀ .before .before .first-known .ensures)) (not-true _ (c .before .if2 .taken))
 
 returns-3 : tie.Need-returns-3
-returns-3 c =
-    let c₀ = c .before .before .before .before .before in
-    let c₄ = c₀ .before .before .before .before in
+returns-3 c = let c₀ = c .before .before .before .before .before in let c₄ = c₀ .before .before .before .before in
     let c₈ = c₄ .before .before .before .before in
     c .unreadable3 .ensures ∙ line-more (c₈ .before .before .args .line .now) _ _ _ _ _ _ (c₈ .if1 .left) (c₄ .before .before .before .word-end .ensures .0)
     (c₄ .before .kind-named .ensures) (c₄ .row-of .ensures) (c₀ .read-fields .ensures)
     (first-is-known _ (c₀ .before .before .first-known .ensures)) (not-false _ (c .before .before .before .if2 .left)) (c .before .if3 .taken)
 
 returns-4 : tie.Need-returns-4
-returns-4 c =
-    let c₀ = c .before .before .before .before .before in
-    let c₄ = c₀ .before .before .before .before in
+returns-4 c = let c₀ = c .before .before .before .before .before in let c₄ = c₀ .before .before .before .before in
     let c₈ = c₄ .before .before .before .before in
     line-all (c₈ .before .before .args .line .now) _ _ _ _ _ _ (c₈ .if1 .left) (c₄ .before .before .before .word-end .ensures .0)
     (c₄ .before .kind-named .ensures) (c₄ .row-of .ensures) (c₀ .read-fields .ensures)
@@ -38,8 +32,7 @@ returns-4 c =
     (c .message-of .ensures)
 
 pub read-line-spec : {M : Type 1} → statement M
-read-line-spec =
-    tie.close (tie.spec (λ c κs. search needs)
+read-line-spec = tie.close (tie.spec (λ c κs. search needs)
     (λ c. unfold readLine in c .unreadable .ensures ∙ rw (lt-leb _ 96 (c .before .if1 .taken))) (λ c κs. search needs)
     (λ c. sym (length-take-le _ _ (c .before .word-end .ensures .1))) (λ c κs. search needs) (λ c κs. search needs)
     (λ c κs. search needs) (λ c κs. search needs) (λ c κs. search needs) returns-2 (λ c κs. search needs) returns-3

@@ -11,8 +11,7 @@ use Rattle.line_values.proofs.fixed_at.Statement.{statement}
 use Rattle.line_values.proofs.fixed_at.Tie as tie
 
 abbrev Inv-loop : tie.InvT-loop
-Inv-loop s at count end v₀ i₀ v i =
-    (at ≤ i) × (i ≤ end) × (end ≤ length s) × (end ≡ at + count) × (v < 10 ^ (i - at)) ×
+Inv-loop s at count end v₀ i₀ v i = (at ≤ i) × (i ≤ end) × (end ≤ length s) × (end ≡ at + count) × (v < 10 ^ (i - at)) ×
     (fixedOf count 0 (drop at s) ≡ fixedOf (end - i) v (drop i s))
 
 abbrev μ-loop : tie.MeasureT-loop
@@ -22,46 +21,34 @@ returns : tie.Need-returns Inv-loop μ-loop
 returns c = let a = c .before .before .args in field-bad (a .s .now) (a .at) _ (fixed-few _ 0 _ (rw length-drop (omega arith)))
 
 returns-2 : tie.Need-returns-2 Inv-loop μ-loop
-returns-2 c =
-    let a = c .before .before .before .args in
+returns-2 c = let a = c .before .before .before .args in
     field-bad (a .s .now) (a .at) _ (fixed-few _ 0 _ (rw length-drop (omega arith)))
 
 loop-holds : tie.Need-loop-holds Inv-loop μ-loop
-loop-holds c =
-    let a = c .before .before .before .args in
-    let none : a .at - a .at ≡ 0 = omega arith in
+loop-holds c = let a = c .before .before .before .args in let none : a .at - a .at ≡ 0 = omega arith in
     let all : a .at + a .count - a .at ≡ a .count = omega arith in
     (omega arith, omega arith, omega arith, refl, rw none (omega arith), rw all)
 
 returns-3 : tie.Need-returns-3 Inv-loop μ-loop
-returns-3 c =
-    let c₃ = c .before .before .before in
-    let a = c₃ .before .before .before .before .args in
-    let l = c₃ .loop in
-    field-bad (a .s .now) (a .at) _
+returns-3 c = let c₃ = c .before .before .before in let a = c₃ .before .before .before .before .args in
+    let l = c₃ .loop in field-bad (a .s .now) (a .at) _
     (l .inv .5 ∙ fixed-none _ (l .i) (omega arith) _ (l .v) (omega arith) (below-digit _ (c .if3 .taken)))
 
 returns-4 : tie.Need-returns-4 Inv-loop μ-loop
-returns-4 c =
-    let c₄ = c .before .before .before .before in
-    let a = c₄ .before .before .before .before .args in
-    let l = c₄ .loop in
-    field-bad (a .s .now) (a .at) _
+returns-4 c = let c₄ = c .before .before .before .before in let a = c₄ .before .before .before .before .args in
+    let l = c₄ .loop in field-bad (a .s .now) (a .at) _
     (l .inv .5 ∙ fixed-none _ (l .i) (omega arith) _ (l .v) (omega arith) (above-digit _ (c .if4 .taken)))
 
 mul-v : tie.Need-mul-v Inv-loop μ-loop
-mul-v c =
-    let l = c .before .before .before .before .loop in
+mul-v c = let l = c .before .before .before .before .loop in
     let small = fixed-small (l .v) _ (l .inv .4) (omega arith) in omega arith
 
 add-v : tie.Need-add-v Inv-loop μ-loop
-add-v c =
-    let l = c .before .before .before .before .before .loop in
+add-v c = let l = c .before .before .before .before .before .loop in
     let small = fixed-small (l .v) _ (l .inv .4) (omega arith) in omega arith
 
 loop-again : tie.Need-loop-again Inv-loop μ-loop
-loop-again c =
-    let l = c .before .before .before .before .before .loop in
+loop-again c = let l = c .before .before .before .before .before .loop in
     let d = in-digit _ (c .before .before .if3 .left) (c .before .if4 .left) in (
       omega arith,
       omega arith,
@@ -72,14 +59,11 @@ loop-again c =
     )
 
 returns-5 : tie.Need-returns-5 Inv-loop μ-loop
-returns-5 c =
-    let a = c .before .before .before .before .before .args in
-    let l = c .before .loop in
+returns-5 c = let a = c .before .before .before .before .before .args in let l = c .before .loop in
     field-value (a .s .now) (a .at) (a .at + a .count) (l .v) _ (l .inv .5 ∙ fixed-end _ (l .i) _ (l .v) (omega arith))
     (record { from = omega arith; to = omega arith })
 
 pub fixed-at-spec : {M : Type 1} → statement M
-fixed-at-spec =
-    tie.close (tie.spec Inv-loop μ-loop returns (λ c. search needs) returns-2 (λ c. search needs) loop-holds
+fixed-at-spec = tie.close (tie.spec Inv-loop μ-loop returns (λ c. search needs) returns-2 (λ c. search needs) loop-holds
     (λ c. search needs) returns-3 returns-4 mul-v (λ c κs. search needs) add-v (λ c. search needs) (λ c. search needs)
     loop-again returns-5)

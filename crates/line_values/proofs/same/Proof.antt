@@ -16,24 +16,18 @@ abbrev μ-loop : tie.MeasureT-loop
 μ-loop a b i₀ i = length a - i
 
 returns : tie.Need-returns Inv-loop μ-loop
-returns c =
-    let a = c .before .args in
-    sym (other-length (a .a .now) (a .b .now) (omega arith))
+returns c = let a = c .before .args in sym (other-length (a .a .now) (a .b .now) (omega arith))
 
 returns-2 : tie.Need-returns-2 Inv-loop μ-loop
-returns-2 c =
-    let l = c .before .before .before .before .loop in
+returns-2 c = let l = c .before .before .before .before .loop in
     sym (l .inv .1 ∙ same-off _ _ (l .i) (omega arith) (omega arith) (omega arith))
 
 loop-again : tie.Need-loop-again Inv-loop μ-loop
-loop-again c =
-    let l = c .before .before .before .before .loop in
+loop-again c = let l = c .before .before .before .before .loop in
     (omega arith, l .inv .1 ∙ same-on _ _ (l .i) (omega arith) (omega arith) (omega arith))
 
 returns-3 : tie.Need-returns-3 Inv-loop μ-loop
-returns-3 c =
-    let l = c .before .loop in
-    sym (l .inv .1 ∙ same-end _ _ (l .i) (omega arith) (omega arith))
+returns-3 c = let l = c .before .loop in sym (l .inv .1 ∙ same-end _ _ (l .i) (omega arith) (omega arith))
 
 pub same-spec : {M : Type 1} → statement M
 same-spec =

@@ -12,24 +12,19 @@ use Rattle.line_writing.proofs.fit_all.Statement.{statement}
 use Rattle.line_writing.proofs.fit_all.Tie as tie
 
 abbrev Inv-loop : tie.InvT-loop
-Inv-loop values count second i₀ i =
-    (i ≤ count) × (count ≤ length values) ×
+Inv-loop values count second i₀ i = (i ≤ count) × (count ≤ length values) ×
     (fitAll (fieldsFrom second 0 count values) ≡ fitAll (fieldsFrom second i (count - i) values))
 
 abbrev μ-loop : tie.MeasureT-loop
 μ-loop values count second i₀ i = count - i
 
 loop-holds : tie.Need-loop-holds Inv-loop μ-loop
-loop-holds c =
-    let n = c .args .shape .count in
-    let all : n - 0 ≡ n = omega arith in
-    let long : length (c .args .t1) ≡ 7 = search needs in
-    (omega arith, omega arith, rw all)
+loop-holds c = let n = c .args .shape .count in let all : n - 0 ≡ n = omega arith in
+    let long : length (c .args .t1) ≡ 7 = search needs in (omega arith, omega arith, rw all)
 
 returns : tie.Need-returns Inv-loop μ-loop
 unfolding fitAll
-returns c =
-    let a = c .before .before .before .before .before .args in
+returns c = let a = c .before .before .before .before .before .args in
     let l = c .before .before .before .before .loop in
     let one = sym (c .before .fits2 .ensures) ∙ not-true _ (c .if1 .taken) in
     let next = fields-next (a .shape .second) (a .shape .count) (l .i) (a .t1) (omega arith) in
@@ -37,8 +32,7 @@ returns c =
 
 loop-again : tie.Need-loop-again Inv-loop μ-loop
 unfolding fitAll
-loop-again c =
-    let a = c .before .before .before .before .before .args in
+loop-again c = let a = c .before .before .before .before .before .args in
     let l = c .before .before .before .before .loop in
     let one = sym (c .before .fits2 .ensures) ∙ not-false _ (c .if1 .left) in
     let next = fields-next (a .shape .second) (a .shape .count) (l .i) (a .t1) (omega arith) in
@@ -46,9 +40,7 @@ loop-again c =
 
 returns-2 : tie.Need-returns-2 Inv-loop μ-loop
 unfolding fitAll
-returns-2 c =
-    let a = c .before .before .args in
-    let l = c .before .loop in
+returns-2 c = let a = c .before .before .args in let l = c .before .loop in
     sym (l .inv .2 ∙ rw (fields-none (a .shape .second) (a .shape .count) (l .i) (a .t1) (omega arith)))
 
 pub fit-all-spec : {M : Type 1} → statement M

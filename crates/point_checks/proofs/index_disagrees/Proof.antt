@@ -5,18 +5,15 @@ use Rattle.point_checks.proofs.index_disagrees.Statement.{statement}
 use Rattle.point_checks.proofs.index_disagrees.Tie as tie
 
 returns-2 : tie.Need-returns-2
-returns-2 c =
-    let s = c .before .before .args in
+returns-2 c = let s = c .before .before .args in
     rw (lt-leb _ _ (c .before .if1 .left)) (at-zero (s .z) (s .x) (s .last) (c .if2 .taken))
 
 returns-3 : tie.Need-returns-3
-returns-3 c =
-    let s = c .before .before .before .args in
+returns-3 c = let s = c .before .before .before .args in
     rw (lt-leb _ _ (c .before .before .if1 .left)) (at-one (s .z) (s .x) (s .last) (c .if3 .taken))
 
 returns-4 : tie.Need-returns-4
-returns-4 c =
-    let s = c .before .before .before .args in
+returns-4 c = let s = c .before .before .before .args in
     rw (lt-leb _ _ (c .before .before .if1 .left)) (at-other (s .z) (s .x) (s .last) (c .before .if2 .left) (c .if3 .left))
 
 pub index-disagrees-spec : {M : Type 1} → statement M

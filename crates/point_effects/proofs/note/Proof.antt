@@ -5,8 +5,7 @@ use Rattle.point_effects.proofs.note.Statement.{statement}
 use Rattle.point_effects.proofs.note.Tie as tie
 
 pub note-spec : {M : Type 1} → statement M
-note-spec =
-    tie.close (tie.spec (λ c. search needs) (λ c κs. search needs) (λ c. search needs) (λ c κs. search needs)
+note-spec = tie.close (tie.spec (λ c. search needs) (λ c κs. search needs) (λ c. search needs) (λ c κs. search needs)
     (λ c. search needs) (λ c κs. search needs) (λ c. search needs) (λ c κs. search needs) (λ c κs. search needs)
     (λ c. search needs) (λ c κs. search needs)
     (λ c. unfold noted in rw (c .before .before .e .given .1) (c .point .ensures))

@@ -15,9 +15,7 @@ passed : {a b : Answer} {x : Bool} → a ≡ b → x ≡ isAccepted a → x ≡ 
 passed e k ok = rw (← e, ← k) ok
 
 effect-of-requires : tie.Need-effect-of-requires
-effect-of-requires c κs =
-    let told = c .before .before in
-    let s = told .before .before .args in
+effect-of-requires c κs = let told = c .before .before in let s = told .before .before .args in
     record {
       day = s .day;
       contracts = _;
@@ -29,18 +27,14 @@ effect-of-requires c κs =
 
 cast-effect-of : tie.Need-cast-effect-of
 unfolding answerAt
-cast-effect-of c =
-    let told = c .before .before in
-    let s = told .before .before .args in
-    omega (
-      arith,
-      passed-at (s .set) (s .day) _ (s .today) (s .p) (s .a) (s .v) _ (passed (told .answer-at .ensures) (c .before .is-accepted .ensures) (c .if1 .taken)) .0,
-    )
+cast-effect-of c = let told = c .before .before in let s = told .before .before .args in omega (
+  arith,
+  passed-at (s .set) (s .day) _ (s .today) (s .p) (s .a) (s .v) _ (passed (told .answer-at .ensures) (c .before .is-accepted .ensures) (c .if1 .taken)) .0,
+)
 
 returns : tie.Need-returns
 unfolding rulingAt
-returns c =
-    let told = c .before .before .before in
+returns c = let told = c .before .before .before in
     rw (← (told .answer-at .ensures), ← (c .before .before .is-accepted .ensures), c .before .if1 .taken, c .effect-of .ensures)
 
 returns-2 : tie.Need-returns-2

@@ -14,7 +14,6 @@ unfolding named
 returns c = rw (← (c .before .before .starts-on .ensures), c .before .if1 .taken) (c .replaced .ensures)
 
 pub named-spec : {M : Type 1} → statement M
-named-spec =
-    tie.close (tie.spec (λ c κs. search needs)
+named-spec = tie.close (tie.spec (λ c κs. search needs)
     replaced-requires returns (λ c κs. search needs)
     (λ c. unfold named in rw (← (c .before .before .starts-on .ensures), c .before .if1 .left) (c .appended .ensures)))

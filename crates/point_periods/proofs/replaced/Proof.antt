@@ -5,7 +5,6 @@ use Rattle.point_periods.proofs.replaced.Statement.{statement}
 use Rattle.point_periods.proofs.replaced.Tie as tie
 
 pub replaced-spec : {M : Type 1} → statement M
-replaced-spec =
-    tie.close (tie.spec (λ c κs. search needs) (λ c. search needs) (λ c. search needs) (λ c. search needs)
+replaced-spec = tie.close (tie.spec (λ c κs. search needs) (λ c. search needs) (λ c. search needs) (λ c. search needs)
     (λ c. search needs) (λ c. search needs) (λ c. search needs)
     (λ c. unfold replaced in rw (c .before .slots .ensures)))

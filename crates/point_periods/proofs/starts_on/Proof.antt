@@ -11,7 +11,6 @@ unfolding startsOn
 returns-2 c = rw (← (c .before .before .before .slots .ensures), lt-ltb 0 (c .before .before .before .slots .result) (omega arith))
 
 pub starts-on-spec : {M : Type 1} → statement M
-starts-on-spec =
-    tie.close (tie.spec (λ c κs. search needs)
+starts-on-spec = tie.close (tie.spec (λ c κs. search needs)
     (λ c. unfold startsOn in rw (← (c .before .slots .ensures), le-ltb 0 (c .before .slots .result) (omega arith)))
     (λ c. search needs) (λ c. search needs) (λ c. search needs) returns-2)

@@ -4,6 +4,5 @@ use Rattle.questions.proofs.advance_in.Statement.{statement}
 use Rattle.questions.proofs.advance_in.Tie as tie
 
 pub advance-in-spec : {M : Type 1} → statement M
-advance-in-spec =
-    tie.close (tie.spec (λ c κs. search needs) (λ c κs. search needs)
+advance-in-spec = tie.close (tie.spec (λ c κs. search needs) (λ c κs. search needs)
     (λ c. rw (← (c .before .period-count .ensures)) (c .sum-of .ensures)))

@@ -7,8 +7,7 @@ use Rattle.questions.proofs.is_unasked.Statement.{statement}
 use Rattle.questions.proofs.is_unasked.Tie as tie
 
 pub is-unasked-spec : {M : Type 1} → statement M
-is-unasked-spec =
-    tie.close (tie.spec (λ c κs. search needs) (λ c. rw (← (c .before .outside .ensures), c .if1 .taken))
+is-unasked-spec = tie.close (tie.spec (λ c κs. search needs) (λ c. rw (← (c .before .outside .ensures), c .if1 .taken))
     (λ c. let i = range-in 1 32 (c .before .before .args .p) (sym (c .before .outside .ensures) ∙ c .if1 .left) in omega (arith, i .0, i .1))
     (λ c. let i = range-in 1 32 (c .before .before .args .p) (sym (c .before .outside .ensures) ∙ c .if1 .left) in omega (arith, i .0, i .1))
     (λ c. let i = range-in 1 32 (c .before .before .args .p) (sym (c .before .outside .ensures) ∙ c .if1 .left) in omega (arith, i .0, i .1))

@@ -4,8 +4,7 @@ use Rattle.register.proofs.apply.Statement.{statement}
 use Rattle.register.proofs.apply.Tie as tie
 
 pub apply-spec : {M : Type 1} → statement M
-apply-spec =
-    tie.close (tie.spec (λ c. search needs) (λ c κs. search needs) (λ c. search needs) (λ c κs. search needs)
+apply-spec = tie.close (tie.spec (λ c. search needs) (λ c κs. search needs) (λ c. search needs) (λ c κs. search needs)
     (λ c. search needs) (λ c κs. search needs) (λ c. search needs) (λ c κs. search needs)
     (λ c. rw (c .before .before .a .given .1) (c .contract .ensures))
     (λ c. rw (c .before .before .a2 .given .1) (c .fail .ensures))

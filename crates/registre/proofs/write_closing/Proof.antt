@@ -18,8 +18,7 @@ array-share-prefix-out : tie.Need-array-share-prefix-out Inv-loop μ-loop
 array-share-prefix-out c = closed-within _ _ _ _ _ (c .before .close .ensures)
 
 pub write-closing-spec : {M : Type 1} → statement M
-write-closing-spec =
-    tie.close (tie.spec Inv-loop μ-loop (λ c κs. search needs) (λ c. search needs) (λ c. search needs)
+write-closing-spec = tie.close (tie.spec Inv-loop μ-loop (λ c κs. search needs) (λ c. search needs) (λ c. search needs)
     (λ c κs. search needs) array-share-prefix-out (λ c. sym (length-take-le _ _ (array-share-prefix-out (c .before))))
     (λ c κs. search needs) (λ c. search needs) (λ c. search needs) (λ c κs. search needs) (λ c. search needs)
     (λ c. search needs) (λ c. search needs) (λ c. search needs))

@@ -21,22 +21,18 @@ array-share-prefix-out : tie.Need-array-share-prefix-out Inv-loop μ-loop
 array-share-prefix-out c = fed-within _ _ _ _ _ (c .before .before .feed .ensures)
 
 loop-again-2 : tie.Need-loop-again-2 Inv-loop μ-loop
-loop-again-2 c =
-    let c₆ = c .before .before .before .before .before .before in
+loop-again-2 c = let c₆ = c .before .before .before .before .before .before in
     let l = c₆ .before .before .before .before .before .before .loop in
     let taken = part-taken _ (l .input) (l .from) (l .end) _ _ _ (c₆ .feed .ensures) in
     (search needs, search needs, omega arith, search needs)
 
 add-from : tie.Need-add-from Inv-loop μ-loop
-add-from c =
-    let c₆ = c .before .before .before .before .before .before in
+add-from c = let c₆ = c .before .before .before .before .before .before in
     let l = c₆ .before .before .before .before .before .before .loop in
-    let taken = part-taken _ (l .input) (l .from) (l .end) _ _ _ (c₆ .feed .ensures) in
-    omega arith
+    let taken = part-taken _ (l .input) (l .from) (l .end) _ _ _ (c₆ .feed .ensures) in omega arith
 
 pub read-all-spec : {M : Type 1} → statement M
-read-all-spec =
-    tie.close (tie.spec Inv-loop μ-loop (λ c κs. search needs) (λ c κs. search needs) (λ c κs. search needs)
+read-all-spec = tie.close (tie.spec Inv-loop μ-loop (λ c κs. search needs) (λ c κs. search needs) (λ c κs. search needs)
     (λ c. search needs) (λ c. search needs) (λ c. search needs) (λ c κs. search needs) (λ c κs. search needs)
     (λ c. search needs) (λ c κs. search needs) (λ c. search needs) (λ c. search needs) (λ c κs. search needs)
     (λ c. search needs) (λ c. search needs) (λ c. search needs) (λ c. search needs) (λ c. search needs)

@@ -13,7 +13,6 @@ abbrev μ-loop : tie.MeasureT-loop
 μ-loop r out₀ w₀ p₀ out w p = 34 - p
 
 pub answer-all-spec : {M : Type 1} → statement M
-answer-all-spec =
-    tie.close (tie.spec Inv-loop μ-loop (λ c κs. search needs) (λ c. search needs) (λ c. search needs)
+answer-all-spec = tie.close (tie.spec Inv-loop μ-loop (λ c κs. search needs) (λ c. search needs) (λ c. search needs)
     (λ c κs. search needs) (λ c. search needs) (λ c. search needs) (λ c. search needs) (λ c. search needs)
     (λ c κs. search needs) (λ c. search needs))

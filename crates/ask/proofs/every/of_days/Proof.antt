@@ -13,7 +13,6 @@ abbrev μ-loop : tie.MeasureT-loop
 μ-loop out₀ r p first after₀ day₀ end out after day = end - day
 
 pub of-days-spec : {M : Type 1} → statement M
-of-days-spec =
-    tie.close (tie.spec Inv-loop μ-loop (λ c. search needs) (λ c. search needs) (λ c. search needs)
+of-days-spec = tie.close (tie.spec Inv-loop μ-loop (λ c. search needs) (λ c. search needs) (λ c. search needs)
     (λ c. search needs) (λ c κs. search needs) (λ c. search needs) (λ c. search needs) (λ c. search needs)
     (λ c. search needs) (λ c. search needs))

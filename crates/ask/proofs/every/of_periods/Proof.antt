@@ -13,7 +13,6 @@ abbrev μ-loop : tie.MeasureT-loop
 μ-loop out₀ r p after₀ n₀ is-last₀ out after n is-last = 26 - n
 
 pub of-periods-spec : {M : Type 1} → statement M
-of-periods-spec =
-    tie.close (tie.spec Inv-loop μ-loop (λ c. search needs) (λ c κs. search needs) (λ c κs. search needs)
+of-periods-spec = tie.close (tie.spec Inv-loop μ-loop (λ c. search needs) (λ c κs. search needs) (λ c κs. search needs)
     (λ c. search needs) (λ c. search needs) (λ c. search needs) (λ c. search needs) (λ c. search needs)
     (λ c. search needs) (λ c. search needs) (λ c. search needs) (λ c. search needs))

@@ -6,8 +6,7 @@ use Rattle.ask.proofs.every.put_field.Statement.{statement}
 use Rattle.ask.proofs.every.put_field.Tie as tie
 
 returns : tie.Need-returns
-returns c =
-    let c₂ = c .before .before in
+returns c = let c₂ = c .before .before in
     let number = appended-within (c₂ .before .before .before .before .put-number .ensures) (omega arith) in
     appended-within (c₂ .put-byte .ensures) (omega arith)
 

@@ -11,7 +11,6 @@ abbrev μ-loop : tie.MeasureT-loop
 μ-loop t₀ i₀ t i = 74400 - i
 
 pub dates-spec : {M : Type 1} → statement M
-dates-spec =
-    tie.close (tie.spec Inv-loop μ-loop (λ c κs. search needs) (λ c. search needs) (λ c κs. search needs)
+dates-spec = tie.close (tie.spec Inv-loop μ-loop (λ c κs. search needs) (λ c. search needs) (λ c κs. search needs)
     (λ c κs. search needs) (λ c κs. search needs) (λ c. search needs) (λ c. search needs) (λ c. search needs)
     (λ c. search needs))

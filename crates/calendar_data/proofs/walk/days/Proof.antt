@@ -11,7 +11,6 @@ abbrev μ-loop : tie.MeasureT-loop
 μ-loop t₀ n₀ t n = 73049 - n
 
 pub days-spec : {M : Type 1} → statement M
-days-spec =
-    tie.close (tie.spec Inv-loop μ-loop (λ c κs. search needs) (λ c. search needs) (λ c. search needs)
+days-spec = tie.close (tie.spec Inv-loop μ-loop (λ c κs. search needs) (λ c. search needs) (λ c. search needs)
     (λ c κs. search needs) (λ c κs. search needs) (λ c. search needs) (λ c. search needs) (λ c. search needs)
     (λ c. search needs))

@@ -9,11 +9,8 @@ use Rattle.dates.proofs.month.length.Tie as tie
 
 returns : tie.Need-returns
 unfolding monthLength
-returns c =
-    let a = c .before .before .args in
-    let b = length-bounds (a .row) (a .m) (omega arith) (omega arith) in
-    let e : c .wide .result ≡ monthLength (a .row) (a .m) = c .wide .ensures in
-    omega arith
+returns c = let a = c .before .before .args in let b = length-bounds (a .row) (a .m) (omega arith) (omega arith) in
+    let e : c .wide .result ≡ monthLength (a .row) (a .m) = c .wide .ensures in omega arith
 
 pub length-spec : {M : Type 1} → statement M
 length-spec =

@@ -9,11 +9,8 @@ use Rattle.dates.proofs.number.day_number.Tie as tie
 
 returns : tie.Need-returns
 unfolding dayNumber
-returns c =
-    let a = c .before .before .before .args in
-    let year : 2000 + a .k - 2000 ≡ a .k = omega arith in
-    let month : a .m + 1 - 1 ≡ a .m = omega arith in
-    let day : a .d + 1 - 1 ≡ a .d = omega arith in
+returns c = let a = c .before .before .before .args in let year : 2000 + a .k - 2000 ≡ a .k = omega arith in
+    let month : a .m + 1 - 1 ≡ a .m = omega arith in let day : a .d + 1 - 1 ≡ a .d = omega arith in
     let row = c .before .before .leap-row .ensures .0 in
     (rw (year, month, day, c .before .start .ensures .0, c .start2 .ensures .0, row), omega arith)
 

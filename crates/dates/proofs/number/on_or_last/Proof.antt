@@ -6,8 +6,7 @@ use Rattle.dates.proofs.number.on_or_last.Statement.{statement}
 use Rattle.dates.proofs.number.on_or_last.Tie as tie
 
 returns : tie.Need-returns
-returns c =
-    let row = c .before .before .before .before .leap-row .ensures .0 in
+returns c = let row = c .before .before .before .before .leap-row .ensures .0 in
     let long = rw row at (c .before .before .before .length .ensures .0) in
     let kept = kept-or-last _ _ _ _ _ long (omega arith) (c .before .before .least .ensures) in
     rw (c .least2 .ensures, c .before .day-number .ensures .0, kept)

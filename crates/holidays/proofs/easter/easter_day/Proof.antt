@@ -12,8 +12,7 @@ offset-requires c κs =
     omega arith
 
 add-t8 : tie.Need-add-t8
-add-t8 c =
-    let day = sym (c .before .before .before .before .day-of .ensures) ∙ c .before .before .march-22 .given .1 in
+add-t8 c = let day = sym (c .before .before .before .before .day-of .ensures) ∙ c .before .before .march-22 .given .1 in
     let last = march-22-in _ _ day in
     record { fits = omega arith }
 
@@ -23,8 +22,7 @@ returns-2 c =
     easter-found _ _ day _ (c .offset .ensures)
 
 pub easter-day-spec : {M : Type 1} → statement M
-easter-day-spec =
-    tie.close (tie.spec (λ c κs. search needs) (λ c. search needs) (λ c. search needs)
+easter-day-spec = tie.close (tie.spec (λ c κs. search needs) (λ c. search needs) (λ c. search needs)
     (λ c. easter-none _ (sym (c .before .before .day-of .ensures) ∙ c .enum-told .given .1))
     (λ c. easter-years _ _ (sym (c .before .before .before .day-of .ensures) ∙ c .before .march-22 .given .1) .0)
     offset-requires (λ c. search needs) add-t8 returns-2)

@@ -22,7 +22,6 @@ returns-2 c =
     ap (λ (l : List ℕ). lineMessage (readLine l)) (sym (ap (λ (k : ℕ). take k ((c .before .before .before) .args .t1)) e ∙ take-all keptBytes ((c .before .before .before) .args .t1) (omega arith)))
 
 pub read-first-spec : {M : Type 1} → statement M
-read-first-spec =
-    tie.close (tie.spec (λ c. search needs)
+read-first-spec = tie.close (tie.spec (λ c. search needs)
     (λ c. sym (length-take-le ((c .before .before) .args .n) ((c .before .before) .args .t1) (omega arith)))
     (λ c κs. search needs) returns (λ c. search needs) (λ c κs. search needs) returns-2)

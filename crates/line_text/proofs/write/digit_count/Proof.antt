@@ -17,21 +17,15 @@ abbrev μ-loop : tie.MeasureT-loop
 μ-loop n v₀ count₀ v count = v
 
 add-count : tie.Need-add-count Inv-loop μ-loop
-add-count c =
-    let l = c .before .loop in
-    let all = decimal-length 20 _ (omega arith) (l .inv .1) in
+add-count c = let l = c .before .loop in let all = decimal-length 20 _ (omega arith) (l .inv .1) in
     let some = count-some (l .v) in omega arith
 
 loop-again : tie.Need-loop-again Inv-loop μ-loop
-loop-again c =
-    let l = c .before .loop in
-    let step = count-step (l .v) (c .loop-test .taken) (l .inv .0) in
+loop-again c = let l = c .before .loop in let step = count-step (l .v) (c .loop-test .taken) (l .inv .0) in
     (omega arith, omega arith, omega arith)
 
 returns : tie.Need-returns Inv-loop μ-loop
-returns c =
-    let l = c .before .loop in
-    let one = count-one (l .v) (omega arith) in omega arith
+returns c = let l = c .before .loop in let one = count-one (l .v) (omega arith) in omega arith
 
 pub digit-count-spec : {M : Type 1} → statement M
 digit-count-spec =

@@ -8,13 +8,10 @@ use Rattle.line_text.proofs.write.put_byte.Statement.{statement}
 use Rattle.line_text.proofs.write.put_byte.Tie as tie
 
 returns : tie.Need-returns
-returns c =
-    let a = c .before .args in
-    not-appended (a .at) (a .b ∷ []) (a .out .now) (omega arith)
+returns c = let a = c .before .args in not-appended (a .at) (a .b ∷ []) (a .out .now) (omega arith)
 
 returns-2 : tie.Need-returns-2
-returns-2 c =
-    let a = c .before .args in
+returns-2 c = let a = c .before .args in
     appended (a .at) (a .b ∷ []) (a .out .now) _ _ (omega arith) (put-sets (a .at) (a .b ∷ []) (a .out .now) (omega arith)) refl
 
 pub put-byte-spec : {M : Type 1} → statement M

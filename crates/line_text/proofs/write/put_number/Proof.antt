@@ -19,63 +19,45 @@ abbrev μ-loop : tie.MeasureT-loop
 μ-loop out₀ at n count end v₀ i₀ out v i = i
 
 returns : tie.Need-returns Inv-loop μ-loop
-returns c =
-    let a = c .before .before .before .args in
+returns c = let a = c .before .before .before .args in
     not-appended (a .at) (decimal (a .n) []) (a .out .now) (omega (arith, c .before .digit-count .ensures))
 
 returns-2 : tie.Need-returns-2 Inv-loop μ-loop
-returns-2 c =
-    let a = c .before .before .before .before .args in
+returns-2 c = let a = c .before .before .before .before .args in
     not-appended (a .at) (decimal (a .n) []) (a .out .now) (omega (arith, c .before .before .digit-count .ensures))
 
 loop-holds : tie.Need-loop-holds Inv-loop μ-loop
-loop-holds c =
-    let a = c .before .before .before .before .args in
-    let count = c .before .before .digit-count .ensures in
+loop-holds c = let a = c .before .before .before .before .args in let count = c .before .before .digit-count .ensures in
     let end = ap (λ (k : ℕ). a .at + k) count in
     (record { small = omega arith; end = end; long = refl; before = refl; text = rw count }, omega arith, omega arith)
 
 sub-i : tie.Need-sub-i Inv-loop μ-loop
-sub-i c =
-    let l = c .before .loop in
-    let some = left-some _ _ _ _ _ _ (l .inv .0) in omega arith
+sub-i c = let l = c .before .loop in let some = left-some _ _ _ _ _ _ (l .inv .0) in omega arith
 
 slice-write-out : tie.Need-slice-write-out Inv-loop μ-loop
-slice-write-out c =
-    let l = c .before .loop in
+slice-write-out c = let l = c .before .loop in
     let some = left-some _ _ _ _ _ _ (l .inv .0) in omega (arith, l .inv .0 .long)
 
 loop-less : tie.Need-loop-less Inv-loop μ-loop
-loop-less c =
-    let l = c .before .loop in
-    let some = left-some _ _ _ _ _ _ (l .inv .0) in omega arith
+loop-less c = let l = c .before .loop in let some = left-some _ _ _ _ _ _ (l .inv .0) in omega arith
 
 loop-again : tie.Need-loop-again Inv-loop μ-loop
-loop-again c =
-    let l = c .before .loop in
+loop-again c = let l = c .before .loop in
     (left-step _ _ _ _ _ _ (l .inv .0) (omega arith) (c .loop-test .taken), omega arith, omega arith)
 
 slice-write-out-2 : tie.Need-slice-write-out-2 Inv-loop μ-loop
-slice-write-out-2 c =
-    let l = c .before .loop in
+slice-write-out-2 c = let l = c .before .loop in
     let some = left-some _ _ _ _ _ _ (l .inv .0) in omega (arith, l .inv .0 .long)
 
 same-length : tie.Need-same-length Inv-loop μ-loop
-same-length c =
-    let l = c .before .loop in
-    length-set (l .out) _ _ ∙ l .inv .0 .long
+same-length c = let l = c .before .loop in length-set (l .out) _ _ ∙ l .inv .0 .long
 
 returns-3 : tie.Need-returns-3 Inv-loop μ-loop
-returns-3 c =
-    let c₄ = c .before .before .before .before in
-    let c₆ = c₄ .before .before in
-    let a = c₆ .args in
-    let l = c .before .loop in
-    appended (a .at) (decimal (a .n) []) (a .out .now) _ _ (omega arith)
+returns-3 c = let c₄ = c .before .before .before .before in let c₆ = c₄ .before .before in let a = c₆ .args in
+    let l = c .before .loop in appended (a .at) (decimal (a .n) []) (a .out .now) _ _ (omega arith)
     (left-done _ _ _ _ _ _ (l .inv .0) (omega arith) (omega arith)) (ap (λ (k : ℕ). a .at + k) (c₄ .digit-count .ensures))
 
 pub put-number-spec : {M : Type 1} → statement M
-put-number-spec =
-    tie.close (tie.spec Inv-loop μ-loop (λ c κs. search needs) returns (λ c. search needs) returns-2
+put-number-spec = tie.close (tie.spec Inv-loop μ-loop (λ c κs. search needs) returns (λ c. search needs) returns-2
     (λ c. search needs) loop-holds sub-i (λ c. search needs) (λ c. search needs) slice-write-out loop-less loop-again
     (λ c. search needs) (λ c. search needs) slice-write-out-2 same-length returns-3)

@@ -17,35 +17,23 @@ abbrev μ-loop : tie.MeasureT-loop
 μ-loop out₀ at word n i₀ out i = n - i
 
 returns : tie.Need-returns Inv-loop μ-loop
-returns c =
-    let a = c .before .args in
-    not-appended (a .at) (a .word .now) (a .out .now) (omega arith)
+returns c = let a = c .before .args in not-appended (a .at) (a .word .now) (a .out .now) (omega arith)
 
 returns-2 : tie.Need-returns-2 Inv-loop μ-loop
-returns-2 c =
-    let a = c .before .before .args in
-    not-appended (a .at) (a .word .now) (a .out .now) (omega arith)
+returns-2 c = let a = c .before .before .args in not-appended (a .at) (a .word .now) (a .out .now) (omega arith)
 
 loop-holds : tie.Need-loop-holds Inv-loop μ-loop
-loop-holds c =
-    let a = c .before .before .args in
+loop-holds c = let a = c .before .before .args in
     (omega arith, refl, omega arith, paste-zero (a .out .now) (a .at) (a .word .now))
 
 slice-write-out : tie.Need-slice-write-out Inv-loop μ-loop
-slice-write-out c =
-    let c₂ = c .before .before in
-    let c₅ = c₂ .before .before .before in
-    let a = c₅ .args in
+slice-write-out c = let c₂ = c .before .before in let c₅ = c₂ .before .before .before in let a = c₅ .args in
     let l = c₂ .loop in
     let pasted = length-paste (a .out .now) (a .at) (a .word .now) (l .i) (omega arith) (omega arith) in
-    let e : length (l .out) ≡ length (a .out .now) = ap length (l .inv .3) ∙ pasted in
-    omega arith
+    let e : length (l .out) ≡ length (a .out .now) = ap length (l .inv .3) ∙ pasted in omega arith
 
 loop-again : tie.Need-loop-again Inv-loop μ-loop
-loop-again c =
-    let c₂ = c .before .before in
-    let c₅ = c₂ .before .before .before in
-    let a = c₅ .args in
+loop-again c = let c₂ = c .before .before in let c₅ = c₂ .before .before .before in let a = c₅ .args in
     let l = c₂ .loop in (
       omega arith,
       l .inv .1,
@@ -54,20 +42,15 @@ loop-again c =
     )
 
 same-length : tie.Need-same-length Inv-loop μ-loop
-same-length c =
-    let a = c .before .before .before .before .args in
-    let l = c .before .loop in
+same-length c = let a = c .before .before .before .before .args in let l = c .before .loop in
     ap length (l .inv .3) ∙ length-paste (a .out .now) (a .at) (a .word .now) (l .i) (omega arith) (omega arith)
 
 returns-3 : tie.Need-returns-3 Inv-loop μ-loop
-returns-3 c =
-    let a = c .before .before .before .before .args in
-    let l = c .before .loop in
+returns-3 c = let a = c .before .before .before .before .args in let l = c .before .loop in
     appended (a .at) (a .word .now) (a .out .now) _ _ (omega arith)
     (l .inv .3 ∙ word-pasted (a .at) (a .word .now) (a .out .now) (l .i) (omega arith)) refl
 
 pub put-word-spec : {M : Type 1} → statement M
-put-word-spec =
-    tie.close (tie.spec Inv-loop μ-loop returns (λ c. search needs) returns-2 loop-holds (λ c. search needs)
+put-word-spec = tie.close (tie.spec Inv-loop μ-loop returns (λ c. search needs) returns-2 loop-holds (λ c. search needs)
     (λ c. search needs) slice-write-out (λ c. search needs) (λ c. search needs) loop-again (λ c. search needs)
     same-length returns-3)

@@ -8,9 +8,7 @@ use Rattle.point_answers.proofs.calls.contract_answer.Tie as tie
 
 returns : tie.Need-returns
 unfolding through allRefuse answerTo rows accepted
-returns c = λ S u v.
-    let k1 = c .before in
-    let k3 = k1 .before .before in
+returns c = λ S u v. let k1 = c .before in let k3 = k1 .before .before in
     rw (c .row3 .ensures, k1 .row2 .ensures, k1 .before .is-past .ensures, k3 .row .ensures, k3 .before .outside .ensures)
     (folded _ _ refl refl)
 

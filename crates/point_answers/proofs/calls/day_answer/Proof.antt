@@ -11,5 +11,4 @@ unfolding through allRefuse answerTo rows accepted
 returns c = λ S u v. rw (c .row2 .ensures, c .before .row .ensures, c .before .before .is-past .ensures) (folded _ _ refl refl)
 
 pub day-answer-spec : {M : Type 1} → statement M
-day-answer-spec =
-    tie.close (tie.spec (λ c κs. search needs) (λ c κs. search needs) (λ c κs. search needs) returns)
+day-answer-spec = tie.close (tie.spec (λ c κs. search needs) (λ c κs. search needs) (λ c κs. search needs) returns)

@@ -9,12 +9,8 @@ use Rattle.point_answers.proofs.calls.failure_rows.Tie as tie
 
 returns : tie.Need-returns
 unfolding through allRefuse failureRows rows
-returns c =
-    let k4 = c .before .before .before .before in
-    let k6 = k4 .before .before in
-    let k8 = k6 .before .before in
-    let k10 = k8 .before .before in
-    rw (
+returns c = let k4 = c .before .before .before .before in let k6 = k4 .before .before in let k8 = k6 .before .before in
+    let k10 = k8 .before .before in rw (
       c .row5 .ensures,
       c .before .or .ensures,
       k4 .row4 .ensures,
@@ -24,8 +20,7 @@ returns c =
       k8 .sum-past .ensures,
       k10 .row .ensures,
       k10 .before .outside .ensures,
-    )
-    (folded _ _ refl refl)
+    ) (folded _ _ refl refl)
 
 pub failure-rows-spec : {M : Type 1} → statement M
 failure-rows-spec =

@@ -10,23 +10,18 @@ returns c = λ S day u v e. rw (e, ← (c .before .not-enrolled .ensures), c .if
 
 returns-2 : tie.Need-returns-2
 unfolding rowsAt firstOf
-returns-2 c = λ S day u v e.
-    let p = c .before .before in
+returns-2 c = λ S day u v e. let p = c .before .before in
     rw (e, ← (p .before .not-enrolled .ensures), p .if1 .left, ← (c .before .out-of-time .ensures), c .if2 .taken)
 
 returns-3 : tie.Need-returns-3
 unfolding rowsAt firstOf
-returns-3 c = λ S day u v e.
-    let t = c .before .before .before in
-    let p = t .before .before in
+returns-3 c = λ S day u v e. let t = c .before .before .before in let p = t .before .before in
     rw (e, ← (p .before .not-enrolled .ensures), p .if1 .left, ← (t .before .out-of-time .ensures), t .if2 .left)
     (rw (← (c .before .before .turn-of .ensures), ← (c .before .index-disagrees .ensures), c .if3 .taken))
 
 returns-4 : tie.Need-returns-4
 unfolding rowsAt firstOf
-returns-4 c = λ S day u v e.
-    let t = c .before .before .before in
-    let p = t .before .before in
+returns-4 c = λ S day u v e. let t = c .before .before .before in let p = t .before .before in
     rw (e, ← (p .before .not-enrolled .ensures), p .if1 .left, ← (t .before .out-of-time .ensures), t .if2 .left)
     (rw (← (c .before .before .turn-of .ensures), ← (c .before .index-disagrees .ensures), c .if3 .left))
 

@@ -10,10 +10,7 @@ use Rattle.point_answers.proofs.rows.out_of_service.Tie as tie
 
 returns : tie.Need-returns
 unfolding through allRefuse answerAt rowsAt effectOf
-returns c =
-    let k2 = c .before .before in
-    let k4 = k2 .before .before in
-    let k6 = k4 .before .before in
+returns c = let k2 = c .before .before in let k4 = k2 .before .before in let k6 = k4 .before .before in
     let k9 = k6 .before .before .before in
     rw (c .row5 .ensures, c .before .is-full .ensures, k2 .row4 .ensures, k4 .row3 .ensures)
     (rw (k4 .before .not-enrolled .ensures, k6 .row2 .ensures, k9 .row .ensures, k9 .before .is-past .ensures)

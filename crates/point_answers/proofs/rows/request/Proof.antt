@@ -12,20 +12,11 @@ use Rattle.point_answers.proofs.rows.request.Tie as tie
 
 returns : tie.Need-returns
 unfolding through allRefuse answerAt rowsAt effectOf
-returns c =
-    let k2 = c .before .before in
-    let k3 = k2 .before in
-    let k5 = k3 .before .before in
-    let k7 = k5 .before .before in
-    let k9 = k7 .before .before in
-    let k11 = k9 .before .before in
-    let k13 = k11 .before .before in
-    let k15 = k13 .before .before in
-    let k17 = k15 .before .before in
-    let k20 = k17 .before .before .before in
-    let k24 = k20 .before .before .before .before in
-    let s = k24 .before .before .before .before .before .before .before .before .before .before .args in
-    let x = s .x in
+returns c = let k2 = c .before .before in let k3 = k2 .before in let k5 = k3 .before .before in
+    let k7 = k5 .before .before in let k9 = k7 .before .before in let k11 = k9 .before .before in
+    let k13 = k11 .before .before in let k15 = k13 .before .before in let k17 = k15 .before .before in
+    let k20 = k17 .before .before .before in let k24 = k20 .before .before .before .before in
+    let s = k24 .before .before .before .before .before .before .before .before .before .before .args in let x = s .x in
     rw (c .row11 .ensures, c .before .is-full .ensures, k2 .near-row .ensures, k3 .row10 .ensures)
     (rw (k5 .row9 .ensures, k7 .row8 .ensures, k7 .before .is-pending .ensures, k9 .row7 .ensures)
     (rw (k11 .row6 .ensures, k11 .before .bad-day .ensures, k13 .row5 .ensures)
@@ -39,8 +30,7 @@ returns c =
     ∙ carried (_ ∷ _ ∷ _ ∷ _ ∷ _ ∷ []) (badDay (x .settings) (x .today) (s .day)) 3 _ _ _ (awaited (x .settings) (x .today) (s .day)))))))))))
 
 pub request-spec : {M : Type 1} → statement M
-request-spec =
-    tie.close (tie.spec (λ c κs. search needs) (λ c κs. search needs) (λ c κs. search needs)
+request-spec = tie.close (tie.spec (λ c κs. search needs) (λ c κs. search needs) (λ c κs. search needs)
     (λ c κs. search needs) (λ c κs. search needs) (λ c κs. search needs) (λ c κs. search needs)
     (λ c κs. search needs) (λ c κs. search needs) (λ c. search needs) (λ c κs. search needs)
     (λ c κs. search needs) (λ c κs. search needs) (λ c κs. search needs) (λ c κs. search needs)

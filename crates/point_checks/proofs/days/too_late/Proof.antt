@@ -9,8 +9,7 @@ returns-2 : tie.Need-returns-2
 returns-2 c = rw (c .before .before .before .q .given .1, between-none _ _ (c .before .if1 .taken))
 
 returns-3 : tie.Need-returns-3
-returns-3 c =
-    let days = c .before in
+returns-3 c = let days = c .before in
     rw (days .before .before .before .q .given .1, ← (between-counted _ _ _ _ (refl) (days .working-days .ensures)))
 
 pub too-late-spec : {M : Type 1} → statement M

@@ -6,13 +6,11 @@ use Rattle.point_checks.proofs.marks.is_full.Statement.{statement}
 use Rattle.point_checks.proofs.marks.is_full.Tie as tie
 
 returns : tie.Need-returns
-returns c =
-    let k = c .before .before in
+returns c = let k = c .before .before in
     rw (c .before .if1 .taken, c .if2 .taken, add-zero) (kept-room _ _ _ _ _ (k .before .pending-due .ensures) (k .kind-due .ensures))
 
 returns-2 : tie.Need-returns-2
-returns-2 c =
-    let k = c .before .before in
+returns-2 c = let k = c .before .before in
     rw (c .before .if1 .taken, c .if2 .left) (named-room _ _ _ _ _ (k .before .pending-due .ensures) (k .kind-due .ensures))
 
 returns-3 : tie.Need-returns-3

@@ -8,8 +8,7 @@ use Rattle.point_effects.proofs.effects.effect_of.Statement.{statement}
 use Rattle.point_effects.proofs.effects.effect_of.Tie as tie
 
 pub effect-of-spec : {M : Type 1} → statement M
-effect-of-spec =
-    tie.close (tie.spec (λ c. search needs)
+effect-of-spec = tie.close (tie.spec (λ c. search needs)
     (λ c κs. enrol-fits _ _ _ _ _ _ (rw (c .before .a .given .1) at (c .before .before .before .pre)))
     (λ c. search needs) (λ c. omega (arith, (service-fits _ _ _ _ _ (rw (c .before .a2 .given .1) at (c .before .before .before .pre))) .0))
     (λ c κs. (service-fits _ _ _ _ _ (rw (c .before .a2 .given .1) at (c .before .before .before .pre))) .1)

@@ -20,6 +20,5 @@ unfolding failed
 returns-3 c = λ S t. rw (ne-eqb _ _ (c .before .before .if1 .left), ← (c .before .is-by .ensures), c .if2 .left)
 
 pub fills-spec : {M : Type 1} → statement M
-fills-spec =
-    tie.close (tie.spec (λ c κs. search needs) (λ c. search needs) (λ c κs. search needs) returns
+fills-spec = tie.close (tie.spec (λ c κs. search needs) (λ c. search needs) (λ c κs. search needs) returns
     (λ c κs. search needs) (λ c κs. search needs) returns-2 returns-3)

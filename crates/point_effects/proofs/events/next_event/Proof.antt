@@ -5,6 +5,5 @@ use Rattle.point_effects.proofs.events.next_event.Statement.{statement}
 use Rattle.point_effects.proofs.events.next_event.Tie as tie
 
 pub next-event-spec : {M : Type 1} → statement M
-next-event-spec =
-    tie.close (tie.spec (λ c κs. search needs) (λ c κs. search needs)
+next-event-spec = tie.close (tie.spec (λ c κs. search needs) (λ c κs. search needs)
     (λ c. unfold nextEvent in rw (← (c .before .due-by .ensures)) (c .happen .ensures)))

@@ -18,13 +18,12 @@ book-slots-requires c κs = (fair _ (sym (c .before .before .before .is-fair .en
 
 returns-2 : tie.Need-returns-2
 unfolding bookedIfFair booked
-returns-2 c =
-    rw (
-      ← (c .before .before .before .before .is-fair .ensures),
-      not-false (c .before .before .before .before .is-fair .result) (c .before .before .before .if1 .left),
-      c .book-slots .ensures,
-      c .before .before .period-count .ensures,
-    )
+returns-2 c = rw (
+  ← (c .before .before .before .before .is-fair .ensures),
+  not-false (c .before .before .before .before .is-fair .result) (c .before .before .before .if1 .left),
+  c .book-slots .ensures,
+  c .before .before .period-count .ensures,
+)
 
 pub book-spec : {M : Type 1} → statement M
 book-spec = tie.close (tie.spec (λ c κs. search needs) returns (λ c κs. search needs) book-slots-requires returns-2)

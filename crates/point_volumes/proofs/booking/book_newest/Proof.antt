@@ -17,6 +17,5 @@ returns-2 c =
     rw (← ((c .before .before .is-fair) .ensures), not-false ((c .before .before .is-fair) .result) ((c .before .if1) .left), (c .booked-period) .ensures)
 
 pub book-newest-spec : {M : Type 1} → statement M
-book-newest-spec =
-    tie.close (tie.spec (λ c κs. search needs) returns
+book-newest-spec = tie.close (tie.spec (λ c κs. search needs) returns
     (λ c κs. fair _ (sym ((c .before .is-fair) .ensures) ∙ not-false _ ((c .if1) .left))) returns-2)

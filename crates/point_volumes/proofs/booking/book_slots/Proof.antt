@@ -16,8 +16,7 @@ abbrev μ-loop : tie.MeasureT-loop
 μ-loop s n from out₀ end₀ i₀ out end i = i
 
 returns : tie.Need-returns Inv-loop μ-loop
-returns c = let l = c .before .before .before .before .before in
-    rw (c .before .before .booked-period .ensures)
+returns c = let l = c .before .before .before .before .before in rw (c .before .before .booked-period .ensures)
     (sym (slots-last (given (l .before .args .s)) (l .before .args .s .from) (l .loop .end) (l .loop .i) (l .loop .out) (omega arith) (c .if1 .taken)) ∙ l .loop .inv .1)
 
 loop-again : tie.Need-loop-again Inv-loop μ-loop
@@ -28,8 +27,7 @@ loop-again c = let l = c .before .before .before .before .before in (
 )
 
 returns-2 : tie.Need-returns-2 Inv-loop μ-loop
-returns-2 c = let l = c .before in
-    let z : l .loop .i ≡ 0 = omega arith in
+returns-2 c = let l = c .before in let z : l .loop .i ≡ 0 = omega arith in
     sym (slots-none (given (l .before .args .s)) (l .before .args .s .from) (l .loop .end) (l .loop .out))
     ∙ ap (λ (n : ℕ). bookedSlots (given (l .before .args .s)) (l .before .args .s .from) (l .loop .end) n (l .loop .out)) (sym z) ∙ l .loop .inv .1
 

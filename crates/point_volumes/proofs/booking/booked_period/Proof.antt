@@ -6,13 +6,12 @@ use Rattle.point_volumes.proofs.booking.booked_period.Tie as tie
 
 returns : tie.Need-returns
 unfolding bookedPeriod
-returns c =
-    rw (
-      c .wrapping-add-u64 .ensures,
-      c .before .less .ensures,
-      c .before .before .given2 .ensures .0,
-      c .before .before .before .given .ensures .0,
-    )
+returns c = rw (
+  c .wrapping-add-u64 .ensures,
+  c .before .less .ensures,
+  c .before .before .given2 .ensures .0,
+  c .before .before .before .given .ensures .0,
+)
 
 pub booked-period-spec : {M : Type 1} → statement M
 booked-period-spec = tie.close (tie.spec (λ c κs. search needs) (λ c κs. search needs) (λ c κs. search needs) (λ c κs. search needs) returns)

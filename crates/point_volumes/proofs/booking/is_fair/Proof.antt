@@ -6,27 +6,19 @@ use Rattle.point_volumes.proofs.booking.is_fair.Statement.{statement}
 use Rattle.point_volumes.proofs.booking.is_fair.Tie as tie
 
 returns-4 : tie.Need-returns-4
-returns-4 c =
-    let u = c .before .before in
-    let t = u .before .before in
+returns-4 c = let u = c .before .before in let t = u .before .before in
     rw (lt-ltb _ _ (t .before .before .if1 .left), le-leb _ _ (t .if2 .left), le-leb _ _ (u .if3 .left), lt-leb _ _ (c .if4 .taken))
 
 mul-result : tie.Need-mul-result
-mul-result c =
-    let a = c .before in
-    let u = a .before .before in
+mul-result c = let a = c .before in let u = a .before .before in
     record { fits = omega (arith, mul-le-mul (a .if4 .left) (u .if3 .left)) }
 
 returns-5 : tie.Need-returns-5
-returns-5 c =
-    let a = c .before in
-    let u = a .before .before in
-    let t = u .before .before in
+returns-5 c = let a = c .before in let u = a .before .before in let t = u .before .before in
     rw (lt-ltb _ _ (t .before .before .if1 .left), le-leb _ _ (t .if2 .left), le-leb _ _ (u .if3 .left), le-leb _ _ (a .if4 .left))
 
 pub is-fair-spec : {M : Type 1} → statement M
-is-fair-spec =
-    tie.close (tie.spec (λ c. rw (le-ltb _ _ (c .if1 .taken)))
+is-fair-spec = tie.close (tie.spec (λ c. rw (le-ltb _ _ (c .if1 .taken)))
     (λ c. rw (lt-ltb _ _ (c .before .before .if1 .left), lt-leb _ _ (c .if2 .taken)))
     (λ c. rw (lt-ltb _ _ (c .before .before .before .before .if1 .left), le-leb _ _ (c .before .before .if2 .left), lt-leb _ _ (c .if3 .taken)))
     returns-4 mul-result returns-5)

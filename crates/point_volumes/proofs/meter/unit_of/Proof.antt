@@ -9,11 +9,9 @@ use Rattle.point_volumes.proofs.meter.unit_of.Tie as tie
 
 returns-2 : tie.Need-returns-2
 unfolding unitOf
-returns-2 c = let m = c .before .before .args .m in
-    let k : 0 ≡ 3 - m .after = omega arith in
+returns-2 c = let m = c .before .before .args .m in let k : 0 ≡ 3 - m .after = omega arith in
     ap (λ (n : ℕ). 10 ^ n) k
 
 pub unit-of-spec : {M : Type 1} → statement M
-unit-of-spec =
-    tie.close (tie.spec (λ c. search needs) (λ c. search needs) (λ c κs. search needs)
+unit-of-spec = tie.close (tie.spec (λ c. search needs) (λ c. search needs) (λ c κs. search needs)
     (λ c. unfold unitOf in c .power .ensures) returns-2)

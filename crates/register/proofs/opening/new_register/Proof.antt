@@ -4,6 +4,5 @@ use Rattle.register.proofs.opening.new_register.Statement.{statement}
 use Rattle.register.proofs.opening.new_register.Tie as tie
 
 pub new-register-spec : {M : Type 1} → statement M
-new-register-spec =
-    tie.close (tie.spec (λ c κs. search needs) (λ c κs. search needs)
+new-register-spec = tie.close (tie.spec (λ c κs. search needs) (λ c κs. search needs)
     (λ c. rw (c .before .first-contracts .ensures, c .blank-point .ensures)))

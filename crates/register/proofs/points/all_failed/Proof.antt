@@ -15,11 +15,10 @@ abbrev μ-loop : tie.MeasureT-loop
 
 loop-again : tie.Need-loop-again Inv-loop μ-loop
 unfolding failedOn
-loop-again c =
-    let l = c .before .before .before .before .before .before in (
-      search needs,
-      rw (c .note .ensures, c .before .fail .ensures, l .loop .inv .1) (swept-more _ (l .before .args .ps) (l .loop .n) _ (search needs)),
-    )
+loop-again c = let l = c .before .before .before .before .before .before in (
+  search needs,
+  rw (c .note .ensures, c .before .fail .ensures, l .loop .inv .1) (swept-more _ (l .before .args .ps) (l .loop .n) _ (search needs)),
+)
 
 pub all-failed-spec : {M : Type 1} → statement M
 all-failed-spec =

@@ -21,12 +21,8 @@ abbrev μ-loop : tie.MeasureT-loop
 
 returns : tie.Need-returns Inv-loop μ-loop
 unfolding failureFills
-returns c = λ S.
-    let seen = c .before .before in
-    let l = seen .before .before .before in
-    let a = l .before .args in
-    let i = l .loop .k in
-    let f : ℕ → Bool = λ p. failureFills S (a .t) (a .s) (pointAt p (a .t3)) in
+returns c = λ S. let seen = c .before .before in let l = seen .before .before .before in let a = l .before .args in
+    let i = l .loop .k in let f : ℕ → Bool = λ p. failureFills S (a .t) (a .s) (pointAt p (a .t3)) in
     sym (l .loop .inv .1 S ∙ any-found f (i + 1) (32 - i) (omega arith)
     (rw (point-next (a .t3) i) (rw (seen .view-of .ensures) at (sym (c .before .fills .ensures S (a .t))) ∙ c .if1 .taken)))
 
@@ -34,22 +30,15 @@ loop-again : tie.Need-loop-again Inv-loop μ-loop
 unfolding failureFills
 loop-again c = (
   search needs,
-  λ S.
-      let seen = c .before .before in
-      let l = seen .before .before .before in
-      let a = l .before .args in
-      let i = l .loop .k in
-      let f : ℕ → Bool = λ p. failureFills S (a .t) (a .s) (pointAt p (a .t3)) in
+  λ S. let seen = c .before .before in let l = seen .before .before .before in let a = l .before .args in
+      let i = l .loop .k in let f : ℕ → Bool = λ p. failureFills S (a .t) (a .s) (pointAt p (a .t3)) in
       l .loop .inv .1 S ∙ any-passed f i (omega arith)
       (rw (point-next (a .t3) i) (rw (seen .view-of .ensures) at (sym (c .before .fills .ensures S (a .t))) ∙ c .if1 .left)),
 )
 
 returns-2 : tie.Need-returns-2 Inv-loop μ-loop
-returns-2 c = λ S.
-    let a = c .before .before .args in
-    let i = c .before .loop .k in
-    let f : ℕ → Bool = λ p. failureFills S (a .t) (a .s) (pointAt p (a .t3)) in
-    let z : 32 - i ≡ 0 = omega arith in
+returns-2 c = λ S. let a = c .before .before .args in let i = c .before .loop .k in
+    let f : ℕ → Bool = λ p. failureFills S (a .t) (a .s) (pointAt p (a .t3)) in let z : 32 - i ≡ 0 = omega arith in
     sym (c .before .loop .inv .1 S ∙ ap (λ (n : ℕ). anyPoint (i + 1) n f) z ∙ any-none f (i + 1))
 
 pub any-filled-spec : {M : Type 1} → statement M

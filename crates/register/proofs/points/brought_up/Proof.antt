@@ -7,18 +7,14 @@ use Rattle.register.proofs.points.brought_up.Statement.{statement}
 use Rattle.register.proofs.points.brought_up.Tie as tie
 
 returns-2 : tie.Need-returns-2
-returns-2 c =
-    let a = c .before .before .before .args in
+returns-2 c = let a = c .before .before .before .args in
     sym (advanced-same (a .today) (a .r) (omega arith) (c .if2 .taken))
 
 returns-3 : tie.Need-returns-3
-returns-3 c =
-    let a = c .before .before .before .before .before .before .args in
-    rw (c .all-caught-up .ensures)
+returns-3 c = let a = c .before .before .before .before .before .before .args in rw (c .all-caught-up .ensures)
     (sym (advanced-new (a .today) (a .r) (omega arith) (c .before .before .before .if2 .left)))
 
 pub brought-up-spec : {M : Type 1} → statement M
-brought-up-spec =
-    tie.close (tie.spec (λ c. search needs)
+brought-up-spec = tie.close (tie.spec (λ c. search needs)
     (λ c. sym (advanced-off (c .before .args .today) (c .before .args .r) (c .if1 .taken))) (λ c. search needs)
     returns-2 (λ c κs. search needs) returns-3)

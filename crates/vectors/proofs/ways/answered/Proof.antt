@@ -21,24 +21,20 @@ slice-reshare-prefix-then : tie.Need-slice-reshare-prefix-then Inv-loop μ-loop
 slice-reshare-prefix-then c = fed-within _ _ _ _ _ ((c .before .before .before .feed) .ensures)
 
 add-at : tie.Need-add-at Inv-loop μ-loop
-add-at c =
-    let fed = c .before .before .before .before .before .before in
+add-at c = let fed = c .before .before .before .before .before .before in
     omega (arith, next-within _ _ _ _ _ _ _ (fed .feed .ensures) (fed .before .before .before .piece-end .ensures .0))
 
 sub-left : tie.Need-sub-left Inv-loop μ-loop
-sub-left c =
-    let fed = c .before .before .before .before .before .before in
+sub-left c = let fed = c .before .before .before .before .before .before in
     omega (arith, next-within _ _ _ _ _ _ _ (fed .feed .ensures) (fed .before .before .before .piece-end .ensures .0))
 
 loop-again : tie.Need-loop-again Inv-loop μ-loop
-loop-again c =
-    let fed = c .before .before .before .before .before .before .before in
+loop-again c = let fed = c .before .before .before .before .before .before .before in
     let on = next-within _ _ _ _ _ _ _ (fed .feed .ensures) (fed .before .before .before .piece-end .ensures .0) in
     (search needs, omega (arith, on))
 
 pub answered-spec : {M : Type 1} → statement M
-answered-spec =
-    tie.close (tie.spec Inv-loop μ-loop (λ c κs. search needs) (λ c κs. search needs) (λ c. search needs)
+answered-spec = tie.close (tie.spec Inv-loop μ-loop (λ c κs. search needs) (λ c κs. search needs) (λ c. search needs)
     (λ c κs. search needs) (λ c. search needs) (λ c. search needs) (λ c. search needs) (λ c κs. search needs)
     slice-reshare-prefix-then (λ c. sym (length-take-le _ _ (slice-reshare-prefix-then (c .before))))
     (λ c κs. search needs) (λ c κs. search needs) (λ c. search needs) (λ c. search needs) add-at sub-left

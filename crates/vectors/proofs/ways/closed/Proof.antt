@@ -19,8 +19,7 @@ slice-reshare-prefix-then : tie.Need-slice-reshare-prefix-then Inv-loop μ-loop
 slice-reshare-prefix-then c = closed-within _ _ _ _ _ ((c .before .before .close) .ensures)
 
 pub closed-spec : {M : Type 1} → statement M
-closed-spec =
-    tie.close (tie.spec Inv-loop μ-loop (λ c. search needs) (λ c κs. search needs) slice-reshare-prefix-then
+closed-spec = tie.close (tie.spec Inv-loop μ-loop (λ c. search needs) (λ c κs. search needs) slice-reshare-prefix-then
     (λ c. sym (length-take-le _ _ (slice-reshare-prefix-then (c .before)))) (λ c κs. search needs)
     (λ c κs. search needs) (λ c. search needs) (λ c. search needs) (λ c. search needs) (λ c. search needs)
     (λ c κs. search needs) (λ c. search needs) (λ c. search needs))

@@ -10,7 +10,6 @@ slice-reshare-prefix-then : tie.Need-slice-reshare-prefix-then
 slice-reshare-prefix-then c = fed-within _ _ _ _ _ ((c .before .before .before .finish) .ensures)
 
 pub last-line-spec : {M : Type 1} → statement M
-last-line-spec =
-    tie.close (tie.spec (λ c κs. search needs) slice-reshare-prefix-then
+last-line-spec = tie.close (tie.spec (λ c κs. search needs) slice-reshare-prefix-then
     (λ c. sym (length-take-le _ _ (slice-reshare-prefix-then (c .before)))) (λ c κs. search needs) (λ c. search needs)
     (λ c. search needs))

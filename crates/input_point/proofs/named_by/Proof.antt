@@ -1,9 +1,0 @@
-use borrow.Author.Needs.{needs}
-use Rattle.input_point.proofs.named_by.Statement.{statement}
-use Rattle.input_point.proofs.named_by.Tie as tie
-
-pub named-by-spec : {M : Type 1} → statement M
-named-by-spec =
-    tie.close (tie.spec (λ c. search needs) (λ c κs. search needs) (λ c. search needs) (λ c κs. search needs)
-    (λ c. search needs) (λ c. search needs) (λ c κs. search needs) (λ c. search needs) (λ c. search needs)
-    (λ c. rw ((c .before .a) .given .1)) (λ c. search needs))

@@ -1,0 +1,182 @@
+// What an accepted message stores, where nothing falls due by its day.
+use crate::answers::Said;
+use line_messages::Message;
+use point_periods::newest_place;
+use point_volumes::book_newest;
+use rules::Action;
+use rules::Effect;
+use rules::Fields;
+use rules::Period;
+use rules::Span;
+ghost use mathlib.Core.Path.{_≡_};
+ghost use mathlib.Core.Bool.{_&&_};
+ghost use Prim.Native.Nat.{min};
+ghost use lib.Dec.{eqb, leb, ltb};
+ghost use Rattle.input_point.specs.Between.Deeds.{keptDeed, namingDeed, readingDeed, effectDeed, ruledDeed, callDeed};
+ghost use Rattle.input_point.specs.Between.Deeds.{deedOf};
+
+// What a call stores at the point that it names: its fields, the number of its periods, and one slot.
+pub struct Entry {
+    pub today: u32,
+    pub fields: Fields,
+    pub count: usize,
+    pub place: usize,
+    pub period: Period,
+}
+
+pub enum Deed {
+    Slot(Entry),
+    // A reading whose days reach back behind the newest period.
+    Back(u32, Span, Fields),
+    // A supplier comes under contract.
+    Sign(u32, usize),
+    // The day alone.
+    Pass(u32),
+    // What may concern every point.
+    Whole,
+}
+
+// The newest of n periods starts on a day.
+fn starts_on(n: usize, start: u32, day: u32) -> bool
+    ensures { λ r. ⌜ r ≡ (ltb 0 (min n 24) && eqb start day) ⌝ }
+{
+    if n == 0 {
+        return false;
+    }
+    start == day
+}
+
+// The days from a day on all lie in the newest of n periods.
+fn lies_in(n: usize, start: u32, from: u32) -> bool
+    ensures { λ r. ⌜ r ≡ (ltb 0 (min n 24) && leb start from) ⌝ }
+{
+    if n == 0 {
+        return false;
+    }
+    start <= from
+}
+
+// No slot changes.
+fn kept_deed(t: u32, g: Fields, n: usize, q: Period) -> Deed
+    ensures { λ r. ⌜ r ≡ keptDeed t g n q ⌝ }
+{
+    Deed::Slot(Entry {
+        today: t,
+        fields: g,
+        count: n,
+        place: newest_place(n),
+        period: q,
+    })
+}
+
+// The fields' holder is named: in the newest period where that starts today, else in a new one.
+fn naming_deed(t: u32, g: Fields, n: usize, q: Period) -> Deed
+    ensures { λ r. ⌜ r ≡ namingDeed t g n q ⌝ }
+{
+    let s = g.supply;
+    let holder = s.holder;
+    let start = q.start;
+    if starts_on(n, start, t) {
+        return Deed::Slot(Entry {
+            today: t,
+            fields: g,
+            count: n,
+            place: newest_place(n),
+            period: Period {
+                start: t,
+                holder: holder,
+                volume: q.volume,
+            },
+        });
+    }
+    if n < 24 {
+        return Deed::Slot(Entry {
+            today: t,
+            fields: g,
+            count: n + 1,
+            place: n,
+            period: Period {
+                start: t,
+                holder: holder,
+                volume: 0,
+            },
+        });
+    }
+    kept_deed(t, g, n, q)
+}
+
+fn reading_deed(t: u32, s: Span, g: Fields, n: usize, q: Period) -> Deed
+    ensures { λ r. ⌜ r ≡ readingDeed t s g n q ⌝ }
+{
+    let start = q.start;
+    if lies_in(n, start, s.from) {
+        return Deed::Slot(Entry {
+            today: t,
+            fields: g,
+            count: n,
+            place: newest_place(n),
+            period: book_newest(s, q),
+        });
+    }
+    Deed::Back(t, s, g)
+}
+
+// An effect on a point with n periods, the newest of which is q.
+fn effect_deed(t: u32, e: Effect, n: usize, q: Period) -> Deed
+    ensures { λ r. ⌜ r ≡ effectDeed t e n q ⌝ }
+{
+    match e {
+        Effect::Keep(g) => kept_deed(t, g, n, q),
+        Effect::Name(g) => naming_deed(t, g, n, q),
+        Effect::Enrol(g) => naming_deed(t, g, n, q),
+        Effect::Read(s, g) => reading_deed(t, s, g, n, q),
+        Effect::Request(_, g) => kept_deed(t, g, n, q),
+    }
+}
+
+fn ruled_deed(t: u32, said: Said, n: usize, q: Period) -> Deed
+    ensures { λ r. ⌜ r ≡ ruledDeed t said n q ⌝ }
+{
+    match said {
+        Said::Known(_) => Deed::Whole,
+        Said::Ruled(x) => {
+            let e = x.effect;
+            effect_deed(t, e, n, q)
+        }
+        Said::Fails(_, _) => Deed::Whole,
+    }
+}
+
+fn call_deed(t: u32, a: Action, said: Said, n: usize, q: Period) -> Deed
+    ensures { λ r. ⌜ r ≡ callDeed t a said n q ⌝ }
+{
+    match a {
+        Action::Contract { supplier } => {
+            if supplier < 100 {
+                return Deed::Sign(t, supplier as usize);
+            }
+            Deed::Whole
+        }
+        Action::Failure { supplier: _ } => Deed::Whole,
+        Action::At { point: _, act: _ } => ruled_deed(t, said, n, q),
+        Action::Day => Deed::Pass(t),
+    }
+}
+
+// What an accepted message stores, where nothing falls due before the day quiet, and the point that it names has n
+// periods, the newest of which is q.
+pub fn deed_of(quiet: u32, m: Message, said: Said, n: usize, q: Period) -> Deed
+    ensures { λ r. ⌜ r ≡ deedOf quiet m said n q ⌝ }
+{
+    match m {
+        Message::Open(_) => Deed::Whole,
+        Message::Ask(c) => {
+            if c.today < quiet as u64 {
+                let a = c.action;
+                return call_deed(c.today as u32, a, said, n, q);
+            }
+            Deed::Whole
+        }
+        Message::Unreadable => Deed::Whole,
+    }
+}

@@ -1,0 +1,135 @@
+-- The view of a point brought up to a day is the view brought up.
+use mathlib.Core.Path.{_≡_, refl, sym, _∙_, ap}
+use mathlib.Core.Bool.{Bool, true, false, cond, not, _&&_}
+use Prim.Native.Nat.{ℕ, _+_, _-_, _≤_, _<_, min}
+use native.Mathlib.Omega.{arith}
+use borrow.Author.Tests.{ltb-true, eqb-true, eq-eqb, ne-eqb, le-leb, lt-leb}
+use lib.Dec.{eqb, leb, ltb}
+use lib.ListN.{length, set, length-set}
+use lib.Seq.{getD-set-same}
+use Rattle.dates.specs.Dates.{lastDay}
+use Rattle.rules.specs.declared.{Fields.Fields, History.History, Period.Period, Point.Point, Settings.Settings, Due.Due, View.View}
+use Rattle.rules.specs.Register.{
+  period,
+  history,
+  noPeriod,
+  used,
+  newest,
+  startsOn,
+  replaced,
+  appended,
+  named,
+  happened,
+  nextEvent,
+  catchUp,
+  view,
+}
+use Rattle.input_quiet.specs.declared.{seen.Seen.Seen}
+use Rattle.input_quiet.specs.Quiet.{seen, namedSeen, happenedSeen, nextSeen, viewIn, viewOn}
+
+abbrev pub seenIn : Fields → History → Seen
+seenIn f h = seen f (used h) (newest h .start)
+
+abbrev pub seenOf : Point → Seen
+seenOf g = seenIn (g .fields) (g .history)
+
+-- every slot is there
+abbrev Whole : History → Type 0
+Whole h = 24 ≤ length (h .periods)
+
+module _ (d s : ℕ) (h : History) (w : Whole h) where
+  replaced-seen : (f : Fields) → seenIn f (replaced d s h) ≡ seen f (used h) d
+  unfolding replaced
+  replaced-seen f = ap (λ (q : Period). seen f (used h) (q .start))
+      (getD-set-same (h .periods) (used h - 1) (period d s (newest h .volume)) noPeriod (omega arith))
+
+  appended-seen : (f : Fields) → seenIn f (appended d s h) ≡ cond (ltb (used h) 24) (seen f (used h + 1) d) (seenIn f h)
+  unfolding appended
+  appended-seen f = go (ltb (used h) 24) refl
+    where
+      go : (b : Bool) → ltb (used h) 24 ≡ b →
+          seenIn f (cond b (history (used h + 1) (set (h .periods) (used h) (period d s 0))) h)
+          ≡ cond b (seen f (used h + 1) d) (seenIn f h)
+      go true e = let lt = ltb-true (used h) 24 e in let m : min (used h + 1) 24 ≡ used h + 1 = omega arith in
+          let k : used h + 1 - 1 ≡ used h = omega arith in
+          rw (m, k, getD-set-same (h .periods) (used h) (period d s 0) noPeriod (omega arith))
+      go false e = refl
+
+  named-seen : (f g : Fields) → seenIn f (named d s h) ≡ namedSeen d f (seenIn g h)
+  unfolding named namedSeen startsOn
+  named-seen f g = go (ltb 0 (used h)) refl (eqb (newest h .start) d) refl
+    where
+      go : (a : Bool) → ltb 0 (used h) ≡ a → (b : Bool) → eqb (newest h .start) d ≡ b →
+          seenIn f (cond (a && b) (replaced d s h) (appended d s h)) ≡ cond (a && b) (seen f (used h) (newest h .start))
+          (cond (ltb (used h) 24) (seen f (used h + 1) d) (seen f (used h) (newest h .start)))
+      go true x true y = replaced-seen f ∙ ap (seen f (used h)) (sym (eqb-true (newest h .start) d y))
+      go true x false y = appended-seen f
+      go false x b y = appended-seen f
+
+  named-whole : Whole (named d s h)
+  unfolding named replaced appended
+  named-whole = go (startsOn d h) (ltb (used h) 24)
+    where
+      go : (a b : Bool) →
+          Whole (cond a (history (h .count) (set (h .periods) (used h - 1) (period d s (newest h .volume))))
+          (cond b (history (used h + 1) (set (h .periods) (used h) (period d s 0))) h))
+      go true b = simp length-set w
+      go false true = simp length-set w
+      go false false = w
+
+-- ---- two events at the most
+
+module _ (S : Settings) (t : ℕ) where
+  happened-seen : (e : Due) (g : Point) → Whole (g .history) → seenOf (happened e g) ≡ happenedSeen e (seenOf g)
+  unfolding happened happenedSeen
+  happened-seen Due.Nothing g w = refl
+  happened-seen (Due.Switch d h k) g w = named-seen d h (g .history) w _ (g .fields)
+  happened-seen (Due.Fallback d h k) g w = named-seen d h (g .history) w _ (g .fields)
+  happened-seen (Due.End d h k) g w = named-seen d h (g .history) w _ (g .fields)
+
+  happened-whole : (e : Due) (g : Point) → Whole (g .history) → Whole (happened e g .history)
+  unfolding happened
+  happened-whole Due.Nothing g w = w
+  happened-whole (Due.Switch d h k) g w = named-whole d h (g .history) w
+  happened-whole (Due.Fallback d h k) g w = named-whole d h (g .history) w
+  happened-whole (Due.End d h k) g w = named-whole d h (g .history) w
+
+  next-seen : (g : Point) → Whole (g .history) → seenOf (nextEvent S t g) ≡ nextSeen S t (seenOf g)
+  unfolding nextEvent nextSeen
+  next-seen g w = happened-seen _ g w
+
+  next-whole : (g : Point) → Whole (g .history) → Whole (nextEvent S t g .history)
+  unfolding nextEvent
+  next-whole g w = happened-whole _ g w
+
+  caught-seen : (g : Point) → Whole (g .history) → seenOf (catchUp S t g) ≡ nextSeen S t (nextSeen S t (seenOf g))
+  unfolding catchUp
+  caught-seen g w = next-seen (nextEvent S t g) (next-whole g w) ∙ ap (nextSeen S t) (next-seen g w)
+
+  pub seen-on : (day : ℕ) (g : Point) → Whole (g .history) →
+      view t (cond (not (eqb day t) && leb t lastDay) (catchUp S t g) g) ≡ viewOn S day t (seenOf g)
+  unfolding viewOn startsOn
+  seen-on day g w = go (not (eqb day t) && leb t lastDay)
+    where
+      go : (b : Bool) → viewIn t (seenOf (cond b (catchUp S t g) g)) ≡ viewIn t (cond b (nextSeen S t (nextSeen S t (seenOf g))) (seenOf g))
+      go true = ap (viewIn t) (caught-seen g w)
+      go false = refl
+
+and-false : (b : Bool) → (b && false) ≡ false
+and-false true = refl
+and-false false = refl
+
+-- the view, from what is seen
+module _ (S : Settings) (day t : ℕ) (x : Seen) {v : View} where
+  pub seen-day : day ≡ t → v ≡ viewIn t x → v ≡ viewOn S day t x
+  unfolding viewOn
+  seen-day e h = rw (eq-eqb day t e) h
+
+  pub seen-late : lastDay < t → v ≡ viewIn t x → v ≡ viewOn S day t x
+  unfolding viewOn
+  seen-late e h = rw (lt-leb t lastDay e, and-false (not (eqb day t))) h
+
+  pub seen-up : (day ≡ t → ⊥) → t ≤ lastDay → {once twice : Seen} → once ≡ nextSeen S t x → twice ≡ nextSeen S t once → v ≡ viewIn t twice →
+      v ≡ viewOn S day t x
+  unfolding viewOn
+  seen-up e l h k z = rw (ne-eqb day t e, le-leb t lastDay l, ← h, ← k) z

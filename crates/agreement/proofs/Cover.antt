@@ -16,7 +16,7 @@ use Rattle.rules.specs.declared.{Period.Period, Point.Point}
 use Rattle.rules.specs.DayBook.{Cell, cell}
 use Rattle.rules.specs.Periods.{periodsOf, startsOf, volumesOf, markedDays, holderOn, isBeforeNext, covering, sumDays}
 use Rattle.rules.specs.Periods.{dayAfter, dailySums, total}
-use Rattle.rules.specs.Register.{period}
+use Rattle.rules.specs.Pinned.Register.{period}
 use Rattle.agreement.proofs.Tally.{tally, Runs, Live, Held, Desc, live-runs, tally-desc, sumVolumes, oldest}
 use Rattle.agreement.proofs.Slots.{listed, Sized, take-listed}
 

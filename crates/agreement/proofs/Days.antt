@@ -13,7 +13,7 @@ use Rattle.rules.specs.declared.{Fields.Fields, Point.Point, Register.Register,
 use Rattle.rules.specs.declared.{Effect.Effect}
 use Rattle.rules.specs.Effects.{spansIn, event}
 use Rattle.rules.specs.Volumes.{volume}
-use Rattle.rules.specs.Register.{entered, catchUp, register, pointAt, noPoint, advanced}
+use Rattle.rules.specs.Pinned.Register.{entered, catchUp, register, pointAt, noPoint, advanced}
 use Rattle.rules.specs.DayBook.{cell, Page, Book, written, newDay, goOn, upToDay, look}
 use Rattle.agreement.proofs.Tally.{live-runs, dawn}
 use Rattle.agreement.specs.Sound.{Ahead}

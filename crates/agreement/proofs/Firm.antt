@@ -11,7 +11,7 @@ use Rattle.rules.specs.declared.{Fields.Fields, History.History, Period.Period,
 use Rattle.rules.specs.Effects.{fieldsOf, names, spansIn}
 use Rattle.rules.specs.Volumes.{registered}
 use Rattle.rules.specs.Rejections.{due}
-use Rattle.rules.specs.Register.{used, startsOn, named, entered, bookedAll, view}
+use Rattle.rules.specs.Pinned.Register.{used, startsOn, named, entered, bookedAll, view}
 use Rattle.agreement.specs.Sound.{perDay}
 use Rattle.agreement.proofs.Shares.{All, all-map}
 use Rattle.agreement.proofs.Tally.{begin, beganOn, bookTotals, sumVolumes, oldest, Desc, oldest-begin, sum-begin, sum-bookTotals}

@@ -13,7 +13,7 @@ use Rattle.rules.specs.Fields.{supply, fields}
 use Rattle.rules.specs.declared.{Effect.Effect}
 use Rattle.rules.specs.Effects.{fieldsOf, event, pendingEvent, deadlineEvent}
 use Rattle.agreement.specs.Sound.{KindAhead, PendingAhead, Ahead}
-use Rattle.rules.specs.Register.{entered, expiryBy, endsBefore, dueBy, happened, nextEvent, catchUp}
+use Rattle.rules.specs.Pinned.Register.{entered, expiryBy, endsBefore, dueBy, happened, nextEvent, catchUp}
 
 kind-back : {a b : ℕ} (k : SupplyKind) → a ≤ b → KindAhead b k → KindAhead a k
 kind-back SupplyKind.None h r = tt

@@ -11,8 +11,8 @@ use Rattle.rules.specs.declared.{Register.Register, Span.Span, Opening.Opening,
 use Rattle.rules.specs.Volumes.{volume, registered}
 use Rattle.rules.specs.Answers.{isAccepted}
 use Rattle.rules.specs.Rejections.{openingAnswer}
-use Rattle.rules.specs.Register
-use Rattle.rules.specs.Register.{blankPoint, noPoint, applied}
+use Rattle.rules.specs.Pinned.Register
+use Rattle.rules.specs.Pinned.Register.{blankPoint, noPoint, applied}
 use Rattle.rules.specs.DayBook
 use Rattle.rules.specs.DayBook.{Book, upToDay}
 use Rattle.rules.specs.Opening.{settingsOf}

@@ -15,8 +15,8 @@ use lib.Seq.{getD-set-same, getD-set-other, set-comm, take-suc, append-snoc}
 use borrow.Author.Tests.{lt-ltb, le-leb, lt-leb}
 use Rattle.rules.specs.declared.{Period.Period, History.History, Span.Span}
 use Rattle.rules.specs.Volumes.{given, registered}
-use Rattle.rules.specs.Register.{period, noPeriod, used, startsOn, replaced, appended, named, bookedPeriod}
-use Rattle.rules.specs.Register.{bookedSlots, booked, bookedAll}
+use Rattle.rules.specs.Pinned.Register.{period, noPeriod, used, startsOn, replaced, appended, named, bookedPeriod}
+use Rattle.rules.specs.Pinned.Register.{bookedSlots, booked, bookedAll}
 use Rattle.agreement.proofs.Shares.{All, given-before, given-after, given-le}
 use Rattle.agreement.proofs.Tally.{begin, beganOn, bookTotal, bookTotals, sumVolumes, Desc, desc-bookTotal}
 use Rattle.agreement.proofs.Tally.{sum-reading}

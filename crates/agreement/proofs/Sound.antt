@@ -13,8 +13,8 @@ use Rattle.rules.specs.declared.{Effect.Effect, View.View, Call.Call}
 use Rattle.rules.specs.Effects.{spansIn, event, effect}
 use Rattle.rules.specs.Answers.{isAccepted}
 use Rattle.rules.specs.Rejections.{answerTo, shown, answer, openingAnswer}
-use Rattle.rules.specs.Register
-use Rattle.rules.specs.Register.{noPeriod, noPoint, blankPoint, catchUp, entered, view, register, pointAt, advanced, says, done, applied}
+use Rattle.rules.specs.Pinned.Register
+use Rattle.rules.specs.Pinned.Register.{noPeriod, noPoint, blankPoint, catchUp, entered, view, register, pointAt, advanced, says, done, applied}
 use Rattle.rules.specs.Periods.{total}
 use Rattle.rules.proofs.Accept.{pass}
 use Rattle.rules.proofs.Views.{passed, shown-in}

@@ -15,9 +15,9 @@ use Rattle.rules.specs.Effects.{spansIn, effectOf, effect}
 use Rattle.rules.specs.Answers.{isAccepted}
 use Rattle.rules.specs.declared.{View.View}
 use Rattle.rules.specs.Rejections.{answerTo, shown, answer}
-use Rattle.rules.specs.Register
-use Rattle.rules.specs.Register.{entered, catchUp, view, register, pointAt, noPoint, advanced, acted, failedPoint}
-use Rattle.rules.specs.Register.{done, applied}
+use Rattle.rules.specs.Pinned.Register
+use Rattle.rules.specs.Pinned.Register.{entered, catchUp, view, register, pointAt, noPoint, advanced, acted, failedPoint}
+use Rattle.rules.specs.Pinned.Register.{done, applied}
 use Rattle.rules.specs.DayBook
 use Rattle.rules.specs.DayBook.{Book, Page, upToDay, look, signed, written, next, does}
 use Rattle.agreement.proofs.Good.{Good}

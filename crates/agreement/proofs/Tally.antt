@@ -11,7 +11,7 @@ use lib.ListN.{length}
 use borrow.Author.Tests.{eq-eqb, ne-eqb, eqb-true, eqb-false}
 use Rattle.rules.specs.declared.{Period.Period, Span.Span}
 use Rattle.rules.specs.Volumes.{given, dayVolume, volume, registered}
-use Rattle.rules.specs.Register.{period}
+use Rattle.rules.specs.Pinned.Register.{period}
 use Rattle.rules.specs.DayBook.{Cell, cell, overwritten, countMarks, isMarked}
 use Rattle.agreement.proofs.Shares.{All, given-suc, given-before, given-after}
 

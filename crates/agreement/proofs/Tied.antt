@@ -15,7 +15,7 @@ use Rattle.rules.specs.declared.{Fields.Fields, History.History, Period.Period,
 use Rattle.rules.specs.Effects.{fieldsOf, names, spansIn}
 use Rattle.rules.specs.Volumes.{volume, registered}
 use Rattle.rules.specs.Rejections.{due, marksAfter}
-use Rattle.rules.specs.Register.{startsOn, named, entered, bookedAll, view}
+use Rattle.rules.specs.Pinned.Register.{startsOn, named, entered, bookedAll, view}
 use Rattle.rules.specs.DayBook.{Cell, cell, Page, overwritten, written, countMarks, isMarked, look}
 use Rattle.agreement.proofs.Shares.{all-map, volume-append, registered-append, volume-after}
 use Rattle.agreement.proofs.Tally.{begin, beganOn, bookTotals, tally, Live, live-runs, live-overwritten, Held}

@@ -12,8 +12,8 @@ use Rattle.rules.specs.Volumes.{fullTurn, volume, registered}
 use Rattle.rules.specs.Answers.{isAccepted}
 use Rattle.rules.specs.Rejections.{openingAnswer, due}
 use Rattle.rules.specs.Opening.{settingsOf}
-use Rattle.rules.specs.Register
-use Rattle.rules.specs.Register.{pointAt}
+use Rattle.rules.specs.Pinned.Register
+use Rattle.rules.specs.Pinned.Register.{pointAt}
 use Rattle.rules.specs.DayBook
 use Rattle.rules.specs.DayBook.{Page}
 use Rattle.rules.specs.Periods.{periodsOf, startsOf, volumesOf, markedDays, holderOn, covering, dailySums, total}

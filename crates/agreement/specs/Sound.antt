@@ -11,7 +11,7 @@ use Rattle.rules.specs.declared.{Pending.Pending, Opening.Opening, Call.Call}
 use Rattle.rules.specs.Fields.{unsupplied}
 use Rattle.rules.specs.Answers.{isAccepted}
 use Rattle.rules.specs.Rejections.{openingAnswer, due}
-use Rattle.rules.specs.Register.{noPeriod, pointAt, opened, applied}
+use Rattle.rules.specs.Pinned.Register.{noPeriod, pointAt, opened, applied}
 use Rattle.rules.specs.Periods.{volumesOf, total}
 
 -- What is due lies after day t.

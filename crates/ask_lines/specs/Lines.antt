@@ -8,8 +8,8 @@ use Rattle.questions.specs.declared.{AdvanceAnswer.AdvanceAnswer}
 use Rattle.questions.specs.declared.HolderAnswer.the-variants as holder
 use Rattle.questions.specs.declared.PeriodAnswer.the-variants as period
 use Rattle.questions.specs.declared.AdvanceAnswer.the-variants as advance
-use Rattle.questions.specs.Questions.{holderAnswer, periodAnswer, advanceAnswer}
-use Rattle.questions.specs.Questions.{holderNumber, periodNumber, advanceNumber}
+use Rattle.questions.specs.Pinned.Questions.{holderAnswer, periodAnswer, advanceAnswer}
+use Rattle.questions.specs.Pinned.Questions.{holderNumber, periodNumber, advanceNumber}
 use Rattle.line_text.specs.Ascii.{ascii}
 use Rattle.line_text.specs.Decimal.{decimal}
 use Rattle.line_text.specs.Days.{dayText}

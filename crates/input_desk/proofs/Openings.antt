@@ -4,11 +4,11 @@ use mathlib.Core.Bool.{Bool, true, false, cond, not, _&&_, false≢true}
 use Rattle.rules.specs.declared.{Call.Call, Opening.Opening, Register.Register, Outcome.Outcome}
 use Rattle.rules.specs.Answers.{isAccepted}
 use Rattle.rules.specs.Rejections.{openingAnswer}
-use Rattle.rules.specs.Register.{says, advanced, done, opened, applied}
-use Rattle.register.specs.Opens.{openedOver}
+use Rattle.rules.specs.Pinned.Register.{says, advanced, done, opened, applied}
+use Rattle.register.specs.Pinned.Opens.{openedOver}
 use Rattle.line_messages.specs.declared.{Message.Message}
 use Rattle.input_desk.specs.declared.{Desk.Desk}
-use Rattle.input_desk.specs.Desk.{desk, unreadable, answerOf, deskAfter}
+use Rattle.input_desk.specs.Pinned.Desk.{desk, unreadable, answerOf, deskAfter}
 
 -- a refused message changes nothing
 pub refused-after : (d : Desk) (m : Message) → isAccepted (answerOf d m) ≡ false → deskAfter d m ≡ d

@@ -22,9 +22,9 @@ use Rattle.rules.specs.Rejections.{
   openingAnswer,
 }
 use Rattle.rules.specs.Effects.{acceptedBy, effectOf}
-use Rattle.rules.specs.Register.{says, applied}
+use Rattle.rules.specs.Pinned.Register.{says, applied}
 use Rattle.line_messages.specs.declared.{Message.Message}
-use Rattle.input_desk.specs.Desk.{unreadable, answerOf}
+use Rattle.input_desk.specs.Pinned.Desk.{unreadable, answerOf}
 use Rattle.input_desk.specs.Table.{isNumber, isTabled, EveryAnswerTabled}
 
 -- a row more

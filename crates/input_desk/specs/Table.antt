@@ -9,7 +9,7 @@ use Rattle.rules.specs.declared.{Answer.Answer}
 use Rattle.rules.specs.Answers.{isAccepted, number, date}
 use Rattle.line_messages.specs.declared.{Message.Message}
 use Rattle.input_desk.specs.declared.{Desk.Desk}
-use Rattle.input_desk.specs.Desk.{answerOf}
+use Rattle.input_desk.specs.Pinned.Desk.{answerOf}
 
 -- The numbers of "Rejection codes".
 abbrev pub isNumber : ℕ → Bool

@@ -6,7 +6,7 @@ use rules::Register;
 ghost use mathlib.Core.Path.{_≡_};
 ghost use mathlib.Core.Bool.{true};
 ghost use Rattle.rules.specs.Answers.{isAccepted};
-ghost use Rattle.input_desk.specs.Desk.{answerOf, deskAfter};
+ghost use Rattle.input_desk.specs.Pinned.Desk.{answerOf, deskAfter};
 
 // The register, once a set has opened it; before that the register is not looked at.
 pub struct Desk {

@@ -10,7 +10,7 @@ use lib.ListN.{length, take, drop}
 use Rattle.input_lines.specs.Between.Feeds.{untilFeed}
 use Rattle.input_lines.specs.Pinned.Lines.{lastLine, linesFrom, linesOf}
 use Rattle.input_lines.specs.Between.Begun.{keptBytes, capped}
-use Rattle.input_lines.specs.Machine.{said, afterLines, transcript}
+use Rattle.input_lines.specs.Pinned.Machine.{said, afterLines, transcript}
 use Rattle.input_lines.specs.Pinned.Runs.{Run, behind, run}
 use Rattle.input_lines.proofs.KeptBytes.{capped-front, capped-more, capped-nil, capped-le}
 

@@ -2,4 +2,3 @@ pub mod Lines
 pub mod Between
 pub mod Pinned
 pub mod Laws
-pub mod Machine

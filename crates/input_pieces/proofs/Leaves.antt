@@ -8,20 +8,20 @@ use lib.ListN.{getD, set}
 use Rattle.rules.specs.declared.{Answer.Answer, Fields.Fields, Period.Period, Register.Register, Settings.Settings, Span.Span}
 use Rattle.rules.specs.Answers.{isAccepted}
 use Rattle.rules.specs.Fields.{blank}
-use Rattle.rules.specs.Register.{noPeriod}
+use Rattle.rules.specs.Pinned.Register.{noPeriod}
 use Rattle.point_effects.specs.declared.{Ruling.Ruling}
 use Rattle.line_messages.specs.declared.{Message.Message}
 use Rattle.input_tables.specs.declared.{Tables.Tables}
-use Rattle.input_tables.specs.Tables.{Sized, Apart}
+use Rattle.input_tables.specs.Between.Tables.{Sized, Apart}
 use Rattle.input_desk.specs.declared.{Desk.Desk}
-use Rattle.input_desk.specs.Desk.{desk, answerOf, deskAfter}
+use Rattle.input_desk.specs.Pinned.Desk.{desk, answerOf, deskAfter}
 use Rattle.input_desk.proofs.Openings.{refused-after}
-use Rattle.input_quiet.specs.Quiet.{dueDay, firstDue}
+use Rattle.input_quiet.specs.Between.Quiet.{dueDay, firstDue}
 use Rattle.input_quiet.proofs.Dues.{first-set}
 use Rattle.input_point.specs.declared.{answers.Said.Said, deeds.Deed.Deed, deeds.Entry.Entry}
 use Rattle.input_point.specs.Between.Answers.{placeOf, saidBy, newestStart, failureAnswer, settled}
 use Rattle.input_point.proofs.Settled.{answer-settled}
-use Rattle.input_pieces.specs.Session.{registerIn}
+use Rattle.input_pieces.specs.Pinned.Session.{registerIn}
 use Rattle.input_pieces.proofs.Turns.{Turned}
 use Rattle.input_point.specs.Between.Deeds.{deedOf}
 use Rattle.input_point.proofs.Stored.{isWhole, bookedBack, storedIn, deed-stored, slot-sized, back-sized, Within, deed-within}

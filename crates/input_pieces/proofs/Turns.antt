@@ -25,11 +25,11 @@ use Rattle.input_lines.proofs.Feeds.{feeds-behind, fitting-feeds}
 use Rattle.input_lines.proofs.KeptBytes.{kept-le}
 use Rattle.input_lines.proofs.Runs.{run-found, run-none}
 use Rattle.input_desk.specs.declared.{Desk.Desk}
-use Rattle.input_desk.specs.Desk.{desk, answerOf, deskAfter}
+use Rattle.input_desk.specs.Pinned.Desk.{desk, answerOf, deskAfter}
 use Rattle.input_desk.proofs.Tabled.{every-answer-tabled, tabled-small}
 use Rattle.input_pieces.specs.declared.{Session.Session, pieces.Answered.Answered}
-use Rattle.input_pieces.specs.Session.{registerIn, deskOf, nextDesk, sayLine, runOf, RunTo}
-use Rattle.input_pieces.specs.Pieces.{answered}
+use Rattle.input_pieces.specs.Pinned.Session.{registerIn, deskOf, nextDesk, sayLine, runOf, RunTo}
+use Rattle.input_pieces.specs.Between.Pieces.{answered}
 
 -- What holds at the loop's head.
 pub record Going (piece out₀ : List ℕ) (d₀ : Desk) (part₀ out : List ℕ) (part : Begun) (d : Desk) (at written : ℕ) : Type 0 where

@@ -6,7 +6,7 @@ use native.Mathlib.Omega.{arith}
 use lib.ListN.{length, drop, length-append}
 use Rattle.line_text.specs.Between.Appending.{put}
 use Rattle.input_pieces.specs.declared.{Session.Session, Fed.Fed}
-use Rattle.input_pieces.specs.Session.{FedBy}
+use Rattle.input_pieces.specs.Pinned.Session.{FedBy}
 
 pub put-within : (t o after : List ℕ) → after ≡ put 0 t o → length t ≤ length after
 unfolding put

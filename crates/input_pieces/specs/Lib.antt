@@ -1,2 +1,2 @@
-pub mod Session
-pub mod Pieces
+pub mod Pinned
+pub mod Between

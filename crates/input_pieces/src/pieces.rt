@@ -38,8 +38,8 @@ ghost use Rattle.input_lines.specs.Between.Begun.{keptBytes, capped, kept};
 ghost use Rattle.line_answers.specs.Answers.{longestAnswer};
 ghost use Rattle.line_messages.specs.Pinned.Reading.{readLine};
 ghost use Rattle.line_messages.specs.Between.Values.{lineMessage};
-ghost use Rattle.input_pieces.specs.Session.{registerIn, WholeMessage};
-ghost use Rattle.input_pieces.specs.Pieces.{answered, AnsweredBy};
+ghost use Rattle.input_pieces.specs.Pinned.Session.{registerIn, WholeMessage};
+ghost use Rattle.input_pieces.specs.Between.Pieces.{answered, AnsweredBy};
 
 // The session after the lines of a piece, and how many bytes were written.
 pub(crate) struct Answered {

@@ -15,16 +15,16 @@ use Rattle.rules.specs.Answers.{isAccepted}
 use Rattle.rules.specs.Fields.{blank}
 use Rattle.rules.specs.Rejections.{_⇒_, firstOf, notPoint, notSupplier, noContract, isPast, runsBack, shown, answerTo, answer}
 use Rattle.rules.specs.Rejections.{blankView, rowsAt, rows, accepted}
-use Rattle.rules.specs.Register.{noPoint, noPeriod, catchUp, view, register, pointAt, advanced, says, applied}
+use Rattle.rules.specs.Pinned.Register.{noPoint, noPeriod, catchUp, view, register, pointAt, advanced, says, applied}
 use Rattle.rules.proofs.Views.{shown-in, answer-ext, answer-off, answer-at}
 use Rattle.point_answers.specs.Between.{answerAt, after, failureRows}
 use Rattle.point_answers.proofs.Failures.{failure-answer}
 use Rattle.point_effects.specs.Between.{rulingAt}
 use Rattle.line_messages.specs.declared.{Message.Message}
-use Rattle.input_tables.specs.Tables.{joined, rowAt, pointsOf, Sized}
+use Rattle.input_tables.specs.Between.Tables.{joined, rowAt, pointsOf, Sized}
 use Rattle.input_tables.proofs.Points.{row-length, row-get, points-get, points-length}
-use Rattle.input_desk.specs.Desk.{desk, unreadable, answerOf}
-use Rattle.input_quiet.specs.Quiet.{seen, viewOn}
+use Rattle.input_desk.specs.Pinned.Desk.{desk, unreadable, answerOf}
+use Rattle.input_quiet.specs.Between.Quiet.{seen, viewOn}
 use Rattle.input_quiet.proofs.SeenOn.{seen-on}
 use Rattle.input_point.specs.declared.{answers.Said.Said}
 use Rattle.input_point.specs.Between.Answers.{placeIn, placeOf, failureSaid, callSaid, saidBy, newestStart, shows}

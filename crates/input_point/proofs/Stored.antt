@@ -13,8 +13,8 @@ use Rattle.rules.specs.declared.{Register.Register, Settings.Settings, View.Vie
 use Rattle.rules.specs.Answers.{isAccepted}
 use Rattle.rules.specs.Effects.{effectOf}
 use Rattle.dates.specs.Dates.{lastDay}
-use Rattle.rules.specs.Register.{period, history, noPeriod, startsOn, replaced, appended, named, bookedSlots, booked}
-use Rattle.rules.specs.Register.{bookedPeriod, noPoint, register, catchUp, view, advanced, says, done, acted, applied, on}
+use Rattle.rules.specs.Pinned.Register.{period, history, noPeriod, startsOn, replaced, appended, named, bookedSlots, booked}
+use Rattle.rules.specs.Pinned.Register.{bookedPeriod, noPoint, register, catchUp, view, advanced, says, done, acted, applied, on}
 use Rattle.rules.specs.Fields.{blank}
 use Rattle.rules.specs.Volumes.{given}
 use Rattle.point_volumes.specs.Between.{isFair, bookedIfFair, bookedNewest}
@@ -22,17 +22,17 @@ use Rattle.point_volumes.proofs.Newest.{newest-booked}
 use Rattle.point_answers.specs.Between.{answerAt}
 use Rattle.point_effects.specs.Between.{rulingAt, Accepted, noted}
 use Rattle.point_effects.proofs.Accepted.{accepted-noted}
-use Rattle.register.specs.Calls.{callAt}
-use Rattle.input_quiet.specs.Quiet.{seen, viewOn, firstDue}
+use Rattle.register.specs.Between.Calls.{callAt}
+use Rattle.input_quiet.specs.Between.Quiet.{seen, viewOn, firstDue}
 use Rattle.input_quiet.proofs.Dues.{quiet-point, quiet-advanced, first-at}
 use Rattle.input_quiet.proofs.SeenOn.{seen-on}
 use Rattle.input_point.specs.Between.Answers.{placeIn, placeOf, callSaid, saidBy}
 use Rattle.input_point.proofs.Settled.{says-shown, at-settled}
 use Rattle.line_messages.specs.declared.{Message.Message}
-use Rattle.input_desk.specs.Desk.{desk, unreadable, answerOf, deskAfter}
+use Rattle.input_desk.specs.Pinned.Desk.{desk, unreadable, answerOf, deskAfter}
 use Rattle.rules.specs.Rejections.{answer}
 use Rattle.rules.proofs.Views.{accepted-point}
-use Rattle.input_tables.specs.Tables.{joined, rowAt, pointsOf, Sized}
+use Rattle.input_tables.specs.Between.Tables.{joined, rowAt, pointsOf, Sized}
 use Rattle.input_tables.proofs.Points.{row-length, row-get, points-get, points-slot, points-row}
 use Rattle.input_point.specs.declared.{answers.Said.Said, deeds.Deed.Deed}
 use Rattle.input_point.specs.Between.Deeds.{slot, keptDeed, namingDeed, readingDeed, effectDeed, ruledDeed, callDeed, deedOf}

@@ -13,9 +13,9 @@ use Rattle.rules.specs.declared.{Fields.Fields, Point.Point, Settings.Settings,
 use Rattle.rules.specs.declared.{Pending.Pending, Period.Period}
 use Rattle.rules.specs.declared.Due.the-variants as event
 use Rattle.rules.specs.Fields.{blank}
-use Rattle.rules.specs.Register.{expiryBy, dueBy, happened, nextEvent, catchUp, register, advanced}
-use Rattle.input_tables.specs.Tables.{joined, pointsOf}
-use Rattle.input_quiet.specs.Quiet.{never, kindEnds, requestFalls, dueDay, firstDue}
+use Rattle.rules.specs.Pinned.Register.{expiryBy, dueBy, happened, nextEvent, catchUp, register, advanced}
+use Rattle.input_tables.specs.Between.Tables.{joined, pointsOf}
+use Rattle.input_quiet.specs.Between.Quiet.{never, kindEnds, requestFalls, dueDay, firstDue}
 
 module _ (S : Settings) (t : ℕ) where
   nothing-ends : (k : SupplyKind) → t < kindEnds k → expiryBy S t k ≡ event.Nothing

@@ -9,7 +9,7 @@ use lib.ListN.{length, set, length-set}
 use lib.Seq.{getD-set-same}
 use Rattle.dates.specs.Dates.{lastDay}
 use Rattle.rules.specs.declared.{Fields.Fields, History.History, Period.Period, Point.Point, Settings.Settings, Due.Due, View.View}
-use Rattle.rules.specs.Register.{
+use Rattle.rules.specs.Pinned.Register.{
   period,
   history,
   noPeriod,
@@ -25,7 +25,7 @@ use Rattle.rules.specs.Register.{
   view,
 }
 use Rattle.input_quiet.specs.declared.{seen.Seen.Seen}
-use Rattle.input_quiet.specs.Quiet.{seen, namedSeen, happenedSeen, nextSeen, viewIn, viewOn}
+use Rattle.input_quiet.specs.Between.Quiet.{seen, namedSeen, happenedSeen, nextSeen, viewIn, viewOn}
 
 abbrev pub seenIn : Fields → History → Seen
 seenIn f h = seen f (used h) (newest h .start)

@@ -8,7 +8,7 @@ use rules::SupplyKind;
 pub use seen::view_on;
 ghost use mathlib.Core.Path.{_≡_};
 ghost use Prim.Native.Nat.{min};
-ghost use Rattle.input_quiet.specs.Quiet.{dueDay, firstDue, kindEnds, requestFalls};
+ghost use Rattle.input_quiet.specs.Between.Quiet.{dueDay, firstDue, kindEnds, requestFalls};
 
 // The first day past the calendar: nothing falls due on it.
 const NEVER: u32 = 73049;

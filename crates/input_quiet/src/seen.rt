@@ -14,7 +14,7 @@ ghost use mathlib.Core.Bool.{_&&_};
 ghost use Prim.Native.Nat.{_≤_, min};
 ghost use lib.Dec.{eqb, ltb};
 ghost use Rattle.rules.specs.Fields.{supply, withSupply};
-ghost use Rattle.input_quiet.specs.Quiet.{seen, namedSeen, happenedSeen, nextSeen, viewOn, viewIn};
+ghost use Rattle.input_quiet.specs.Between.Quiet.{seen, namedSeen, happenedSeen, nextSeen, viewOn, viewIn};
 
 pub(crate) struct Seen {
     pub fields: Fields,

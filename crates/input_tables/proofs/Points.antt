@@ -6,7 +6,7 @@ use native.Mathlib.Omega.{arith}
 use lib.ListN.{length, take, drop, getD, set, length-drop, length-set}
 use lib.Seq.{paste, getD-take, getD-drop, take-set-lt, drop-set-lt, take-set-le, drop-set-add, drop-drop, take-add, take-all, take-at, drop-at, length-take-le}
 use Rattle.rules.specs.declared.{Fields.Fields, Period.Period, Point.Point}
-use Rattle.input_tables.specs.Tables.{joined, rowAt, pointsOf, Sized}
+use Rattle.input_tables.specs.Between.Tables.{joined, rowAt, pointsOf, Sized}
 use Rattle.input_tables.proofs.Filled.{Pasted, pasted-length}
 
 next-row : (i : ℕ) (ss : List Period) → rowAt i (drop 24 ss) ≡ rowAt (suc i) ss

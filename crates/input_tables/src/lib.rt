@@ -9,7 +9,7 @@ ghost use mathlib.Core.Path.{_≡_};
 ghost use Prim.Native.Nat.{_*_, _<_};
 ghost use lib.Seq.{paste};
 ghost use Rattle.point_volumes.specs.Between.{bookedIfFair};
-ghost use Rattle.input_tables.specs.Tables.{Apart, pointsOf, rowAt};
+ghost use Rattle.input_tables.specs.Between.Tables.{Apart, pointsOf, rowAt};
 
 const POINTS: usize = 32;
 

@@ -14,7 +14,7 @@ use Rattle.line_listing.specs.Pinned.Pieces.{ListedFrom}
 use Rattle.input_desk.specs.declared.{Desk.Desk}
 use Rattle.input_pieces.specs.declared.{Session.Session}
 use Rattle.input_pieces.proofs.Within.{put-within}
-use Rattle.input_whole.specs.Ends.{missingFeed, closingPiece, ClosedFrom}
+use Rattle.input_whole.specs.Pinned.Ends.{missingFeed, closingPiece, ClosedFrom}
 
 pub missing-taken : (s : Session) (n : ℕ) → n ≡ min (s .part .len) 1 → missingFeed s ≡ take n (10 ∷ [])
 missing-taken s n e = elim (decLe 1 (s .part .len)) [

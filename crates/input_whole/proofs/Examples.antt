@@ -3,7 +3,7 @@ use mathlib.Core.Path.{refl}
 use Rattle.dates.specs.Dates.{leapRow, monthLength, next, dateOf}
 use Rattle.dates.specs.Numbers.{monthStart, yearStart, dayNumber, isReal, dayAnswer, dateAnswer}
 use Rattle.rules.proofs.Computes.{machines}
-use Rattle.questions.specs.Questions.{sumOf}
+use Rattle.questions.specs.Pinned.Questions.{sumOf}
 use Rattle.questions.specs.ByBook.{periodsIn, bookPeriods, bookAdvance}
 use Rattle.line_text.specs.Decimal.{spell, fixed}
 use Rattle.line_values.specs.Pinned.Words.{isSame}
@@ -14,14 +14,14 @@ use Rattle.line_fields.specs.Between.Shapes.{sortsFrom}
 use Rattle.line_kinds.specs.Pinned.Naming.{kindIn}
 use Rattle.line_messages.specs.Pinned.Reading.{wordEnd, readLine}
 use Rattle.line_answers.specs.Answers.{answerLine, periodLine, totalLine}
-use Rattle.line_listing.specs.Listing.{periodLines, pointLines, listingFrom, listing}
+use Rattle.line_listing.specs.Pinned.Listing.{periodLines, pointLines, listingFrom, listing}
 use Rattle.line_listing.specs.ByBook.{linesOfPeriods, rising, bookListing}
 use Rattle.input_lines.specs.Pinned.Lines.{linesFrom, linesOf}
 use Rattle.input_lines.specs.Between.Begun.{begunOf}
-use Rattle.input_lines.specs.Machine.{said, afterLines, transcript}
-use Rattle.register.specs.Opens.{noRegister}
-use Rattle.input_desk.specs.Desk.{answerOf, deskAfter}
-use Rattle.input_whole.specs.Ends.{startDesk}
+use Rattle.input_lines.specs.Pinned.Machine.{said, afterLines, transcript}
+use Rattle.register.specs.Pinned.Opens.{noRegister}
+use Rattle.input_desk.specs.Pinned.Desk.{answerOf, deskAfter}
+use Rattle.input_whole.specs.Pinned.Ends.{startDesk}
 use Rattle.input_whole.specs.Transcript.{callsIn, storyOf, bookOutput}
 use Rattle.input_whole.specs.Examples.{TranscriptExamples}
 

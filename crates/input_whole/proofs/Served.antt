@@ -12,7 +12,7 @@ use lib.Seq.{take-append-seam, take-all, drop-length}
 use Rattle.rules.specs.declared.{Register.Register}
 use Rattle.line_text.specs.Between.Appending.{put}
 use Rattle.line_listing.specs.declared.{Listed.Listed}
-use Rattle.line_listing.specs.Listing.{listing, listingFrom}
+use Rattle.line_listing.specs.Pinned.Listing.{listing, listingFrom}
 use Rattle.line_listing.specs.Pinned.Pieces.{piece}
 use Rattle.line_listing.specs.Pinned.Pieces as L
 use Rattle.line_listing.specs.Pinned.Pieces.{left}
@@ -21,15 +21,15 @@ use Rattle.input_lines.specs.declared.{Begun.Begun}
 use Rattle.input_lines.specs.Between.Feeds.{fitting}
 use Rattle.input_lines.specs.Pinned.Lines.{linesOf}
 use Rattle.input_lines.specs.Between.Begun.{keptBytes, capped, kept, begunOf}
-use Rattle.input_lines.specs.Machine.{said, afterLines}
+use Rattle.input_lines.specs.Pinned.Machine.{said, afterLines}
 use Rattle.input_lines.specs.Pinned.Runs.{Run, run}
 use Rattle.input_lines.proofs.Feeds.{fitting-all, fitting-le, fitting-some}
 use Rattle.input_lines.proofs.KeptBytes.{kept-begun}
 use Rattle.input_lines.proofs.Runs.{run-append, run-part-le, run-lines, run-transcript, lastSaid, lastState}
 use Rattle.input_desk.specs.declared.{Desk.Desk}
 use Rattle.input_pieces.specs.declared.{Session.Session}
-use Rattle.input_pieces.specs.Session.{deskOf, nextDesk, sayLine, runOf, runFrom, takenOf}
-use Rattle.input_whole.specs.Ends.{startDesk, Started, missingFeed, closing, closingPiece, closedNext}
+use Rattle.input_pieces.specs.Pinned.Session.{deskOf, nextDesk, sayLine, runOf, runFrom, takenOf}
+use Rattle.input_whole.specs.Pinned.Ends.{startDesk, Started, missingFeed, closing, closingPiece, closedNext}
 use Rattle.input_whole.specs.Transcript.{Closing, done, more, Through, fed, ended, served, TranscriptServed, EveryFeedGoesOn, lastDesk}
 use Rattle.input_pieces.proofs.Capped.{read-capped}
 use Rattle.input_whole.proofs.Sized.{Sized, run-sized}

@@ -8,14 +8,14 @@ use lib.ListN.{length, length-set, length-map, length-replicate}
 use Rattle.rules.specs.declared.{Point.Point, Register.Register, Call.Call, Action.Action, Opening.Opening}
 use Rattle.rules.specs.Answers.{isAccepted}
 use Rattle.rules.specs.Rejections.{openingAnswer}
-use Rattle.rules.specs.Register.{catchUp, blankPoint, register, pointAt, advanced, says, acted, failedPoint, done, applied, opened}
+use Rattle.rules.specs.Pinned.Register.{catchUp, blankPoint, register, pointAt, advanced, says, acted, failedPoint, done, applied, opened}
 use Rattle.line_messages.specs.declared.{Message.Message}
 use Rattle.line_messages.specs.Pinned.Reading.{readLine}
 use Rattle.input_lines.specs.Between.Begun.{capped}
 use Rattle.input_lines.specs.Pinned.Runs.{behind, run}
 use Rattle.input_desk.specs.declared.{Desk.Desk}
-use Rattle.input_desk.specs.Desk.{desk, deskAfter}
-use Rattle.input_pieces.specs.Session.{nextDesk, sayLine, runOf}
+use Rattle.input_desk.specs.Pinned.Desk.{desk, deskAfter}
+use Rattle.input_pieces.specs.Pinned.Session.{nextDesk, sayLine, runOf}
 
 abbrev pub Sized : Desk → Type 0
 Sized d = d .ready ≡ true → length (d .register .points) ≡ 32

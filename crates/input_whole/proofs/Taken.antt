@@ -5,7 +5,7 @@ use native.Mathlib.Omega.{arith}
 use lib.ListN.{length, take, drop, length-take}
 use Rattle.input_lines.proofs.Feeds.{fitting-le}
 use Rattle.input_pieces.specs.declared.{Session.Session, Fed.Fed}
-use Rattle.input_pieces.specs.Session.{FedBy}
+use Rattle.input_pieces.specs.Pinned.Session.{FedBy}
 
 pub part-taken : (s : Session) (input : List ℕ) (from end : ℕ) (before after : List ℕ) (f : Fed) →
     FedBy s (take (end - from) (drop from input)) before after f → f .taken ≤ end - from

@@ -7,8 +7,8 @@ use mathlib.Core.List.{List, [], _∷_, _++_, map}
 use Rattle.rules.specs.declared.{Register.Register, Opening.Opening, Call.Call, Span.Span}
 use Rattle.rules.specs.Answers.{isAccepted}
 use Rattle.rules.specs.Rejections.{openingAnswer}
-use Rattle.rules.specs.Register.{applied}
-use Rattle.rules.specs.Register as R
+use Rattle.rules.specs.Pinned.Register.{applied}
+use Rattle.rules.specs.Pinned.Register as R
 use Rattle.rules.specs.DayBook.{Book}
 use Rattle.rules.specs.DayBook as D
 use Rattle.agreement.proofs.Step.{Agree, says-agree, call-agree, readNow, enrolledNow}
@@ -21,12 +21,12 @@ use Rattle.line_answers.specs.Answers.{answerLine}
 use Rattle.questions.proofs.Asking.{asking}
 use Rattle.line_listing.proofs.ByBook.{listing-by-book}
 use Rattle.input_lines.specs.Pinned.Lines.{linesOf}
-use Rattle.input_lines.specs.Machine.{said, afterLines, transcript}
-use Rattle.register.specs.Opens.{noRegister}
+use Rattle.input_lines.specs.Pinned.Machine.{said, afterLines, transcript}
+use Rattle.register.specs.Pinned.Opens.{noRegister}
 use Rattle.input_desk.specs.declared.{Desk.Desk}
-use Rattle.input_desk.specs.Desk.{desk, answerOf, deskAfter}
-use Rattle.input_pieces.specs.Session.{nextDesk, sayLine}
-use Rattle.input_whole.specs.Ends.{startDesk, closing}
+use Rattle.input_desk.specs.Pinned.Desk.{desk, answerOf, deskAfter}
+use Rattle.input_pieces.specs.Pinned.Session.{nextDesk, sayLine}
+use Rattle.input_whole.specs.Pinned.Ends.{startDesk, closing}
 use Rattle.input_whole.specs.Transcript.{
   closed,
   at,

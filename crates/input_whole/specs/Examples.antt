@@ -6,9 +6,9 @@ use mathlib.Core.List.{List, [], _∷_, _++_}
 use Prim.Native.Nat.{ℕ}
 use Prim.Native.String.{String}
 use Rattle.line_text.specs.Ascii.{ascii}
-use Rattle.input_lines.specs.Machine.{transcript}
-use Rattle.input_pieces.specs.Session.{nextDesk, sayLine}
-use Rattle.input_whole.specs.Ends.{startDesk, closing}
+use Rattle.input_lines.specs.Pinned.Machine.{transcript}
+use Rattle.input_pieces.specs.Pinned.Session.{nextDesk, sayLine}
+use Rattle.input_whole.specs.Pinned.Ends.{startDesk, closing}
 use Rattle.input_whole.specs.Transcript.{bookOutput}
 
 -- Lines as text, each with its line feed.

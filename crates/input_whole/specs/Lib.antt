@@ -1,3 +1,3 @@
-pub mod Ends
 pub mod Transcript
 pub mod Examples
+pub mod Pinned

@@ -20,12 +20,12 @@ use Rattle.line_answers.specs.Answers.{answerLine}
 use Rattle.line_listing.specs.declared.{Listed.Listed}
 use Rattle.line_listing.specs.ByBook.{bookListing}
 use Rattle.input_lines.specs.Pinned.Lines.{linesOf}
-use Rattle.input_lines.specs.Machine.{said, afterLines, transcript}
+use Rattle.input_lines.specs.Pinned.Machine.{said, afterLines, transcript}
 use Rattle.input_desk.specs.declared.{Desk.Desk}
-use Rattle.input_desk.specs.Desk.{desk, unreadable}
+use Rattle.input_desk.specs.Pinned.Desk.{desk, unreadable}
 use Rattle.input_pieces.specs.declared.{Session.Session, Fed.Fed}
-use Rattle.input_pieces.specs.Session.{deskOf, nextDesk, sayLine, FedBy}
-use Rattle.input_whole.specs.Ends.{startDesk, Started, missingFeed, closing, ClosedFrom}
+use Rattle.input_pieces.specs.Pinned.Session.{deskOf, nextDesk, sayLine, FedBy}
+use Rattle.input_whole.specs.Pinned.Ends.{startDesk, Started, missingFeed, closing, ClosedFrom}
 
 -- ---- what is handed on for writing
 

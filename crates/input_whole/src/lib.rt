@@ -10,8 +10,8 @@ use line_listing::put_listing;
 use register::no_register;
 ghost use mathlib.Core.Path.{_≡_};
 ghost use Prim.Native.Nat.{min};
-ghost use Rattle.input_pieces.specs.Session.{deskOf, FedBy};
-ghost use Rattle.input_whole.specs.Ends.{Started, missingFeed, ClosedFrom};
+ghost use Rattle.input_pieces.specs.Pinned.Session.{deskOf, FedBy};
+ghost use Rattle.input_whole.specs.Pinned.Ends.{Started, missingFeed, ClosedFrom};
 
 // Before any input: no register is open.
 pub fn start() -> Session

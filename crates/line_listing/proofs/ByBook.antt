@@ -12,15 +12,15 @@ use lib.Seq.{take-suc}
 use Rattle.rules.specs.declared.{Period.Period, Point.Point, Register.Register, Opening.Opening, Call.Call}
 use Rattle.rules.specs.Answers.{isAccepted}
 use Rattle.rules.specs.Rejections.{openingAnswer}
-use Rattle.rules.specs.Register.{noPeriod, noPoint, pointAt}
-use Rattle.questions.specs.Questions.{advanceAnswer, advanceTold}
+use Rattle.rules.specs.Pinned.Register.{noPeriod, noPoint, pointAt}
+use Rattle.questions.specs.Pinned.Questions.{advanceAnswer, advanceTold}
 use Rattle.rules.specs.Periods.{periodsOf, register}
 use Rattle.agreement.proofs.Slots.{Sized, used-count}
 use Rattle.agreement.proofs.Run.{run-agrees}
 use Rattle.questions.specs.ByBook.{bookPeriods, bookAdvance}
 use Rattle.questions.proofs.Asking.{point-sized, periods-are, advance-is}
 use Rattle.line_answers.specs.Answers.{periodLine}
-use Rattle.line_listing.specs.Listing.{periodLines, pointLines, listingFrom, listing}
+use Rattle.line_listing.specs.Pinned.Listing.{periodLines, pointLines, listingFrom, listing}
 use Rattle.line_listing.specs.ByBook.{linesOfPeriods, withTotal, rising, bookListing, ListingByBook}
 
 lines-snoc : (p : ℕ) (qs : List Period) (q : Period) → linesOfPeriods p (qs ++ (q ∷ [])) ≡ linesOfPeriods p qs ++ periodLine p q

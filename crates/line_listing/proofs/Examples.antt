@@ -2,10 +2,10 @@
 use mathlib.Core.Path.{refl}
 use Rattle.dates.specs.Dates.{leapRow, monthLength, next, dateOf}
 use Rattle.dates.specs.Numbers.{dateAnswer}
-use Rattle.questions.specs.Questions.{sumOf}
+use Rattle.questions.specs.Pinned.Questions.{sumOf}
 use Rattle.line_text.specs.Decimal.{spell, fixed}
 use Rattle.line_answers.specs.Answers.{periodLine, totalLine}
-use Rattle.line_listing.specs.Listing.{periodLines, pointLines, listingFrom, listing}
+use Rattle.line_listing.specs.Pinned.Listing.{periodLines, pointLines, listingFrom, listing}
 use Rattle.line_listing.specs.Examples.{ListingExamples}
 
 pub listing-examples : ListingExamples

@@ -6,10 +6,10 @@ use native.Mathlib.Omega.{arith}
 use native.Mathlib.Numerals.{add-one}
 use lib.ListN.{length, getD}
 use Rattle.rules.specs.declared.{Period.Period}
-use Rattle.rules.specs.Register.{noPeriod}
+use Rattle.rules.specs.Pinned.Register.{noPeriod}
 use Rattle.line_answers.specs.Answers.{periodLine}
 use Rattle.line_answers.proofs.LineTexts.{period-short}
-use Rattle.line_listing.specs.Listing.{periodLines}
+use Rattle.line_listing.specs.Pinned.Listing.{periodLines}
 
 -- one more period's line
 pub lines-next : (p i : ℕ) (ps : List Period) → periodLines p (i + 1) ps ≡ periodLines p i ps ++ periodLine p

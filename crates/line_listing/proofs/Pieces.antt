@@ -7,7 +7,7 @@ use native.Mathlib.Nat.{add-zero}
 use lib.ListN.{length, take, drop}
 use lib.Seq.{drop-length, drop-drop}
 use Rattle.rules.specs.declared.{Point.Point, Register.Register}
-use Rattle.line_listing.specs.Listing.{pointLines, listingFrom, listing}
+use Rattle.line_listing.specs.Pinned.Listing.{pointLines, listingFrom, listing}
 use Rattle.line_listing.specs.Pinned.Pieces.{taken, piece}
 use Rattle.line_listing.specs.Pinned.Pieces.{pieces, reached, left, PiecesJoin}
 

@@ -7,11 +7,11 @@ use native.Mathlib.Nat.{add-zero}
 use native.Mathlib.Numerals.{add-one}
 use lib.ListN.{length, take, drop, getD}
 use Rattle.rules.specs.declared.{Point.Point, Register.Register}
-use Rattle.rules.specs.Register.{noPoint}
+use Rattle.rules.specs.Pinned.Register.{noPoint}
 use Rattle.line_text.specs.Between.Appending.{AppendedWithin}
 use Rattle.line_text.proofs.Appends.{room-put}
 use Rattle.line_listing.specs.declared.{Listed.Listed}
-use Rattle.line_listing.specs.Listing.{pointLines, listingFrom}
+use Rattle.line_listing.specs.Pinned.Listing.{pointLines, listingFrom}
 use Rattle.line_listing.specs.Pinned.Pieces.{taken, ListedFrom}
 
 pub listing-none : (p : ℕ) (gs : List Point) → listingFrom p (take 0 gs) ≡ []

@@ -12,7 +12,7 @@ use Rattle.rules.specs.Rejections.{openingAnswer}
 use Rattle.rules.specs.Periods.{register}
 use Rattle.questions.specs.ByBook.{bookPeriods, bookAdvance}
 use Rattle.line_answers.specs.Answers.{periodLine, totalLine}
-use Rattle.line_listing.specs.Listing.{listing}
+use Rattle.line_listing.specs.Pinned.Listing.{listing}
 
 -- "its periods (point; start; holder; volume)"
 unfoldable pub linesOfPeriods : ℕ → List Period → List ℕ

@@ -7,9 +7,9 @@ use mathlib.Core.List.{List, [], _∷_, _++_}
 use lib.ListN.{replicate}
 use Rattle.rules.specs.declared.{Period.Period, Fields.Fields, Point.Point, Register.Register}
 use Rattle.rules.specs.Fields.{fields, blank}
-use Rattle.rules.specs.Register.{period, history, noPeriod, blankPoint, register}
+use Rattle.rules.specs.Pinned.Register.{period, history, noPeriod, blankPoint, register}
 use Rattle.line_text.specs.Ascii.{ascii}
-use Rattle.line_listing.specs.Listing.{listing}
+use Rattle.line_listing.specs.Pinned.Listing.{listing}
 
 abbrev pub enrolled : Fields
 enrolled = fields true (blank .supply) (blank .key) (blank .mark) (blank .meter) (blank .reading)

@@ -1,4 +1,3 @@
-pub mod Listing
 pub mod ByBook
 pub mod Pinned
 pub mod Examples

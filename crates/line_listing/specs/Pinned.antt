@@ -1,2 +1,3 @@
 -- What a theorem of proofs/ pins.
 pub mod Pieces
+pub mod Listing

@@ -9,10 +9,10 @@ use rules::Register;
 ghost use mathlib.Core.Path.{_≡_};
 ghost use Prim.Native.Nat.{_+_, _-_, _*_, _≤_, _<_};
 ghost use lib.ListN.{length};
-ghost use Rattle.rules.specs.Register.{period};
+ghost use Rattle.rules.specs.Pinned.Register.{period};
 ghost use Rattle.line_text.specs.Between.Appending.{AppendedWithin};
 ghost use Rattle.line_answers.specs.Answers.{periodLine};
-ghost use Rattle.line_listing.specs.Listing.{periodLines, pointLines};
+ghost use Rattle.line_listing.specs.Pinned.Listing.{periodLines, pointLines};
 ghost use Rattle.line_listing.specs.Pinned.Pieces.{taken, ListedFrom, linesBehind};
 
 // The most bytes that the lines of one point take: 24 periods of at most 37 bytes, and a total of at most 30.

@@ -9,7 +9,7 @@ ghost use mathlib.Core.Bool.{cond};
 ghost use Prim.Native.Nat.{_+_, _≤_};
 ghost use lib.Dec.{ltb};
 ghost use Rattle.rules.specs.Rejections.{pendingDue, kindDue};
-ghost use Rattle.rules.specs.Register.{view};
+ghost use Rattle.rules.specs.Pinned.Register.{view};
 
 // Marks that are due: pending 1, default 2, last resort 1.
 fn kind_due(k: SupplyKind) -> usize

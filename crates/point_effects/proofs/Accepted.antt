@@ -12,7 +12,7 @@ use Rattle.rules.specs.declared.{Settings.Settings, SupplyKind.SupplyKind}
 use Rattle.rules.specs.Fields.{supply, withSupply, withPending}
 use Rattle.rules.specs.Effects.{spansIn, effectiveDay, effectOf, dropped, failed}
 use Rattle.rules.specs.Rejections.{outside, notMark, notWheels, notSupplier, notKey, isPast, rowsAt}
-use Rattle.rules.specs.Register.{entered}
+use Rattle.rules.specs.Pinned.Register.{entered}
 use Rattle.rules.specs.Volumes.{fullTurn, spanTo}
 use Rattle.rules.proofs.Accept.{pass, neither}
 use Rattle.rules.proofs.Views.{dated, dated-also, passed-at}

@@ -9,7 +9,7 @@ use Rattle.rules.specs.declared.{Effect.Effect, Fields.Fields, History.History,
 use Rattle.rules.specs.declared.{PointAction.PointAction, Span.Span, View.View}
 use Rattle.rules.specs.Answers.{isAccepted}
 use Rattle.rules.specs.Effects.{fieldsOf, names, spansIn, effectOf, failed}
-use Rattle.rules.specs.Register.{catchUp, named}
+use Rattle.rules.specs.Pinned.Register.{catchUp, named}
 use Rattle.point_volumes.specs.Between.{bookedIfFair}
 use Rattle.point_answers.specs.Between.{answerAt}
 use Rattle.point_effects.specs.declared.{Ruling.Ruling}

@@ -11,7 +11,7 @@ use rules::SupplyKind;
 ghost use mathlib.Core.Path.{_≡_};
 ghost use Prim.Native.Nat.{_≤_};
 ghost use Rattle.rules.specs.Fields.{supply, withSupply};
-ghost use Rattle.rules.specs.Register.{named as Register·named, expiryBy, endsBefore, dueBy, happened, nextEvent};
+ghost use Rattle.rules.specs.Pinned.Register.{named as Register·named, expiryBy, endsBefore, dueBy, happened, nextEvent};
 ghost use Rattle.point_effects.specs.Between.{caughtUp};
 
 // What ends a supply kind by day t.

@@ -20,7 +20,7 @@ use rules::PointAction;
 use rules::Settings;
 use rules::View;
 ghost use mathlib.Core.Path.{_≡_};
-ghost use Rattle.rules.specs.Register.{named as Register·named};
+ghost use Rattle.rules.specs.Pinned.Register.{named as Register·named};
 ghost use Rattle.point_effects.specs.Between.{rulingAt, noted};
 
 // The answer to a call, and what it does to the point.

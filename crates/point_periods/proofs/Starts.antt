@@ -6,7 +6,7 @@ use native.Mathlib.Omega.{arith}
 use lib.Dec.{ltb, eqb}
 use borrow.Author.Tests.{ltb-true}
 use Rattle.rules.specs.declared.{History.History}
-use Rattle.rules.specs.Register.{used, newest, startsOn}
+use Rattle.rules.specs.Pinned.Register.{used, newest, startsOn}
 
 and-left : (a b : Bool) → (a && b) ≡ true → a ≡ true
 and-left true b h = refl

@@ -5,7 +5,7 @@ use native.Mathlib.Omega.{arith}
 use lib.ListN.{set}
 use Rattle.rules.specs.declared.{History.History, Span.Span}
 use Rattle.rules.specs.Volumes.{given}
-use Rattle.rules.specs.Register.{used, newest, history, bookedPeriod, booked}
+use Rattle.rules.specs.Pinned.Register.{used, newest, history, bookedPeriod, booked}
 use Rattle.point_volumes.proofs.Slots.{slots-last}
 
 pub newest-booked : (s : Span) (h : History) → 0 < h .count → newest h .start ≤ s .from →

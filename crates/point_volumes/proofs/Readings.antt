@@ -10,7 +10,7 @@ use borrow.Author.Tests.{lt-ltb, le-leb, leb-true, ltb-true}
 use Rattle.dates.specs.Dates.{lastDay}
 use Rattle.rules.specs.declared.{Fields.Fields, History.History, Meter.Meter, Period.Period, Reading.Reading}
 use Rattle.rules.specs.Volumes.{fullTurn, unitOf, advanceOf, spanTo, given}
-use Rattle.rules.specs.Register.{bookedPeriod, booked}
+use Rattle.rules.specs.Pinned.Register.{bookedPeriod, booked}
 use Rattle.point_volumes.specs.Between.{advanceRead, spanRead, mostVolume, isFair, bookedIfFair, bookedNewest}
 use Rattle.point_volumes.proofs.Powers.{turn-most, unit-most, turn-unit}
 

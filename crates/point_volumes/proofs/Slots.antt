@@ -6,7 +6,7 @@ use native.Mathlib.Omega.{arith}
 use lib.ListN.{getD, set}
 use borrow.Author.Tests.{le-leb, lt-leb}
 use Rattle.rules.specs.declared.{Period.Period}
-use Rattle.rules.specs.Register.{noPeriod, bookedPeriod, bookedSlots}
+use Rattle.rules.specs.Pinned.Register.{noPeriod, bookedPeriod, bookedSlots}
 
 module _ (c : ℕ → ℕ) (from e : ℕ) where
   pub slots-last : (i : ℕ) (ps : List Period) → 0 < i → getD ps (i - 1) noPeriod .start ≤ from

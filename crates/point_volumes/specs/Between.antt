@@ -6,7 +6,7 @@ use lib.Dec.{leb, ltb}
 use Rattle.dates.specs.Dates.{lastDay}
 use Rattle.rules.specs.declared.{History.History, Meter.Meter, Period.Period, Reading.Reading, Span.Span}
 use Rattle.rules.specs.Volumes.{fullTurn, unitOf, advanceOf, given}
-use Rattle.rules.specs.Register.{bookedPeriod, booked}
+use Rattle.rules.specs.Pinned.Register.{bookedPeriod, booked}
 
 -- V, of any numbers: an index that the wheels do not have advances nothing.
 abbrev pub advanceRead : ℕ → ℕ → ℕ → ℕ → ℕ

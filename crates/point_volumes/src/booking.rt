@@ -7,7 +7,7 @@ use rules::Span;
 ghost use mathlib.Core.Path.{_≡_};
 ghost use Prim.Native.Nat.{_≤_};
 ghost use Rattle.rules.specs.Volumes.{given as Volumes·given};
-ghost use Rattle.rules.specs.Register.{bookedPeriod, bookedSlots};
+ghost use Rattle.rules.specs.Pinned.Register.{bookedPeriod, bookedSlots};
 ghost use Rattle.point_volumes.specs.Between.{mostVolume, Fair, isFair, bookedIfFair, bookedNewest};
 
 // What a reading has given before a day.

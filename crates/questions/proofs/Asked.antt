@@ -6,7 +6,7 @@ use lib.Dec.{ltb}
 use borrow.Author.Tests.{ltb-false}
 use Rattle.rules.specs.declared.{Register.Register}
 use Rattle.rules.specs.Rejections.{notPoint, outside}
-use Rattle.questions.specs.Questions.{unasked}
+use Rattle.questions.specs.Pinned.Questions.{unasked}
 use Rattle.rules.proofs.Accept.{neither}
 
 pub range-in : (lo hi n : ℕ) → outside lo hi n ≡ false → (lo ≤ n) × (n ≤ hi)

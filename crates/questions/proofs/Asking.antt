@@ -17,10 +17,10 @@ use Rattle.questions.specs.declared.PeriodAnswer.the-variants as period
 use Rattle.questions.specs.declared.AdvanceAnswer.the-variants as advance
 use Rattle.rules.specs.Volumes.{volume, registered}
 use Rattle.rules.specs.Answers.{isAccepted}
-use Rattle.questions.specs.Questions.{holderNumber, holderTold, periodNumber, periodTold, advanceNumber, advanceTold}
+use Rattle.questions.specs.Pinned.Questions.{holderNumber, holderTold, periodNumber, periodTold, advanceNumber, advanceTold}
 use Rattle.rules.specs.Rejections.{openingAnswer, notPoint}
-use Rattle.rules.specs.Register.{used, pointAt}
-use Rattle.questions.specs.Questions.{unasked, holderAnswer, periodAnswer, advanceAnswer}
+use Rattle.rules.specs.Pinned.Register.{used, pointAt}
+use Rattle.questions.specs.Pinned.Questions.{unasked, holderAnswer, periodAnswer, advanceAnswer}
 use Rattle.rules.specs.DayBook.{opened, readings, enrolments, Page}
 use Rattle.rules.specs.Periods.{periodsOf, holderOn, book, register}
 use Rattle.agreement.proofs.Tally.{tally-desc, live-runs, Desc}

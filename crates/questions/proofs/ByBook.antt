@@ -7,7 +7,7 @@ use Prim.Native.Nat.{ℕ, zero, suc, _+_, _-_, _≤_, _<_}
 use native.Mathlib.Omega.{arith}
 use lib.ListN.{length, getD, take}
 use Rattle.rules.specs.declared.{Period.Period, Point.Point}
-use Rattle.rules.specs.Register.{period, noPeriod}
+use Rattle.rules.specs.Pinned.Register.{period, noPeriod}
 use Rattle.rules.specs.DayBook.{Cell, cell}
 use Rattle.rules.specs.Periods.{periodsOf, sumDays}
 use Rattle.agreement.proofs.Tally.{tally, Runs, Live, live-runs}

@@ -9,7 +9,7 @@ use Rattle.dates.specs.Dates.{lastDay}
 use Rattle.rules.specs.declared.{Register.Register, Opening.Opening, Call.Call, Action.Action}
 use Rattle.rules.specs.Answers.{isAccepted}
 use Rattle.rules.specs.Rejections.{answer, openingAnswer}
-use Rattle.rules.specs.Register.{register, catchUp, advanced, says, done, applied, after, opened}
+use Rattle.rules.specs.Pinned.Register.{register, catchUp, advanced, says, done, applied, after, opened}
 use Rattle.rules.proofs.Accept.{pass}
 use Rattle.rules.proofs.Views.{passed}
 

@@ -14,9 +14,9 @@ use borrow.Author.Tests.{le-leb, lt-leb, lt-ltb}
 use Rattle.rules.specs.declared.{Period.Period}
 use Rattle.questions.specs.declared.{HolderAnswer.HolderAnswer}
 use Rattle.questions.specs.declared.HolderAnswer.the-variants as holder
-use Rattle.questions.specs.Questions.{holderNumber, holderTold}
-use Rattle.rules.specs.Register.{noPeriod}
-use Rattle.questions.specs.Questions.{holderAmong, sumOf}
+use Rattle.questions.specs.Pinned.Questions.{holderNumber, holderTold}
+use Rattle.rules.specs.Pinned.Register.{noPeriod}
+use Rattle.questions.specs.Pinned.Questions.{holderAmong, sumOf}
 use Rattle.rules.specs.Periods.{covering, isBeforeNext}
 use Rattle.agreement.proofs.Tally.{sumVolumes, oldest, Desc, desc-up, oldest-le}
 use Rattle.agreement.proofs.Slots.{recent}

@@ -13,8 +13,8 @@ use Rattle.rules.specs.Fields.{withPending}
 use Rattle.rules.specs.Effects.{effectiveDay, effectOf}
 use Rattle.rules.specs.Answers.{isAccepted}
 use Rattle.rules.specs.Rejections.{firstOf, rows, accepted, answerTo, shown, answer}
-use Rattle.rules.specs.Register.{noPoint, pointAt, view, advanced, says, acted, done, applied, on}
-use Rattle.questions.specs.Questions.{holderAnswer, periodAnswer, advanceAnswer}
+use Rattle.rules.specs.Pinned.Register.{noPoint, pointAt, view, advanced, says, acted, done, applied, on}
+use Rattle.questions.specs.Pinned.Questions.{holderAnswer, periodAnswer, advanceAnswer}
 use Rattle.questions.specs.Seen.{notAsked, withoutPending, PendingUnseen, onlyDay, RequestUnseen}
 use Rattle.rules.proofs.Views.{passed}
 

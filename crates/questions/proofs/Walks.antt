@@ -8,8 +8,8 @@ use lib.ListN.{getD}
 use borrow.Author.Tests.{le-leb, lt-leb}
 use Rattle.rules.specs.declared.{Period.Period}
 use Rattle.questions.specs.declared.HolderAnswer.the-variants as holder
-use Rattle.rules.specs.Register.{noPeriod}
-use Rattle.questions.specs.Questions.{holderAmong, sumOf}
+use Rattle.rules.specs.Pinned.Register.{noPeriod}
+use Rattle.questions.specs.Pinned.Questions.{holderAmong, sumOf}
 
 module _ (d : ℕ) (ps : List Period) where
   pub among-found : (i : ℕ) → 0 < i → getD ps (i - 1) noPeriod .start ≤ d

@@ -7,10 +7,10 @@ use mathlib.Core.List.{List, [], _∷_}
 use Prim.Native.Nat.{ℕ, _≤_}
 use Rattle.rules.specs.declared.{Opening.Opening, Call.Call}
 use Rattle.rules.specs.Answers.{isAccepted}
-use Rattle.questions.specs.Questions.{holderNumber, holderTold, periodNumber, periodTold}
-use Rattle.questions.specs.Questions.{advanceNumber, advanceTold}
+use Rattle.questions.specs.Pinned.Questions.{holderNumber, holderTold, periodNumber, periodTold}
+use Rattle.questions.specs.Pinned.Questions.{advanceNumber, advanceTold}
 use Rattle.rules.specs.Rejections.{openingAnswer}
-use Rattle.questions.specs.Questions.{holderAnswer, periodAnswer, advanceAnswer}
+use Rattle.questions.specs.Pinned.Questions.{holderAnswer, periodAnswer, advanceAnswer}
 use Rattle.rules.specs.DayBook.{opened, enrolments}
 use Rattle.rules.specs.Periods.{register}
 use Rattle.questions.specs.Seen.{PendingUnseen, RequestUnseen}

@@ -12,7 +12,7 @@ use lib.Dec.{eqb, leb}
 use Rattle.rules.specs.declared.{Period.Period, Opening.Opening, Call.Call}
 use Rattle.rules.specs.Volumes.{volume, registered}
 use Rattle.rules.specs.Rejections.{notPoint}
-use Rattle.rules.specs.Register.{period}
+use Rattle.rules.specs.Pinned.Register.{period}
 use Rattle.rules.specs.DayBook.{Cell, cell, opened, readings, enrolments}
 use Rattle.rules.specs.Periods.{holderOn, sumDays, book}
 

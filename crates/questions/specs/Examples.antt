@@ -2,14 +2,14 @@
 use mathlib.Core.Path.{_≡_}
 use mathlib.Core.List.{[], _∷_, _++_}
 use Rattle.rules.specs.declared.{Register.Register, Action.Action, PointAction.PointAction, Answer.Answer}
-use Rattle.rules.specs.Register.{period, on}
+use Rattle.rules.specs.Pinned.Register.{period, on}
 use Rattle.rules.specs.Periods.{register}
 use Rattle.rules.specs.Scenes.{_gives_, calls}
 use Rattle.rules.specs.RowExamples.Scene.{opens, ready}
 use Rattle.questions.specs.declared.{HolderAnswer.HolderAnswer, PeriodAnswer.PeriodAnswer}
 use Rattle.questions.specs.declared.{AdvanceAnswer.AdvanceAnswer}
-use Rattle.questions.specs.Questions.{holderNumber, periodNumber, advanceNumber}
-use Rattle.questions.specs.Questions.{holderAnswer, periodAnswer, advanceAnswer}
+use Rattle.questions.specs.Pinned.Questions.{holderNumber, periodNumber, advanceNumber}
+use Rattle.questions.specs.Pinned.Questions.{holderAnswer, periodAnswer, advanceAnswer}
 
 -- Point 32 is enrolled on day 12, served by 5 from day 15 and read on day 22; the register's day is 25.
 abbrev r : Register

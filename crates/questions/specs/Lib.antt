@@ -1,5 +1,5 @@
-pub mod Questions
 pub mod Seen
 pub mod ByBook
 pub mod Asking
 pub mod Examples
+pub mod Pinned

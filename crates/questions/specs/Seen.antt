@@ -8,8 +8,8 @@ use Rattle.rules.specs.declared.{Point.Point, Register.Register, Pending.Pendin
 use Rattle.rules.specs.declared.{PointAction.PointAction}
 use Rattle.rules.specs.Fields.{withPending}
 use Rattle.rules.specs.Answers.{isAccepted}
-use Rattle.rules.specs.Register.{register, applied, on}
-use Rattle.questions.specs.Questions.{holderAnswer, periodAnswer, advanceAnswer}
+use Rattle.rules.specs.Pinned.Register.{register, applied, on}
+use Rattle.questions.specs.Pinned.Questions.{holderAnswer, periodAnswer, advanceAnswer}
 
 -- A point without its pending request, and a register without any.
 abbrev pub notAsked : Point → Point

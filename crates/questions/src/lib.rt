@@ -6,9 +6,9 @@ use rules::Period;
 use rules::Register;
 ghost use mathlib.Core.Path.{_≡_};
 ghost use Prim.Native.Nat.{_≤_};
-ghost use Rattle.rules.specs.Register.{used, pointAt};
-ghost use Rattle.questions.specs.Questions.{unasked, holderAmong, holderAnswer, periodAnswer, sumOf};
-ghost use Rattle.questions.specs.Questions.{advanceAnswer};
+ghost use Rattle.rules.specs.Pinned.Register.{used, pointAt};
+ghost use Rattle.questions.specs.Pinned.Questions.{unasked, holderAmong, holderAnswer, periodAnswer, sumOf};
+ghost use Rattle.questions.specs.Pinned.Questions.{advanceAnswer};
 
 // The answers to questions; a question off its range is refused.
 pub enum HolderAnswer {

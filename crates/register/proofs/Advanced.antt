@@ -8,9 +8,9 @@ use lib.ListN.{getD, List·getD-map}
 use borrow.Author.Tests.{le-leb, lt-leb, eq-eqb, ne-eqb}
 use Rattle.dates.specs.Dates.{lastDay}
 use Rattle.rules.specs.declared.{Point.Point, Register.Register, Settings.Settings}
-use Rattle.rules.specs.Register.{catchUp, nextEvent, dueBy, expiryBy, happened, register, pointAt, noPoint, advanced}
+use Rattle.rules.specs.Pinned.Register.{catchUp, nextEvent, dueBy, expiryBy, happened, register, pointAt, noPoint, advanced}
 use Rattle.point_effects.specs.Between.{caughtUp}
-use Rattle.register.specs.Calls.{broughtUp}
+use Rattle.register.specs.Between.Calls.{broughtUp}
 
 -- On the calendar catching up is the definition's.
 pub caughtUp-on : (S : Settings) (t : ℕ) → t ≤ lastDay → caughtUp S t ≡ catchUp S t

@@ -15,13 +15,13 @@ use Rattle.rules.specs.declared.{PointAction.PointAction, View.View, Effect.Eff
 use Rattle.rules.specs.Effects.{effectOf}
 use Rattle.rules.specs.Answers.{isAccepted}
 use Rattle.rules.specs.Rejections.{blankView, notPoint, rows, accepted, shown, answerTo, answer}
-use Rattle.rules.specs.Register.{catchUp, startsOn, view, blankPoint, register, pointAt, advanced, says, acted, done, outcome, applied}
+use Rattle.rules.specs.Pinned.Register.{catchUp, startsOn, view, blankPoint, register, pointAt, advanced, says, acted, done, outcome, applied}
 use Rattle.rules.proofs.Views.{answer-off, answer-at, accepted-point}
 use Rattle.point_effects.specs.declared.{Ruling.Ruling}
 use Rattle.point_answers.specs.Between.{answerAt}
 use Rattle.point_effects.specs.Between.{rulingAt, Accepted, noted}
 use Rattle.point_effects.proofs.Accepted.{accepted-noted}
-use Rattle.register.specs.Calls.{callAt, broughtUp, pointOn}
+use Rattle.register.specs.Between.Calls.{callAt, broughtUp, pointOn}
 
 pub advanced-on : (t : ℕ) (r : Register) → t ≤ lastDay → broughtUp t r ≡ advanced t r
 unfolding broughtUp

@@ -10,12 +10,12 @@ use Rattle.rules.specs.declared.{Point.Point, Register.Register, View.View, Set
 use Rattle.rules.specs.Answers.{isAccepted}
 use Rattle.rules.specs.Effects.{failed}
 use Rattle.rules.specs.Rejections.{_⇒_, firstOf, touches, isFull, anyPoint, shown, answer}
-use Rattle.rules.specs.Register.{view, pointAt, register, advanced, says, failedPoint, done, outcome, applied, on}
+use Rattle.rules.specs.Pinned.Register.{view, pointAt, register, advanced, says, failedPoint, done, outcome, applied, on}
 use Rattle.rules.proofs.Views.{shown-in}
 use Rattle.point_answers.specs.Between.{after, failureRows}
 use Rattle.point_answers.proofs.Failures.{failure-answer, failure-fits}
 use Rattle.point_effects.proofs.Accepted.{failed-noted}
-use Rattle.register.specs.Calls.{broughtUp, failureFills, failedOn}
+use Rattle.register.specs.Between.Calls.{broughtUp, failureFills, failedOn}
 use Rattle.register.proofs.AtPoint.{advanced-on, advanced-settings}
 
 any-ext : (n p : ℕ) (f g : ℕ → Bool) → ((q : ℕ) → p ≤ q → q < p + n → f q ≡ g q) → anyPoint p n f ≡ anyPoint p n g

@@ -8,10 +8,10 @@ use borrow.Author.Tests.{ltb-false}
 use Rattle.rules.specs.declared.{Action.Action, Answer.Answer, Register.Register, Settings.Settings, View.View}
 use Rattle.rules.specs.Answers.{isAccepted}
 use Rattle.rules.specs.Rejections.{rows, answerTo, shown, answer}
-use Rattle.rules.specs.Register.{view, pointAt, advanced, says, done, outcome, applied, on}
+use Rattle.rules.specs.Pinned.Register.{view, pointAt, advanced, says, done, outcome, applied, on}
 use Rattle.rules.proofs.Accept.{pass, neither}
 use Rattle.rules.proofs.Views.{passed}
-use Rattle.register.specs.Calls.{broughtUp}
+use Rattle.register.specs.Between.Calls.{broughtUp}
 use Rattle.register.proofs.AtPoint.{advanced-on}
 
 module _ (r : Register) (t : ℕ) (c : Action) (a : Answer) (e : (S : Settings) (u : List Bool) (v : ℕ → View) → a ≡ answerTo S (r .day) u t c v) where

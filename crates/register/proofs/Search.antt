@@ -8,7 +8,7 @@ use native.Mathlib.Numerals.{add-one}
 use lib.ListN.{getD}
 use Rattle.rules.specs.declared.{Point.Point}
 use Rattle.rules.specs.Rejections.{anyPoint}
-use Rattle.rules.specs.Register.{pointAt, noPoint}
+use Rattle.rules.specs.Pinned.Register.{pointAt, noPoint}
 
 module _ (f : ℕ → Bool) where
   -- the i-th is passed, and the next follows

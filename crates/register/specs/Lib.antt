@@ -1,2 +1,2 @@
-pub mod Calls
-pub mod Opens
+pub mod Between
+pub mod Pinned

@@ -22,8 +22,8 @@ use rules::Outcome;
 use rules::PointAction;
 use rules::Register;
 ghost use mathlib.Core.Path.{_≡_};
-ghost use Rattle.rules.specs.Register.{applied, on};
-ghost use Rattle.register.specs.Calls.{callAt};
+ghost use Rattle.rules.specs.Pinned.Register.{applied, on};
+ghost use Rattle.register.specs.Between.Calls.{callAt};
 
 fn outcome(answer: Answer, r: Register) -> Outcome
     ensures { λ x. ⌜ x ≡ record { answer = answer; register = r } ⌝ }

@@ -10,8 +10,8 @@ ghost use mathlib.Core.Path.{_≡_};
 ghost use mathlib.Core.Bool.{true};
 ghost use lib.ListN.{set as ListN·set, replicate};
 ghost use Rattle.rules.specs.Opening.{settingsOf, firstContracts};
-ghost use Rattle.rules.specs.Register.{blankPoint, register};
-ghost use Rattle.register.specs.Opens.{InRange, noRegister, openedOver};
+ghost use Rattle.rules.specs.Pinned.Register.{blankPoint, register};
+ghost use Rattle.register.specs.Pinned.Opens.{InRange, noRegister, openedOver};
 
 // The settings of an opening whose numbers are in range.
 fn settings_of(o: Opening) -> Settings

@@ -19,9 +19,9 @@ use rules::SupplyKind;
 ghost use mathlib.Core.Path.{_≡_};
 ghost use mathlib.Core.List.{map};
 ghost use Rattle.rules.specs.Rejections.{anyPoint};
-ghost use Rattle.rules.specs.Register.{blankPoint, pointAt};
+ghost use Rattle.rules.specs.Pinned.Register.{blankPoint, pointAt};
 ghost use Rattle.point_effects.specs.Between.{caughtUp};
-ghost use Rattle.register.specs.Calls.{broughtUp, pointOn, failureFills, failedOn};
+ghost use Rattle.register.specs.Between.Calls.{broughtUp, pointOn, failureFills, failedOn};
 
 // A point that was never enrolled.
 pub(crate) fn blank_point() -> Point

@@ -19,8 +19,8 @@ pub use service::into_service;
 pub use service::out_of_service;
 pub use service::suspend;
 ghost use mathlib.Core.Path.{_≡_};
-ghost use Rattle.rules.specs.Register.{applied, on};
-ghost use Rattle.register.specs.Calls.{callAt};
+ghost use Rattle.rules.specs.Pinned.Register.{applied, on};
+ghost use Rattle.register.specs.Between.Calls.{callAt};
 
 pub(crate) fn apply_at(r: Register, today: u64, p: u64, a: PointAction) -> Outcome
     ensures { λ x. ⌜ x ≡ applied r (callAt today p a) ⌝ }

@@ -4,8 +4,8 @@ use rules::Outcome;
 use rules::PointAction;
 use rules::Register;
 ghost use mathlib.Core.Path.{_≡_};
-ghost use Rattle.rules.specs.Register.{applied};
-ghost use Rattle.register.specs.Calls.{callAt};
+ghost use Rattle.rules.specs.Pinned.Register.{applied};
+ghost use Rattle.register.specs.Between.Calls.{callAt};
 
 // 8. A reading of day d: index x, and whether it passed zero.
 pub fn reading(r: Register, today: u64, p: u64, d: u64, x: u64, z: u64) -> Outcome

@@ -4,8 +4,8 @@ use rules::Outcome;
 use rules::PointAction;
 use rules::Register;
 ghost use mathlib.Core.Path.{_≡_};
-ghost use Rattle.rules.specs.Register.{applied};
-ghost use Rattle.register.specs.Calls.{callAt};
+ghost use Rattle.rules.specs.Pinned.Register.{applied};
+ghost use Rattle.register.specs.Between.Calls.{callAt};
 
 // 6. Supplier s asks for point p from day d on.
 pub fn request(r: Register, today: u64, p: u64, s: u64, key: u64, d: u64) -> Outcome

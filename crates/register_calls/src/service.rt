@@ -4,8 +4,8 @@ use rules::Outcome;
 use rules::PointAction;
 use rules::Register;
 ghost use mathlib.Core.Path.{_≡_};
-ghost use Rattle.rules.specs.Register.{applied};
-ghost use Rattle.register.specs.Calls.{callAt};
+ghost use Rattle.rules.specs.Pinned.Register.{applied};
+ghost use Rattle.register.specs.Between.Calls.{callAt};
 
 // 3. Point p is enrolled, with the wheels of its meter and its index.
 pub fn enrol(r: Register, today: u64, p: u64, before: u64, after: u64, index: u64) -> Outcome

@@ -11,7 +11,7 @@ use Rattle.rules.specs.Effects
 use Rattle.rules.specs.Volumes
 use Rattle.rules.specs.Rejections
 use Rattle.rules.specs.Opening
-use Rattle.rules.specs.Register
+use Rattle.rules.specs.Pinned.Register
 use Rattle.rules.specs.DayBook
 use Rattle.rules.specs.Periods
 

@@ -2,7 +2,7 @@
 use mathlib.Core.Path.{_≡_, _∙_}
 use mathlib.Core.List.{List}
 use Rattle.rules.specs.declared.{Opening.Opening}
-use Rattle.rules.specs.Register
+use Rattle.rules.specs.Pinned.Register
 use Rattle.rules.specs.DayBook
 use Rattle.rules.specs.Scenes.{Line, calls, said, Plays}
 

@@ -18,7 +18,7 @@ use Rattle.rules.specs.declared.Action.the-variants as action
 use Rattle.rules.specs.Volumes.{dayVolume}
 use Rattle.rules.specs.Opening.{settingsOf}
 use Rattle.rules.specs.Rejections.{openingAnswer, tooLate}
-use Rattle.rules.specs.Register.{period}
+use Rattle.rules.specs.Pinned.Register.{period}
 use Rattle.rules.specs.Periods.{sumDays}
 use Rattle.rules.specs.Scenes.{Line, _gives_, opening, on, Plays, Shows}
 

@@ -4,9 +4,9 @@ pub mod Volumes
 pub mod Answers
 pub mod Rejections
 pub mod Opening
-pub mod Register
 pub mod DayBook
 pub mod Periods
 pub mod Scenes
 pub mod Examples
 pub mod RowExamples
+pub mod Pinned

@@ -14,7 +14,7 @@ use Prim.Native.Nat.{ℕ, zero, suc, _+_, _-_}
 use lib.Dec.{eqb, leb, ltb}
 use lib.ListN.{take}
 use Rattle.rules.specs.declared.{Period.Period, Point.Point, Register.Register, Opening.Opening, Call.Call}
-use Rattle.rules.specs.Register
+use Rattle.rules.specs.Pinned.Register
 use Rattle.rules.specs.DayBook
 use Rattle.rules.specs.DayBook.{Book, Cell, cell}
 

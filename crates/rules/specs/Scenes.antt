@@ -12,9 +12,9 @@ use mathlib.Core.Option.{Option, some}
 use Prim.Native.Nat.{ℕ}
 use Rattle.rules.specs.declared.{Period.Period, Fields.Fields, Opening.Opening, Call.Call, Answer.Answer}
 use Rattle.rules.specs.Volumes.{volume, registered}
-use Rattle.rules.specs.Register
-use Rattle.rules.specs.Register.{pointAt}
-pub use Rattle.rules.specs.Register.{on}
+use Rattle.rules.specs.Pinned.Register
+use Rattle.rules.specs.Pinned.Register.{pointAt}
+pub use Rattle.rules.specs.Pinned.Register.{on}
 use Rattle.rules.specs.DayBook
 use Rattle.rules.specs.DayBook.{Cell}
 use Rattle.rules.specs.Periods.{periodsOf, volumesOf, markedDays, holderOn, dailySums, total, book, register}

@@ -12,7 +12,7 @@ use Rattle.line_text.proofs.Appends.{room-put, no-room, appended-length}
 use Rattle.input_lines.specs.Between.Feeds.{untilFeed}
 use Rattle.input_lines.proofs.Feeds.{until-le, fitting-le}
 use Rattle.input_pieces.specs.declared.{Session.Session, Fed.Fed}
-use Rattle.input_pieces.specs.Session.{FedBy}
+use Rattle.input_pieces.specs.Pinned.Session.{FedBy}
 
 -- a writer that begins within its buffer ends within it
 pub appended-within : (at : ℕ) (t o o′ : List ℕ) (r : ℕ) → Appended at t o o′ r → at ≤ length o → r ≤ length o′

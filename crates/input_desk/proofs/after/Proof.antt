@@ -1,7 +1,7 @@
 -- The register opened, or the call done.
 use mathlib.Core.Path.{refl, ap}
 use Rattle.rules.specs.declared.{Outcome.Outcome}
-use Rattle.input_desk.specs.Desk.{deskAfter}
+use Rattle.input_desk.specs.Pinned.Desk.{deskAfter}
 use Rattle.input_desk.proofs.Openings.{opening-after, call-after}
 use borrow.Author.Needs.{needs}
 use Rattle.input_desk.proofs.after.Statement.{statement}

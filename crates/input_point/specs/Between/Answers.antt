@@ -7,14 +7,14 @@ use lib.ListN.{getD}
 use Rattle.rules.specs.declared.{Fields.Fields, Period.Period, Settings.Settings, Action.Action, Answer.Answer, View.View}
 use Rattle.rules.specs.Answers.{isAccepted}
 use Rattle.rules.specs.Fields.{blank}
-use Rattle.rules.specs.Register.{noPeriod}
+use Rattle.rules.specs.Pinned.Register.{noPeriod}
 use Rattle.rules.specs.Rejections.{blankView, firstOf, notPoint, touches, isFull, anyPoint, shown, answerTo, openingAnswer}
 use Rattle.rules.specs.Effects.{failed}
 use Rattle.point_answers.specs.Between.{failureRows}
 use Rattle.point_effects.specs.Between.{rulingAt}
 use Rattle.line_messages.specs.declared.{Message.Message}
-use Rattle.input_desk.specs.Desk.{unreadable}
-use Rattle.input_quiet.specs.Quiet.{seen, viewOn}
+use Rattle.input_desk.specs.Pinned.Desk.{unreadable}
+use Rattle.input_quiet.specs.Between.Quiet.{seen, viewOn}
 use Rattle.input_point.specs.declared.{answers.Said.Said}
 
 -- The place of the point that a message names; the first where it names none.

@@ -4,7 +4,7 @@ use mathlib.Core.Bool.{cond, _&&_}
 use Prim.Native.Nat.{ℕ, _+_, _-_, min}
 use lib.Dec.{eqb, leb, ltb}
 use Rattle.rules.specs.declared.{Action.Action, Effect.Effect, Fields.Fields, Period.Period, Span.Span}
-use Rattle.rules.specs.Register.{period}
+use Rattle.rules.specs.Pinned.Register.{period}
 use Rattle.point_volumes.specs.Between.{bookedNewest}
 use Rattle.line_messages.specs.declared.{Message.Message}
 use Rattle.input_point.specs.declared.{answers.Said.Said, deeds.Deed.Deed}

@@ -1,7 +1,7 @@
 use borrow.Author.Needs.{needs}
 use Rattle.input_quiet.proofs.due_day.Statement.{statement}
 use Rattle.input_quiet.proofs.due_day.Tie as tie
-use Rattle.input_quiet.specs.Quiet.{dueDay}
+use Rattle.input_quiet.specs.Between.Quiet.{dueDay}
 
 returns : tie.Need-returns
 unfolding dueDay

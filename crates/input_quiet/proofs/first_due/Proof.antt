@@ -5,7 +5,7 @@ use Prim.Native.Nat.{_≤_}
 use mathlib.Core.Path.{_≡_}
 use lib.ListN.{length, drop}
 use native.Mathlib.Omega.{arith}
-use Rattle.input_quiet.specs.Quiet.{firstDue}
+use Rattle.input_quiet.specs.Between.Quiet.{firstDue}
 use Rattle.input_quiet.proofs.Dues.{first-end, first-step, first-start}
 
 abbrev Inv-loop : tie.InvT-loop

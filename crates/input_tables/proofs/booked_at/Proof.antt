@@ -2,8 +2,8 @@
 use mathlib.Core.Path.{_≡_, refl, sym, _∙_}
 use Prim.Native.Nat.{_-_, _*_, _≤_}
 use native.Mathlib.Omega.{arith}
-use Rattle.rules.specs.Register.{noPeriod}
-use Rattle.input_tables.specs.Tables.{rowAt}
+use Rattle.rules.specs.Pinned.Register.{noPeriod}
+use Rattle.input_tables.specs.Between.Tables.{rowAt}
 use Rattle.input_tables.proofs.Points.{row-length, row-get}
 use Rattle.input_tables.proofs.Filled.{Filled, filled-next, filled-all, Pasted, pasted-start, pasted-next}
 use borrow.Author.Needs.{needs}

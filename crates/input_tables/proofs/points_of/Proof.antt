@@ -3,8 +3,8 @@ use mathlib.Core.Path.{refl, sym}
 use Prim.Native.Nat.{_-_, _≤_}
 use native.Mathlib.Omega.{arith}
 use Rattle.rules.specs.Fields.{blank}
-use Rattle.rules.specs.Register.{noPoint, noPeriod}
-use Rattle.input_tables.specs.Tables.{rowAt, pointsOf}
+use Rattle.rules.specs.Pinned.Register.{noPoint, noPeriod}
+use Rattle.input_tables.specs.Between.Tables.{rowAt, pointsOf}
 use Rattle.input_tables.proofs.Points.{row-length, row-get, points-length, points-get}
 use Rattle.input_tables.proofs.Filled.{Filled, filled-next, filled-all}
 use borrow.Author.Needs.{needs}

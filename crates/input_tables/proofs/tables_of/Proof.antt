@@ -2,8 +2,8 @@
 use mathlib.Core.Path.{_≡_, refl}
 use Prim.Native.Nat.{_-_, _*_, _≤_}
 use native.Mathlib.Omega.{arith}
-use Rattle.rules.specs.Register.{noPoint, noPeriod}
-use Rattle.input_tables.specs.Tables.{Sized, pointsOf}
+use Rattle.rules.specs.Pinned.Register.{noPoint, noPeriod}
+use Rattle.input_tables.specs.Between.Tables.{Sized, pointsOf}
 use Rattle.input_tables.proofs.Points.{points-length, pasted-points, pasted-sized}
 use Rattle.input_tables.proofs.Filled.{Filled, filled-next, filled-all, Pasted, pasted-start, pasted-next}
 use borrow.Author.Needs.{needs}

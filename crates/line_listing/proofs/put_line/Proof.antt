@@ -1,6 +1,6 @@
 -- One period's line, and how long it can be.
 use native.Mathlib.Omega.{arith}
-use Rattle.rules.specs.Register.{period}
+use Rattle.rules.specs.Pinned.Register.{period}
 use Rattle.line_listing.proofs.Growing.{period-within}
 use borrow.Author.Needs.{needs}
 use Rattle.line_listing.proofs.put_line.Statement.{statement}

@@ -6,7 +6,7 @@ use Rattle.line_listing.proofs.put_periods.Tie as tie
 use Prim.Native.Nat.{_+_, _-_, _*_, _≤_}
 use mathlib.Core.Path.{_≡_}
 use native.Mathlib.Omega.{arith}
-use Rattle.line_listing.specs.Listing.{periodLines}
+use Rattle.line_listing.specs.Pinned.Listing.{periodLines}
 use Rattle.line_text.proofs.Within.{within-none, within-more, within-length}
 use Rattle.line_listing.proofs.Growing.{lines-next, lines-none}
 

@@ -5,7 +5,7 @@ use native.Mathlib.Omega.{arith}
 use Rattle.questions.proofs.Asked.{not-on, not-off}
 use Rattle.line_text.proofs.Within.{within, within-none, within-more, within-wider}
 use Rattle.line_answers.proofs.LineTexts.{total-short}
-use Rattle.line_listing.specs.Listing.{pointLines}
+use Rattle.line_listing.specs.Pinned.Listing.{pointLines}
 use borrow.Author.Needs.{needs}
 use Rattle.line_listing.proofs.put_point.Statement.{statement}
 use Rattle.line_listing.proofs.put_point.Tie as tie

@@ -4,9 +4,9 @@ use mathlib.Core.Path.{_≡_}
 use lib.ListN.{take, drop}
 use lib.Seq.{getD-drop}
 use native.Mathlib.Omega.{arith}
-use Rattle.rules.specs.Register.{noPoint}
+use Rattle.rules.specs.Pinned.Register.{noPoint}
 use Rattle.line_text.specs.Between.Appending.{AppendedWithin}
-use Rattle.line_listing.specs.Listing.{listingFrom}
+use Rattle.line_listing.specs.Pinned.Listing.{listingFrom}
 use Rattle.line_text.proofs.Within.{within-none, within-more, within-length, within-end}
 use Rattle.line_listing.proofs.Rising.{listing-none, listing-next}
 use borrow.Author.Needs.{needs}

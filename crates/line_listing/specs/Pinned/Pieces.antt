@@ -7,7 +7,7 @@ use lib.ListN.{length, take, drop}
 use Rattle.rules.specs.declared.{Point.Point, Register.Register}
 use Rattle.line_text.specs.Between.Appending.{put}
 use Rattle.line_listing.specs.declared.{Listed.Listed}
-use Rattle.line_listing.specs.Listing.{listingFrom, listing}
+use Rattle.line_listing.specs.Pinned.Listing.{listingFrom, listing}
 
 -- The lines of one point have at most 918 bytes, so that a call takes as many points as surely fit.
 abbrev pub taken : ℕ → ℕ → ℕ

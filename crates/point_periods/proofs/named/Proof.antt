@@ -1,6 +1,6 @@
 -- A holder is named: the newest period is replaced where it starts on the day, else a period is appended.
 use mathlib.Core.Path.{sym, _∙_}
-use Rattle.rules.specs.Register.{named}
+use Rattle.rules.specs.Pinned.Register.{named}
 use Rattle.point_periods.proofs.Starts.{starts-some}
 use borrow.Author.Needs.{needs}
 use Rattle.point_periods.proofs.named.Statement.{statement}

@@ -2,7 +2,7 @@
 use mathlib.Core.Path.{_≡_, refl, sym, _∙_, ap}
 use Prim.Native.Nat.{ℕ, _≤_}
 use native.Mathlib.Omega.{arith}
-use Rattle.questions.specs.Questions.{holderAmong}
+use Rattle.questions.specs.Pinned.Questions.{holderAmong}
 use Rattle.questions.proofs.Walks.{among-found, among-passed, among-none}
 use borrow.Author.Needs.{needs}
 use Rattle.questions.proofs.holder_among.Statement.{statement}

@@ -1,7 +1,7 @@
 -- The period question: off its range, or the n-th slot.
 use mathlib.Core.Path.{sym, _∙_}
 use native.Mathlib.Omega.{arith}
-use Rattle.questions.specs.Questions.{periodAnswer}
+use Rattle.questions.specs.Pinned.Questions.{periodAnswer}
 use Rattle.questions.proofs.Asked.{asked-in, range-in}
 use borrow.Author.Needs.{needs}
 use Rattle.questions.proofs.period_of.Statement.{statement}

@@ -2,7 +2,7 @@
 use mathlib.Core.Path.{_≡_, sym, _∙_, ap}
 use Prim.Native.Nat.{ℕ, _≤_, _-_}
 use native.Mathlib.Omega.{arith}
-use Rattle.questions.specs.Questions.{sumOf}
+use Rattle.questions.specs.Pinned.Questions.{sumOf}
 use Rattle.questions.proofs.Walks.{sum-next, sum-none}
 use borrow.Author.Needs.{needs}
 use Rattle.questions.proofs.sum_of.Statement.{statement}

@@ -3,7 +3,7 @@ use mathlib.Core.Path.{sym, _∙_}
 use native.Mathlib.Omega.{arith}
 use borrow.Author.Tests.{not-true, not-false}
 use Rattle.rules.specs.declared.{Action.Action}
-use Rattle.rules.specs.Register.{done}
+use Rattle.rules.specs.Pinned.Register.{done}
 use Rattle.register.proofs.Plain.{plain-refused, plain-accepted, contract-in}
 use borrow.Author.Needs.{needs}
 use Rattle.register.proofs.contract.Statement.{statement}

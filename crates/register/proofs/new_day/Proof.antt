@@ -1,7 +1,7 @@
 -- A day: the register brought up to it, or refused.
 use mathlib.Core.Path.{sym, _∙_}
 use Rattle.rules.specs.declared.{Action.Action}
-use Rattle.rules.specs.Register.{done}
+use Rattle.rules.specs.Pinned.Register.{done}
 use Rattle.register.proofs.Plain.{plain-refused, plain-accepted}
 use borrow.Author.Needs.{needs}
 use Rattle.register.proofs.new_day.Statement.{statement}

@@ -5,7 +5,7 @@ use Prim.Native.Nat.{ℕ}
 use Rattle.rules.specs.declared.{SupplyKind.SupplyKind, Pending.Pending, Action.Action, PointAction.PointAction}
 use Rattle.rules.specs.declared.{Answer.Answer}
 use Rattle.rules.specs.Fields.{supply, unsupplied}
-use Rattle.rules.specs.Register.{period}
+use Rattle.rules.specs.Pinned.Register.{period}
 use Rattle.rules.specs.Scenes.{Line, _gives_, on}
 use Rattle.rules.specs.RowExamples.Scene.{Then, ThenKeeps, ThenShows, kept}
 

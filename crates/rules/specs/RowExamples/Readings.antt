@@ -4,7 +4,7 @@ use mathlib.Core.List.{[], _∷_}
 use Rattle.rules.specs.declared.{SupplyKind.SupplyKind, Pending.Pending, Action.Action, PointAction.PointAction}
 use Rattle.rules.specs.declared.{Answer.Answer}
 use Rattle.rules.specs.Fields.{supply, meter, reading, fields}
-use Rattle.rules.specs.Register.{period}
+use Rattle.rules.specs.Pinned.Register.{period}
 use Rattle.rules.specs.Scenes.{_gives_, opening, on, Plays}
 use Rattle.rules.specs.RowExamples.Scene.{Then, ThenKeeps, ThenShows}
 

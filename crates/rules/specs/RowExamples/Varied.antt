@@ -8,7 +8,7 @@ use Rattle.rules.specs.declared.{Fields.Fields, Supply.Supply, Period.Pe
 use Rattle.rules.specs.declared.{Pending.Pending, Opening.Opening, Action.Action, PointAction.PointAction}
 use Rattle.rules.specs.declared.{Answer.Answer}
 use Rattle.rules.specs.Fields.{supply, meter, reading, fields, unsupplied}
-use Rattle.rules.specs.Register.{period}
+use Rattle.rules.specs.Pinned.Register.{period}
 use Rattle.rules.specs.Scenes.{Line, _gives_, opening, on, Plays, Keeps, Shows}
 
 abbrev opens : ℕ → Opening

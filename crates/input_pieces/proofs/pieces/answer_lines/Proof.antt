@@ -9,10 +9,10 @@ use Rattle.line_fields.specs.Between.Known.{IsKnown}
 use Rattle.line_fields.proofs.KnownStays.{first-is-known}
 use Rattle.line_next.proofs.NextLines.{next-right}
 use Rattle.input_lines.specs.Between.Begun.{kept}
-use Rattle.input_desk.specs.Desk.{desk}
-use Rattle.input_tables.specs.Tables.{Sized}
-use Rattle.input_quiet.specs.Quiet.{firstDue}
-use Rattle.input_pieces.specs.Session.{registerIn}
+use Rattle.input_desk.specs.Pinned.Desk.{desk}
+use Rattle.input_tables.specs.Between.Tables.{Sized}
+use Rattle.input_quiet.specs.Between.Quiet.{firstDue}
+use Rattle.input_pieces.specs.Pinned.Session.{registerIn}
 use Rattle.input_pieces.proofs.Turns.{Going, going-start, ends, line-read, line-turn, said-is}
 use Rattle.input_pieces.proofs.Leaves.{State, Heard, Next, d, saidHere, place-within, supplier-within, known-heard, ruled-heard, failing-heard}
 use Rattle.input_pieces.proofs.Leaves.{refused-next, whole-next, slot-next, back-next, sign-next, pass-next}

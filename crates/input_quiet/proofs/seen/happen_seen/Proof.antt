@@ -1,5 +1,5 @@
 -- What an event shows, event by event.
-use Rattle.input_quiet.specs.Quiet.{happenedSeen}
+use Rattle.input_quiet.specs.Between.Quiet.{happenedSeen}
 use borrow.Author.Needs.{needs}
 use Rattle.input_quiet.proofs.seen.happen_seen.Statement.{statement}
 use Rattle.input_quiet.proofs.seen.happen_seen.Tie as tie

@@ -2,7 +2,7 @@
 use native.Mathlib.Omega.{arith}
 use borrow.Author.Needs.{needs}
 use borrow.Author.Tests.{lt-ltb}
-use Rattle.rules.specs.Register.{startsOn}
+use Rattle.rules.specs.Pinned.Register.{startsOn}
 use Rattle.point_checks.proofs.marks.view_of.Statement.{statement}
 use Rattle.point_checks.proofs.marks.view_of.Tie as tie
 

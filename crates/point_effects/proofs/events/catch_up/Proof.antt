@@ -1,6 +1,6 @@
 -- Catching up: two events, on the calendar.
 use borrow.Author.Tests.{le-leb, lt-leb}
-use Rattle.rules.specs.Register.{catchUp}
+use Rattle.rules.specs.Pinned.Register.{catchUp}
 use Rattle.point_effects.specs.Between.{caughtUp}
 use borrow.Author.Needs.{needs}
 use Rattle.point_effects.proofs.events.catch_up.Statement.{statement}

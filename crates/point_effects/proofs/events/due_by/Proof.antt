@@ -1,6 +1,6 @@
 -- What falls due first: the request, unless it lies ahead or the deadline comes before it.
 use borrow.Author.Tests.{le-leb, lt-leb}
-use Rattle.rules.specs.Register.{dueBy}
+use Rattle.rules.specs.Pinned.Register.{dueBy}
 use borrow.Author.Needs.{needs}
 use Rattle.point_effects.proofs.events.due_by.Statement.{statement}
 use Rattle.point_effects.proofs.events.due_by.Tie as tie

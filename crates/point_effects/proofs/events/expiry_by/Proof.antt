@@ -1,6 +1,6 @@
 -- What ends a supply kind by a day, kind by kind.
 use borrow.Author.Tests.{le-leb, lt-leb}
-use Rattle.rules.specs.Register.{expiryBy}
+use Rattle.rules.specs.Pinned.Register.{expiryBy}
 use borrow.Author.Needs.{needs}
 use Rattle.point_effects.proofs.events.expiry_by.Statement.{statement}
 use Rattle.point_effects.proofs.events.expiry_by.Tie as tie

@@ -1,5 +1,5 @@
 -- The point after an event, event by event.
-use Rattle.rules.specs.Register.{happened}
+use Rattle.rules.specs.Pinned.Register.{happened}
 use borrow.Author.Needs.{needs}
 use Rattle.point_effects.proofs.events.happen.Statement.{statement}
 use Rattle.point_effects.proofs.events.happen.Tie as tie

@@ -1,5 +1,5 @@
 -- The next event is what is due first, happened.
-use Rattle.rules.specs.Register.{nextEvent}
+use Rattle.rules.specs.Pinned.Register.{nextEvent}
 use borrow.Author.Needs.{needs}
 use Rattle.point_effects.proofs.events.next_event.Statement.{statement}
 use Rattle.point_effects.proofs.events.next_event.Tie as tie

@@ -2,7 +2,7 @@
 use mathlib.Core.Path.{sym, _∙_}
 use native.Mathlib.Omega.{arith}
 use borrow.Author.Tests.{not-true, not-false}
-use Rattle.rules.specs.Register.{booked}
+use Rattle.rules.specs.Pinned.Register.{booked}
 use Rattle.point_volumes.specs.Between.{bookedIfFair}
 use Rattle.point_volumes.proofs.Fairness.{fair}
 use borrow.Author.Needs.{needs}

@@ -3,7 +3,7 @@ use mathlib.Core.Path.{_≡_, refl, sym, _∙_, ap}
 use Prim.Native.Nat.{ℕ, _≤_}
 use native.Mathlib.Omega.{arith}
 use Rattle.rules.specs.Volumes.{given}
-use Rattle.rules.specs.Register.{bookedSlots}
+use Rattle.rules.specs.Pinned.Register.{bookedSlots}
 use Rattle.point_volumes.proofs.Slots.{slots-last, slots-on, slots-none}
 use borrow.Author.Needs.{needs}
 use Rattle.point_volumes.proofs.booking.book_slots.Statement.{statement}

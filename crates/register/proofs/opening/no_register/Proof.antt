@@ -1,5 +1,5 @@
 -- What stands where no register is open, field by field.
-use Rattle.register.specs.Opens.{noRegister}
+use Rattle.register.specs.Pinned.Opens.{noRegister}
 use borrow.Author.Needs.{needs}
 use Rattle.register.proofs.opening.no_register.Statement.{statement}
 use Rattle.register.proofs.opening.no_register.Tie as tie

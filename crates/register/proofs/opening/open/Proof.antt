@@ -2,8 +2,8 @@
 use native.Mathlib.Omega.{arith}
 use mathlib.Core.Path.{sym, _∙_, ap}
 use Rattle.rules.specs.Answers.{isAccepted}
-use Rattle.rules.specs.Register.{opened}
-use Rattle.register.specs.Opens.{openedOver}
+use Rattle.rules.specs.Pinned.Register.{opened}
+use Rattle.register.specs.Pinned.Opens.{openedOver}
 use Rattle.register.proofs.Opens.{opening-in-range}
 use borrow.Author.Needs.{needs}
 use Rattle.register.proofs.opening.open.Statement.{statement}

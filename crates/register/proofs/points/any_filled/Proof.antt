@@ -5,8 +5,8 @@ use Prim.Native.Nat.{ℕ, _≤_, _-_, _+_}
 use native.Mathlib.Omega.{arith}
 use Rattle.rules.specs.declared.{Settings.Settings}
 use Rattle.rules.specs.Rejections.{anyPoint}
-use Rattle.rules.specs.Register.{pointAt}
-use Rattle.register.specs.Calls.{failureFills}
+use Rattle.rules.specs.Pinned.Register.{pointAt}
+use Rattle.register.specs.Between.Calls.{failureFills}
 use Rattle.register.proofs.Search.{point-next, any-found, any-passed, any-none}
 use borrow.Author.Needs.{needs}
 use Rattle.register.proofs.points.any_filled.Statement.{statement}

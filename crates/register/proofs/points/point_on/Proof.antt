@@ -1,7 +1,7 @@
 -- Point p as a call finds it: blank off 1 to 32, else caught up where the day is new.
 use native.Mathlib.Omega.{arith}
 use borrow.Author.Tests.{lt-ltb, le-ltb}
-use Rattle.register.specs.Calls.{pointOn}
+use Rattle.register.specs.Between.Calls.{pointOn}
 use Rattle.register.proofs.Advanced.{advanced-off, advanced-same, advanced-new, point-caughtUp}
 use borrow.Author.Needs.{needs}
 use Rattle.register.proofs.points.point_on.Statement.{statement}

@@ -8,7 +8,7 @@ use Rattle.dates.specs.Dates.{lastDay}
 use Rattle.rules.specs.declared.{Fields.Fields, Settings.Settings, Supply.Supply, SupplyKind.SupplyKind, Pending.Pending}
 use Rattle.rules.specs.declared.{Due.Due, View.View}
 use Rattle.rules.specs.Fields.{supply, withSupply}
-use Rattle.rules.specs.Register.{dueBy}
+use Rattle.rules.specs.Pinned.Register.{dueBy}
 use Rattle.input_quiet.specs.declared.{seen.Seen.Seen}
 
 -- The first day past the calendar: nothing falls due on it.

@@ -4,7 +4,7 @@ use mathlib.Core.Bool.{Bool, true, cond, not, _&&_}
 use Rattle.rules.specs.declared.{Register.Register, Answer.Answer}
 use Rattle.rules.specs.Answers.{isAccepted}
 use Rattle.rules.specs.Rejections.{openingAnswer}
-use Rattle.rules.specs.Register.{applied, opened}
+use Rattle.rules.specs.Pinned.Register.{applied, opened}
 use Rattle.line_messages.specs.declared.{Message.Message}
 use Rattle.input_desk.specs.declared.{Desk.Desk}
 

@@ -6,7 +6,7 @@ use Rattle.rules.specs.declared.{Fields.Fields, Period.Period, Settings.Setting
 use Rattle.input_lines.specs.declared.{Begun.Begun}
 use Rattle.input_lines.specs.Between.Begun.{begunOf}
 use Rattle.input_pieces.specs.declared.{Session.Session, pieces.Answered.Answered}
-use Rattle.input_pieces.specs.Session.{runFrom, RunTo}
+use Rattle.input_pieces.specs.Pinned.Session.{runFrom, RunTo}
 
 -- A session of its parts.
 abbrev pub session : Bool → Settings → ℕ → List Bool → List Fields → List ℕ → List Period → Begun → Session

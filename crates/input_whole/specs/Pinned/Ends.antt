@@ -8,14 +8,14 @@ use lib.ListN.{length}
 use Rattle.line_text.specs.Between.Appending.{put}
 use Rattle.input_lines.specs.Between.Begun.{begunOf}
 use Rattle.input_desk.specs.declared.{Desk.Desk}
-use Rattle.input_desk.specs.Desk.{desk}
-use Rattle.register.specs.Opens.{noRegister}
+use Rattle.input_desk.specs.Pinned.Desk.{desk}
+use Rattle.register.specs.Pinned.Opens.{noRegister}
 use Rattle.line_listing.specs.declared.{Listed.Listed}
 use Rattle.line_listing.specs.Pinned.Pieces
-use Rattle.line_listing.specs.Listing.{listing}
+use Rattle.line_listing.specs.Pinned.Listing.{listing}
 use Rattle.line_listing.specs.Pinned.Pieces.{piece}
 use Rattle.input_pieces.specs.declared.{Session.Session}
-use Rattle.input_pieces.specs.Session.{deskOf}
+use Rattle.input_pieces.specs.Pinned.Session.{deskOf}
 
 -- Before any input: the register of a desk that is not ready is not looked at, and no line has begun.
 unfoldable pub startDesk : Desk

@@ -7,7 +7,7 @@ use lib.Dec.{leb, ltb}
 use lib.ListN.{getD}
 use Rattle.rules.specs.declared.{Period.Period, History.History, Register.Register}
 use Rattle.rules.specs.Rejections.{notPoint, outside}
-use Rattle.rules.specs.Register.{noPeriod, used, pointAt}
+use Rattle.rules.specs.Pinned.Register.{noPeriod, used, pointAt}
 use Rattle.questions.specs.declared.{HolderAnswer.HolderAnswer, PeriodAnswer.PeriodAnswer}
 use Rattle.questions.specs.declared.{AdvanceAnswer.AdvanceAnswer}
 use Rattle.questions.specs.declared.HolderAnswer.the-variants as holder

@@ -6,7 +6,7 @@ use Rattle.dates.specs.Dates.{lastDay}
 use Rattle.rules.specs.declared.{Register.Register, Opening.Opening, Outcome.Outcome}
 use Rattle.rules.specs.Answers.{isAccepted}
 use Rattle.rules.specs.Rejections.{openingAnswer}
-use Rattle.rules.specs.Register.{blankPoint, register, outcome, opened}
+use Rattle.rules.specs.Pinned.Register.{blankPoint, register, outcome, opened}
 
 -- "A refused opening opens no register": the register stays as it came.
 unfoldable pub openedOver : Register → Opening → Outcome

@@ -6,7 +6,7 @@ use mathlib.Core.Bool.{Bool}
 use mathlib.Core.List.{List, _++_}
 use lib.ListN.{length, take}
 use Rattle.rules.specs.declared.{Fields.Fields, Period.Period, Register.Register, Settings.Settings}
-use Rattle.rules.specs.Register.{register}
+use Rattle.rules.specs.Pinned.Register.{register}
 use Rattle.line_text.specs.Between.Appending.{put}
 use Rattle.line_messages.specs.declared.{LineMessage.LineMessage}
 use Rattle.line_messages.specs.Between.Values.{lineMessage}
@@ -18,8 +18,8 @@ use Rattle.input_lines.specs.declared.{Begun.Begun}
 use Rattle.input_lines.specs.Between.Begun.{capped, kept, begunOf}
 use Rattle.input_lines.specs.Pinned.Runs.{Run, run}
 use Rattle.input_desk.specs.declared.{Desk.Desk}
-use Rattle.input_desk.specs.Desk.{desk, answerOf, deskAfter}
-use Rattle.input_tables.specs.Tables.{pointsOf}
+use Rattle.input_desk.specs.Pinned.Desk.{desk, answerOf, deskAfter}
+use Rattle.input_tables.specs.Between.Tables.{pointsOf}
 use Rattle.input_pieces.specs.declared.{Session.Session, Fed.Fed}
 
 -- The register whose points stand in tables, and the desk that a session stands for.

@@ -5,8 +5,8 @@ use mathlib.Core.Bool.{cond}
 use mathlib.Core.List.{List, [], _∷_, _++_}
 use lib.ListN.{getD}
 use Rattle.rules.specs.declared.{Period.Period, History.History, Point.Point, Register.Register}
-use Rattle.rules.specs.Register.{noPeriod, used}
-use Rattle.questions.specs.Questions.{sumOf}
+use Rattle.rules.specs.Pinned.Register.{noPeriod, used}
+use Rattle.questions.specs.Pinned.Questions.{sumOf}
 use Rattle.line_answers.specs.Answers.{periodLine, totalLine}
 
 -- "its periods (point; start; holder; volume)": of the first n, the oldest first.

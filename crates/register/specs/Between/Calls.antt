@@ -7,7 +7,7 @@ use Rattle.rules.specs.declared.{Point.Point, Register.Register, Settings.Setti
 use Rattle.rules.specs.declared.{Action.Action, PointAction.PointAction}
 use Rattle.rules.specs.Effects.{failed}
 use Rattle.rules.specs.Rejections.{notPoint, touches, isFull}
-use Rattle.rules.specs.Register.{blankPoint, pointAt, advanced, view, on}
+use Rattle.rules.specs.Pinned.Register.{blankPoint, pointAt, advanced, view, on}
 use Rattle.point_effects.specs.Between.{noted, failedBy}
 
 abbrev pub callAt : ℕ → ℕ → PointAction → Call

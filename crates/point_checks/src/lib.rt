@@ -88,10 +88,10 @@ pub fn is_pending(q: Pending) -> bool
 pub fn is_by(s: u64, q: Pending) -> bool
     ensures { λ r. ⌜ r ≡ isBy s q ⌝ }
 {
-    match q {
-        Pending::Nothing => false,
-        Pending::Request(by, _) => by as u64 == s,
-    }
+    let Pending::Request(by, _) = q else {
+        return false;
+    };
+    by as u64 == s
 }
 
 // 28: the index is no index of the wheels, or it and the zero mark do not go with the last one.

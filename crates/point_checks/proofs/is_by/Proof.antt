@@ -4,5 +4,5 @@ use Rattle.point_checks.proofs.is_by.Statement.{statement}
 use Rattle.point_checks.proofs.is_by.Tie as tie
 
 pub is-by-spec : {M : Type 1} → statement M
-is-by-spec = tie.close (tie.spec (λ c. search needs) (λ c. search needs) (λ c. search needs) (λ c. search needs)
-    (λ c. rw (c .before .q .given .1)))
+is-by-spec =
+    tie.close (tie.spec (λ c. search needs) (λ c. search needs) (λ c. search needs) (λ c. search needs) (λ c. rw (c .before .q .given .1)))

@@ -1,14 +1,17 @@
 -- What a line leaves behind: refused, stored in the tables, or done on the whole register.
-use mathlib.Core.Path.{_≡_, sym, ap, _∙_}
+use mathlib.Core.Path.{_≡_, refl, sym, ap, _∙_}
 use mathlib.Core.Bool.{Bool, true, false}
 use mathlib.Core.List.{List}
 use Prim.Native.Nat.{ℕ, _+_, _-_, _*_, _≤_, _<_, min}
 use native.Mathlib.Omega.{arith}
+use native.Mathlib.Nat.{le-trans}
 use lib.ListN.{getD, set}
+use lib.Seq.{set-getD}
 use Rattle.rules.specs.declared.{Answer.Answer, Fields.Fields, Period.Period, Register.Register, Settings.Settings, Span.Span}
 use Rattle.rules.specs.Answers.{isAccepted}
 use Rattle.rules.specs.Fields.{blank}
-use Rattle.rules.specs.Pinned.Register.{noPeriod}
+use Rattle.rules.specs.declared.{Reading.Reading}
+use Rattle.rules.specs.Pinned.Register.{period, noPeriod}
 use Rattle.point_effects.specs.declared.{Ruling.Ruling}
 use Rattle.line_messages.specs.declared.{Message.Message}
 use Rattle.input_tables.specs.declared.{Tables.Tables}
@@ -17,13 +20,14 @@ use Rattle.input_desk.specs.declared.{Desk.Desk}
 use Rattle.input_desk.specs.Pinned.Desk.{desk, answerOf, deskAfter}
 use Rattle.input_desk.proofs.Openings.{refused-after}
 use Rattle.input_quiet.specs.Between.Quiet.{dueDay, firstDue}
-use Rattle.input_quiet.proofs.Dues.{first-set}
+use Rattle.input_quiet.proofs.Dues.{first-at, first-set}
 use Rattle.input_point.specs.declared.{answers.Said.Said, deeds.Deed.Deed, deeds.Entry.Entry}
 use Rattle.input_point.specs.Between.Answers.{placeOf, saidBy, newestStart, failureAnswer, settled}
 use Rattle.input_point.proofs.Settled.{answer-settled}
 use Rattle.input_pieces.specs.Pinned.Session.{registerIn}
 use Rattle.input_pieces.proofs.Turns.{Turned}
 use Rattle.input_point.specs.Between.Deeds.{deedOf}
+use Rattle.input_point.specs.Between.Daily.{read, reads, Stores}
 use Rattle.input_point.proofs.Stored.{isWhole, bookedBack, storedIn, deed-stored, slot-sized, back-sized, Within, deed-within}
 
 -- The answer a, and the tables after it.
@@ -142,3 +146,19 @@ module _ (z : State) where
 
           pub pass-next : (t : ℕ) → x ≡ Deed.Pass t → Next d m a (z .ready) (z .set) t (z .contracts) fs ns ss (z .quiet)
           pass-next t h = record { turned = record { answer = ha; after = rw h at (stored (rw h)) }; sized = sized; calm = calm }
+
+    -- a daily reading, stored by itself
+    pub daily-next : (t : ℕ) (now : Reading) (v : ℕ)
+        → Stores (z .ready) (z .day) (z .quiet) m (getD ns i 0) (getD fs i blank) (getD ss (24 * i + k) noPeriod) t now v
+        → Next d m Answer.Accepted (z .ready) (z .set) t (z .contracts) (set fs i (read (getD fs i blank) now)) ns
+        (set ss (24 * i + k) (period (getD ss (24 * i + k) noPeriod .start) (getD ss (24 * i + k) noPeriod .holder) v)) (z .quiet)
+    daily-next t now v h =
+        let y : Said = Said.Ruled (reads (h .span) (read (getD fs i blank) now)) in
+        let hy : y ≡ saidHere m i k = sym (h .said (z .set) (z .contracts)) in
+        let due : ℕ = dueDay (getD fs i blank .supply) in
+        let w = slot-next Answer.Accepted (sym (answer-is y hy)) refl y hy _ (sym (h .deed)) _ refl due (min (z .quiet) due) refl refl in
+        record {
+          turned = rw (← hk, set-getD ns i 0) at (w .turned);
+          sized = rw (← hk, set-getD ns i 0) at (w .sized);
+          calm = first-set fs i (read (getD fs i blank) now) (z .quiet) calm (le-trans calm (first-at fs i (omega (arith, lt, sized .fields))));
+        }

@@ -6,9 +6,11 @@ use input_desk::after;
 use input_lines::Begun;
 use input_lines::KEPT;
 use input_lines::append;
+use input_point::Daily;
 use input_point::Deed;
 use input_point::Said;
 use input_point::answer_of;
+use input_point::daily_of;
 use input_point::deed_of;
 use input_point::failure_answer;
 use input_point::place_of;
@@ -25,6 +27,7 @@ use line_messages::read_line;
 use line_next::next_line;
 use point_checks::is_accepted;
 use point_periods::newest_place;
+use rules::Answer;
 use rules::Fields;
 use rules::Period;
 use rules::Register;
@@ -187,6 +190,20 @@ pub(crate) fn answer_lines(
         let k = newest_place(n);
         let f = fields[i];
         let q = slots[24 * i + k];
+        let daily = daily_of(ready, day, quiet, m, n, f, q);
+        if let Daily::Read(t, now, v) = daily {
+            let mut g = f;
+            g.reading = now;
+            fields[i] = g;
+            slots[24 * i + k] = Period {
+                start: q.start,
+                holder: q.holder,
+                volume: v,
+            };
+            day = t;
+            written = put_answer(out, written, kind, Answer::Accepted);
+            continue;
+        }
         let said = answer_of(set, day, contracts, ready, m, f, n, q.start);
         let answer = match said {
             Said::Known(a) => a,

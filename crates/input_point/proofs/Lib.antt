@@ -1,3 +1,4 @@
 pub mod Places
 pub mod Settled
 pub mod Stored
+pub mod DailyRules

@@ -47,7 +47,7 @@ fn starts_on(n: usize, start: u32, day: u32) -> bool
 }
 
 // The days from a day on all lie in the newest of n periods.
-fn lies_in(n: usize, start: u32, from: u32) -> bool
+pub(crate) fn lies_in(n: usize, start: u32, from: u32) -> bool
     ensures { λ r. ⌜ r ≡ (ltb 0 (min n 24) && leb start from) ⌝ }
 {
     if n == 0 {

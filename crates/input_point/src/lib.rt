@@ -1,11 +1,14 @@
 // What a message is answered, and what it changes where nothing falls due by its day: told from the tables, at the
 // cost of the point that it names.
 mod answers;
+mod daily;
 mod deeds;
 
 pub use answers::Said;
 pub use answers::answer_of;
 pub use answers::failure_answer;
+pub use daily::Daily;
+pub use daily::daily_of;
 pub use deeds::Deed;
 pub use deeds::Entry;
 pub use deeds::deed_of;

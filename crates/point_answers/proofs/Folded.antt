@@ -1,6 +1,6 @@
 -- Rows asked one after the other give the first that applies.
-use mathlib.Core.Path.{_≡_, refl, ap}
-use mathlib.Core.Bool.{Bool, true, false, cond, _&&_, _||_}
+use mathlib.Core.Path.{_≡_, refl, sym, _∙_, ap}
+use mathlib.Core.Bool.{Bool, true, false, cond, _&&_, _||_, false≢true}
 use mathlib.Core.List.{List, [], _∷_, _++_}
 use Prim.Native.Nat.{ℕ, min}
 use native.Mathlib.Omega.{arith}
@@ -86,3 +86,16 @@ last-row (q ∷ rs) r a ok all = go (q .applies) (isAccepted (q .gives)) refl al
     go false false e h rest = rest h
     go true true e h rest = cc
     go false true e h rest = cc
+
+-- Where rows that refuse let a call through, its answer is the one that they were handed.
+pub kept-first : (rs : List Row) (a : Answer) → allRefuse rs ≡ true → isAccepted (firstOf rs a) ≡ true → firstOf rs a ≡ a
+unfolding firstOf allRefuse
+kept-first [] a all ok = refl
+kept-first (r ∷ rs) a all ok = go (r .applies) (isAccepted (r .gives)) refl all ok (kept-first rs a)
+  where
+    go : (b x : Bool) → isAccepted (r .gives) ≡ x → cond x false (allRefuse rs) ≡ true
+        → isAccepted (cond b (r .gives) (firstOf rs a)) ≡ true
+        → (allRefuse rs ≡ true → isAccepted (firstOf rs a) ≡ true → firstOf rs a ≡ a) → cond b (r .gives) (firstOf rs a) ≡ a
+    go true false e h k f = absurd (false≢true (sym e ∙ k))
+    go false false e h k f = f h k
+    go b true e h k f = absurd (false≢true h)

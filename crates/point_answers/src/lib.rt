@@ -13,7 +13,7 @@ use rows::enrol;
 use rows::into_service;
 use rows::meter_change;
 use rows::out_of_service;
-use rows::reading;
+pub use rows::reading_answer;
 use rows::request;
 use rows::suspend;
 use rules::Answer;
@@ -95,7 +95,7 @@ pub fn answer_at(
             zero,
         } => {
             let f = v.fields;
-            reading(day, today, p, d, index, zero, f)
+            reading_answer(day, today, p, d, index, zero, f)
         }
         PointAction::MeterChange {
             index,

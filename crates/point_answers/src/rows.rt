@@ -186,7 +186,7 @@ pub(crate) fn cancel(x: Situation, s: u64) -> Answer
 
 // A reading's rows look at the point's fields alone. Most lines are readings, so these are plain tests, which cost
 // less.
-pub(crate) fn reading(day: u32, today: u64, p: u64, d: u64, x: u64, z: u64, f: Fields) -> Answer
+pub fn reading_answer(day: u32, today: u64, p: u64, d: u64, x: u64, z: u64, f: Fields) -> Answer
     ensures { λ r. ⌜ ((S : Settings) (u : List Bool) (v : View) → v .fields ≡ f
         → r ≡ answerAt S day u today p (PointAction.Reading d x z) v) ⌝ }
 {

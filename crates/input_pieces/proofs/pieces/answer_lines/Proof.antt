@@ -15,7 +15,7 @@ use Rattle.input_quiet.specs.Between.Quiet.{firstDue}
 use Rattle.input_pieces.specs.Pinned.Session.{registerIn}
 use Rattle.input_pieces.proofs.Turns.{Going, going-start, ends, line-read, line-turn, said-is}
 use Rattle.input_pieces.proofs.Leaves.{State, Heard, Next, d, saidHere, place-within, supplier-within, known-heard, ruled-heard, failing-heard}
-use Rattle.input_pieces.proofs.Leaves.{refused-next, whole-next, slot-next, back-next, sign-next, pass-next}
+use Rattle.input_pieces.proofs.Leaves.{daily-next, refused-next, whole-next, slot-next, back-next, sign-next, pass-next}
 use borrow.Author.Needs.{needs}
 use Rattle.input_pieces.proofs.pieces.answer_lines.Statement.{statement}
 use Rattle.input_pieces.proofs.pieces.answer_lines.Tie as tie
@@ -54,24 +54,59 @@ part-whole-message-start c = omega (arith, next-right _ _ _ _ (c .before .before
 add-at : tie.Need-add-at Inv-loop μ-loop
 add-at c = omega (arith, c .before .before .before .before .if1 .left, c .before .before .before .before .before .before .before .before .before .before .before .before .good)
 
-add-slots : tie.Need-add-slots Inv-loop μ-loop
-add-slots c = omega (arith, c .before .before .before .before .before .before .before .before .before .before .before .before .before .place-of .ensures .1, place-within _ _ _ _ _ _ _ (c .before .before .before .deed .given .1) (c .before .before .before .before .before .deed-of .ensures))
+add-slots-2 : tie.Need-add-slots-2 Inv-loop μ-loop
+add-slots-2 c = omega (arith, c .before .before .before .before .before .before .before .before .before .before .before .before .before .before .before .before .place-of .ensures .1, place-within _ _ _ _ _ _ _ (c .before .before .before .deed .given .1) (c .before .before .before .before .before .deed-of .ensures))
 
-mul-slots-2 : tie.Need-mul-slots-2 Inv-loop μ-loop
-mul-slots-2 c = omega (arith, c .before .before .before .before .before .before .before .before .before .before .before .before .before .place-of .ensures .1, place-within _ _ _ _ _ _ _ (c .before .before .before .deed .given .1) (c .before .before .before .before .before .deed-of .ensures))
+mul-slots-4 : tie.Need-mul-slots-4 Inv-loop μ-loop
+mul-slots-4 c = omega (arith, c .before .before .before .before .before .before .before .before .before .before .before .before .before .before .before .before .place-of .ensures .1, place-within _ _ _ _ _ _ _ (c .before .before .before .deed .given .1) (c .before .before .before .before .before .deed-of .ensures))
 
-array-set-from-slots : tie.Need-array-set-from-slots Inv-loop μ-loop
-array-set-from-slots c = omega (arith, c .before .before .before .before .before .before .before .before .before .before .before .before .before .place-of .ensures .1, place-within _ _ _ _ _ _ _ (c .before .before .before .deed .given .1) (c .before .before .before .before .before .deed-of .ensures))
+array-set-from-slots-2 : tie.Need-array-set-from-slots-2 Inv-loop μ-loop
+array-set-from-slots-2 c = omega (arith, c .before .before .before .before .before .before .before .before .before .before .before .before .before .before .before .before .place-of .ensures .1, place-within _ _ _ _ _ _ _ (c .before .before .before .deed .given .1) (c .before .before .before .before .before .deed-of .ensures))
 
 loop-less : tie.Need-loop-less Inv-loop μ-loop
-loop-less c = omega (arith, next-right _ _ _ _ (c .before .before .before .before .before .before .before .before .before .before .before .before .before .before .before .before .before .next-line .ensures) (c .before .before .before .before .before .before .before .before .before .before .before .before .before .before .before .before .before .before .before .loop .inv .1) .end, c .before .before .before .before .before .before .before .before .before .before .before .before .before .before .before .before .if1 .left)
+loop-less c =
+    let l = c .before .before .before .before .before .before .before .before .before .before .before .before .before .before .before .before in
+    omega (arith, next-right _ _ _ _ (l .before .next-line .ensures) (l .before .before .before .loop .inv .1) .end, l .if1 .left)
 
 loop-again : tie.Need-loop-again Inv-loop μ-loop
-loop-again c = let j = c .before .before .before .before in let said = j .before .before .before in
-    let k = said .before .before .before in let m = k .before .before .before in
+loop-again c = let told = c .before .before .before .before .before in let o = told .before .before in
+    let k = o .before .before .before in let m = k .before .before .before in
     let line = m .before .before .before .before in let l = line .before .before .loop in
     let piece = line .before .before .before .before .before .before .before .args .piece .now in
-    let i = k .before .place-of in let heard = j .before .before .match in
+    let i = k .before .place-of in
+    let read = next-right _ _ _ _ (line .next-line .ensures) (l .inv .1) in let z : State =
+    record {
+      ready = l .ready;
+      set = l .set;
+      day = l .day;
+      contracts = l .contracts;
+      fields = l .fields;
+      counts = l .counts;
+      slots = l .slots;
+      quiet = l .quiet;
+    }
+    in
+    let n = m .whole-message .result .message in let p = k .newest-place .result in
+    let next = daily-next z (l .inv .2) (l .inv .3) n (i .result) (i .ensures .0) (i .ensures .1) p (k .newest-place .ensures) _ _ _
+    (rw (told .daily .given .1) at (o .daily-of .ensures)) in
+    let s = said-is (m .whole-message .result) _ (m .whole-message .ensures
+    (line-read piece (l .at) (line .next-line .result .end) (line .next-line .result .read) (read .end) (read .read))) in (
+      line-turn (l .inv .0) (line .next-line .result .end) (read .end) (m .before .before .before .if1 .left) n (s .0) (next .turned)
+          (rw (← (s .1)) (c .before .before .put-answer .ensures)),
+      read .known,
+      next .sized,
+      next .calm,
+    )
+
+loop-less-2 : tie.Need-loop-less-2 Inv-loop μ-loop
+loop-less-2 c = omega (arith, next-right _ _ _ _ (c .before .before .before .before .before .before .before .before .before .before .before .before .before .before .before .before .before .before .before .before .next-line .ensures) (c .before .before .before .before .before .before .before .before .before .before .before .before .before .before .before .before .before .before .before .before .before .before .loop .inv .1) .end, c .before .before .before .before .before .before .before .before .before .before .before .before .before .before .before .before .before .before .before .if1 .left)
+
+loop-again-2 : tie.Need-loop-again-2 Inv-loop μ-loop
+loop-again-2 c = let j = c .before .before .before .before in let said = j .before .before .before in
+    let k = said .before .before .before .before .before .before in let m = k .before .before .before in
+    let line = m .before .before .before .before in let l = line .before .before .loop in
+    let piece = line .before .before .before .before .before .before .before .args .piece .now in
+    let i = k .before .place-of in let heard = j .before .before .match2 in
     let read = next-right _ _ _ _ (line .next-line .ensures) (l .inv .1) in let z : State =
     record {
       ready = l .ready;
@@ -112,7 +147,7 @@ loop-again c = let j = c .before .before .before .before in let said = j .before
     let s = said-is (m .whole-message .result) _ (m .whole-message .ensures
     (line-read piece (l .at) (line .next-line .result .end) (line .next-line .result .read) (read .end) (read .read))) in (
       line-turn (l .inv .0) (line .next-line .result .end) (read .end) (m .before .before .before .if1 .left) n (s .0) (next .turned)
-          (rw (← (s .1)) (c .before .before .put-answer .ensures)),
+          (rw (← (s .1)) (c .before .before .put-answer2 .ensures)),
       read .known,
       next .sized,
       next .calm,
@@ -125,17 +160,26 @@ returns-2 c = let l = c .before .before .before in
     ends (l .loop .inv .0) (omega (arith, c .before .before .loop-test .left)) rest (c .at-end2 .ensures)
 
 pub answer-lines-spec : {M : Type 1} → statement M
-answer-lines-spec = tie.close (tie.spec Inv-loop μ-loop (λ c κs. search needs) (λ c κs. search needs) loop-holds
+answer-lines-spec =
+    tie.close (tie.spec Inv-loop μ-loop (λ c κs. search needs) (λ c κs. search needs) loop-holds
     (λ c κs. search needs) (λ c. search needs) (λ c. search needs) (λ c. search needs) (λ c κs. search needs)
     (λ c. search needs) returns sub-whole-message part-whole-message-start (λ c. search needs) (λ c κs. search needs)
     add-at (λ c κs. search needs) (λ c. search needs) (λ c. search needs) (λ c κs. search needs) (λ c. search needs)
     (λ c. search needs) (λ c. search needs) (λ c. search needs) (λ c. search needs) (λ c. search needs)
-    (λ c κs. search needs) (λ c. search needs) (λ c. search needs) (λ c. search needs) (λ c κs. search needs)
-    (λ c κs. search needs) (λ c κs. search needs) (λ c. search needs) (λ c. search needs) (λ c. search needs)
-    (λ c. search needs) (λ c. search needs) (λ c. search needs) add-slots mul-slots-2 array-set-from-slots
-    (λ c κs. search needs) (λ c κs. search needs) (λ c. search needs) (λ c. search needs) (λ c. search needs)
+    (λ c κs. search needs) (λ c. search needs) (λ c. search needs) (λ c. search needs) (λ c. search needs)
+    (λ c. search needs) (λ c. search needs) (λ c. search needs) (λ c κs. search needs) loop-less loop-again
+    (λ c. search needs) (λ c κs. search needs) (λ c. search needs) (λ c. search needs) (λ c. search needs)
     (λ c κs. search needs) (λ c κs. search needs) (λ c κs. search needs) (λ c. search needs)
+    (λ c. omega (arith, c .before .before .before .before .before .before .before .before .before .before .before .before .before .before .before .before .place-of .ensures .1))
+    (λ c. omega (arith, c .before .before .before .before .before .before .before .before .before .before .before .before .before .before .before .before .place-of .ensures .1))
+    (λ c. omega (arith, c .before .before .before .before .before .before .before .before .before .before .before .before .before .before .before .before .place-of .ensures .1))
+    (λ c. omega (arith, c .before .before .before .before .before .before .before .before .before .before .before .before .before .before .before .before .place-of .ensures .1))
+    (λ c. omega (arith, c .before .before .before .before .before .before .before .before .before .before .before .before .before .before .before .before .place-of .ensures .1))
+    add-slots-2 mul-slots-4 array-set-from-slots-2 (λ c κs. search needs) (λ c κs. search needs) (λ c. search needs)
+    (λ c. omega (arith, c .before .before .before .before .before .before .before .before .before .before .before .before .before .before .place-of .ensures .1))
+    (λ c. omega (arith, c .before .before .before .before .before .before .before .before .before .before .before .before .before .before .place-of .ensures .1))
+    (λ c κs. omega (arith, c .before .before .before .before .before .before .before .before .before .before .before .before .before .before .place-of .ensures .1)) (λ c κs. search needs) (λ c κs. search needs) (λ c. search needs)
     (λ c. supplier-within _ _ _ _ _ _ _ _ (c .before .deed3 .given .1) (c .before .before .before .deed-of .ensures))
     (λ c. search needs) (λ c. search needs) (λ c κs. search needs) (λ c κs. search needs) (λ c κs. search needs)
-    (λ c κs. search needs) (λ c κs. search needs) loop-less loop-again (λ c. search needs) (λ c. search needs)
+    (λ c κs. search needs) (λ c κs. search needs) loop-less-2 loop-again-2 (λ c. search needs) (λ c. search needs)
     (λ c. search needs) (λ c κs. search needs) (λ c. search needs) returns-2)

@@ -4,8 +4,8 @@ use Rattle.rules.specs.Effects.{effectOf}
 use Rattle.rules.specs.Rejections.{firstOf, rowsAt}
 use Rattle.point_answers.specs.Between.{answerAt}
 use borrow.Author.Needs.{needs}
-use Rattle.point_answers.proofs.rows.reading.Statement.{statement}
-use Rattle.point_answers.proofs.rows.reading.Tie as tie
+use Rattle.point_answers.proofs.rows.reading_answer.Statement.{statement}
+use Rattle.point_answers.proofs.rows.reading_answer.Tie as tie
 
 returns : tie.Need-returns
 unfolding answerAt rowsAt firstOf
@@ -30,6 +30,6 @@ returns-4 c = λ S u v e. let o = c .before .before in let p = o .before .before
     (rw (← (o .before .or .ensures), o .if2 .left, le-ltb _ _ (c .before .if3 .left))
     (c .dated-reading .ensures S (z .before .before .args .day) u v e))
 
-pub reading-spec : {M : Type 1} → statement M
-reading-spec = tie.close (tie.spec (λ c κs. search needs) returns (λ c κs. search needs) (λ c κs. search needs)
+pub reading-answer-spec : {M : Type 1} → statement M
+reading-answer-spec = tie.close (tie.spec (λ c κs. search needs) returns (λ c κs. search needs) (λ c κs. search needs)
     (λ c κs. search needs) returns-2 returns-3 (λ c κs. search needs) returns-4)

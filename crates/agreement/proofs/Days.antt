@@ -11,14 +11,14 @@ use borrow.Author.Tests.{eqb-true}
 use Rattle.dates.specs.Dates.{lastDay}
 use Rattle.rules.specs.declared.{Fields.Fields, Point.Point, Register.Register, Settings.Settings, Span.Span}
 use Rattle.rules.specs.declared.{Effect.Effect}
-use Rattle.rules.specs.Effects.{spansIn, event}
+use Rattle.rules.specs.Effects.{event}
 use Rattle.rules.specs.Volumes.{volume}
 use Rattle.rules.specs.Pinned.Register.{entered, catchUp, register, pointAt, noPoint, advanced}
 use Rattle.rules.specs.DayBook.{cell, Page, Book, written, newDay, goOn, upToDay, look}
 use Rattle.agreement.proofs.Tally.{live-runs, dawn}
 use Rattle.agreement.specs.Sound.{Ahead}
 use Rattle.agreement.proofs.Jump.{onDay, daily, daily-catchUp}
-use Rattle.agreement.proofs.Good.{Fine, event-good, event-unread}
+use Rattle.agreement.proofs.Good.{Fine, event-good}
 use Rattle.agreement.proofs.Tied.{Told, Tied, effect-tied}
 
 module _ (S : Settings) (B : 0 < S .b) where
@@ -44,10 +44,10 @@ module _ (S : Settings) (B : 0 < S .b) where
         ahead = h .fine .ahead;
         fit = h .fine .fit;
         blank = h .fine .blank;
-      } in let e : Effect = event S (suc t) f in let q : spansIn e ≡ [] = event-unread S (suc t) f in rw (← (x .same))
+      } in let e : Effect = event S (suc t) f in let w = event-good S B t (look new) fine in rw (← (x .same))
       (subst₂ (λ (x : List Span) (y : List ℕ). Tied (suc t) x y (written e (new .cells)) (entered (suc t) e (r .history)))
-      (ap (λ (x : List Span). l ++ x) q ∙ append-nil l) (append-nil n)
-      (effect-tied (suc t) l n new r told e [] (rw q (event-good S B t (look new) fine)) cal))
+      (ap (λ (x : List Span). l ++ x) (w .0) ∙ append-nil l) (append-nil n)
+      (effect-tied (suc t) l n new r told e [] (w .1) cal))
 
   -- n days of a page, one at a time
   unfoldable pages : ℕ → ℕ → Page → Page

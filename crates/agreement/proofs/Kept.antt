@@ -90,7 +90,7 @@ module _ (S : Settings) (A : 0 < S .a) (B : 0 < S .b) (day : ℕ) (u : List Bool
     asks : v .fields .enrolled ≡ true → (q : Pending) → PendingAhead t q → (e : Effect) → fieldsOf e ≡ withPending (v .fields) q
         → names e ≡ false → v .marks + due (withPending (v .fields) q .supply) ≤ 24 → Good t v e [] []
     asks y q a e fs n f =
-        unread t v h e [] (rw fs refl) (rw fs refl) (rw fs (record { kind = h .ahead .kind; pending = a })) (rw (fs, n) refl) (rw (fs, n) (refl, refl))
+        unread t v (h .past) (h .wheels) e [] (rw fs refl) (rw fs refl) (rw fs (record { kind = h .ahead .kind; pending = a })) (rw (fs, n) refl) (rw (fs, n) (refl, refl))
         (rw (fs, n) f) (rw fs (not-blank y))
 
     -- a reading on day d
@@ -136,11 +136,11 @@ module _ (S : Settings) (A : 0 < S .a) (B : 0 < S .b) (day : ℕ) (u : List Bool
         }
     at-good p (PointAction.IntoService s k) _ ok =
         let b = pass _ _ _ _ (pass _ _ _ _ (dated day t _ _ (pass _ _ _ _ ok .1) .rest) .1) in
-        naming t v h (is-enrolled p v (b .0)) _ refl refl refl (record { kind = tt; pending = h .ahead .pending })
+        naming t v (h .past) (h .wheels) (is-enrolled p v (b .0)) _ refl refl refl (record { kind = tt; pending = h .ahead .pending })
         (not-full (effectOf S t (PointAction.IntoService s k) (v .fields)) (pass _ _ _ _ (pass _ _ _ _ (b .1) .1) .0))
     at-good p (PointAction.DefaultSupply k) _ ok =
         let b = pass _ _ _ _ (dated-also day t _ _ _ (pass _ _ _ _ ok .1) .1 .rest) in
-        naming t v h (is-enrolled p v (b .0)) _ refl refl refl (record { kind = omega arith; pending = h .ahead .pending })
+        naming t v (h .past) (h .wheels) (is-enrolled p v (b .0)) _ refl refl refl (record { kind = omega arith; pending = h .ahead .pending })
         (not-full (effectOf S t (PointAction.DefaultSupply k) (v .fields)) (pass _ _ _ _ (pass _ _ _ _ (b .1) .1) .0))
     at-good p (PointAction.Request s k r) _ ok =
         let b = pass _ _ _ _ (pass _ _ _ _ (dated-also day t _ _ _ (pass _ _ _ _ ok .1) .1 .rest) .1) in
@@ -160,7 +160,7 @@ module _ (S : Settings) (A : 0 < S .a) (B : 0 < S .b) (day : ℕ) (u : List Bool
         (ltb-false 8 b (neither (ltb b 1) (ltb 8 b) (w .0) .1), ltb-false 3 a (neither (ltb a 0) (ltb 3 a) (w .1) .1))
         (l .0) (n .0) (i .0)
     at-good p PointAction.OutOfService _ ok = let b = pass _ _ _ _ (dated day t _ _ ok .rest) in
-        naming t v h (is-enrolled p v (b .0)) _ refl refl refl (record { kind = tt; pending = tt })
+        naming t v (h .past) (h .wheels) (is-enrolled p v (b .0)) _ refl refl refl (record { kind = tt; pending = tt })
         (not-full (effectOf S t PointAction.OutOfService (v .fields)) (pass _ _ _ _ (pass _ _ _ _ (b .1) .1) .0))
     at-good p (PointAction.Suspend m) _ ok = unchanged t v h _ refl refl refl refl
 
@@ -184,12 +184,12 @@ module _ (S : Settings) (A : 0 < S .a) (B : 0 < S .b) (day : ℕ) (u : List Bool
             (Effect.Name (withSupply (v .fields) (supply (S .resort) (SupplyKind.LastResort (t + S .b)) (dropped s (v .fields .supply .pending)))))
             (Effect.Keep (withPending (v .fields) (dropped s (v .fields .supply .pending)))) in
             Good t v e (spansIn e) (enrolledBy t e)
-        go true e k = naming t v h (holder-enrolled s lo (eqb-true _ _ e))
+        go true e k = naming t v (h .past) (h .wheels) (holder-enrolled s lo (eqb-true _ _ e))
             (withSupply (v .fields) (supply (S .resort) (SupplyKind.LastResort (t + S .b)) (dropped s (v .fields .supply .pending)))) refl refl refl
             (record { kind = omega arith; pending = pending-dropped t s (v .fields .supply .pending) (h .ahead .pending) })
             (not-full (Effect.Name (withSupply (v .fields) (supply (S .resort) (SupplyKind.LastResort (t + S .b)) (dropped s (v .fields .supply .pending))))) k)
         go false e k =
-            unread t v h (Effect.Keep (withPending (v .fields) (dropped s (v .fields .supply .pending)))) [] refl refl
+            unread t v (h .past) (h .wheels) (Effect.Keep (withPending (v .fields) (dropped s (v .fields .supply .pending)))) [] refl refl
             (record { kind = h .ahead .kind; pending = pending-dropped t s (v .fields .supply .pending) (h .ahead .pending) }) refl (refl, refl)
             (omega (arith, h .fit, due-dropped s (v .fields .supply .pending)))
             (λ z. (h .blank z .0, ap (λ (x : Supply). supply (x .holder) (x .kind) (dropped s (x .pending))) (h .blank z .1)))

@@ -22,7 +22,7 @@ use Rattle.agreement.specs.Sound.{Rising, SoundPoint, Sound, SoundRegist
 use Rattle.agreement.proofs.Tally.{oldest, Desc, desc-up}
 use Rattle.agreement.proofs.Slots.{recent, listed, Sized, used-count}
 use Rattle.agreement.proofs.Cover.{total-read}
-use Rattle.agreement.proofs.Good.{Fine, Good, event-good, event-unread}
+use Rattle.agreement.proofs.Good.{Fine, Good, event-good}
 use Rattle.agreement.proofs.Jump.{onDay, daily, daily-catchUp}
 use Rattle.agreement.proofs.Days.{point-map}
 use Rattle.agreement.proofs.Kept.{enrolledBy, call-good}
@@ -105,7 +105,7 @@ effect-hale t g h e j k cal =
 module _ (S : Settings) (B : 0 < S .b) where
   day-hale : (t : ℕ) (g : Point) → Hale t g → suc t ≤ lastDay → Hale (suc t) (onDay S (suc t) g)
   day-hale t g h cal = let e : Effect = event S (suc t) (g .fields) in
-      let q : spansIn e ≡ [] = event-unread S (suc t) (g .fields) in let f = h .firm in
+      let f = h .firm in
       let before : Firm (suc t) (g .fields) (g .history) = record {
         sized = f .sized;
         falling = desc-up (listed (g .history)) (omega arith) (f .falling);
@@ -118,7 +118,7 @@ module _ (S : Settings) (B : 0 < S .b) where
         ahead = h .fine .ahead;
         fit = h .fine .fit;
         blank = h .fine .blank;
-      } in let k : Good (suc t) (view (suc t) g) e (spansIn e) [] = rw q (event-good S B t (view (suc t) g) seen) in
+      } in let k : Good (suc t) (view (suc t) g) e (spansIn e) [] = event-good S B t (view (suc t) g) seen .1 in
       record { firm = firm-after (suc t) g before e [] k cal; fine = fine-entered (suc t) g before e [] k cal }
 
   days-hale : (k t : ℕ) (g : Point) → Hale t g → t + k ≤ lastDay → Hale (t + k) (daily S k t g)

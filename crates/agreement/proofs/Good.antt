@@ -22,12 +22,15 @@ use Rattle.agreement.specs.Sound.{perDay, Ahead}
 abbrev pub Wheels : Meter → Type 0
 Wheels m = (m .before ≤ 8) × (m .after ≤ 3)
 
-pub record Fine (t : ℕ) (v : View) : Type 0 where
-  pub past : v .fields .reading .day ≤ t
-  pub wheels : Wheels (v .fields .meter)
-  pub ahead : Ahead t (v .fields .supply)
-  pub fit : v .marks + due (v .fields .supply) ≤ 24
-  pub blank : v .fields .enrolled ≡ false → (v .marks ≡ 0) × (v .fields .supply ≡ unsupplied)
+pub record FineAt (t : ℕ) (f : Fields) (marks : ℕ) : Type 0 where
+  pub past : f .reading .day ≤ t
+  pub wheels : Wheels (f .meter)
+  pub ahead : Ahead t (f .supply)
+  pub fit : marks + due (f .supply) ≤ 24
+  pub blank : f .enrolled ≡ false → (marks ≡ 0) × (f .supply ≡ unsupplied)
+
+abbrev pub Fine : ℕ → View → Type 0
+Fine t v = FineAt t (v .fields) (v .marks)
 
 -- A holder changes only where one is named.
 abbrev pub Keeps : Fields → Bool → Fields → Type 0

@@ -42,14 +42,20 @@ opened-agree o ok =
       points = λ p lo hi. rw (getD-replicate 32 (p - 1) blankPoint noPoint (omega arith)) (record {
         point = record {
           same = refl;
-          sized = record { slots = refl; some = omega arith };
+          firm = record {
+            sized = record { slots = refl; some = omega arith };
+            falling = tt;
+            most = omega arith;
+            none = λ z. refl;
+            begun = λ y. absurd (false≢true y);
+          };
           live = (refl, tt);
           told = refl;
           still = λ d le. refl;
           sum = refl;
-          most = omega arith;
           held = (refl, tt);
-          born = record { outside = λ z. (refl, refl); inside = λ y. absurd (false≢true y) };
+          outside = λ z. refl;
+          inside = λ y. absurd (false≢true y);
         };
         fine = record {
           past = omega arith;

@@ -18,7 +18,7 @@ use Rattle.rules.specs.Volumes.{given, registered}
 use Rattle.rules.specs.Pinned.Register.{period, noPeriod, used, startsOn, replaced, appended, named, bookedPeriod}
 use Rattle.rules.specs.Pinned.Register.{bookedSlots, booked, bookedAll}
 use Rattle.agreement.proofs.Shares.{All, given-before, given-after, given-le}
-use Rattle.agreement.proofs.Tally.{begin, beganOn, bookTotal, bookTotals, sumVolumes, Desc, desc-bookTotal}
+use Rattle.agreement.proofs.Tally.{begin, beganOn, begin-new, bookTotal, bookTotals, sumVolumes, Desc, desc-bookTotal}
 use Rattle.agreement.proofs.Tally.{sum-reading}
 
 -- The first n slots, the newest first.
@@ -86,10 +86,6 @@ begin-again : (t s n : ℕ) (ps : List Period) → beganOn t (recent n ps) ≡ t
 unfolding recent
 begin-again t s zero ps b le = absurd (false≢true b)
 begin-again t s (suc n) ps b le = let k : suc n - 1 ≡ n = omega arith in rw (k, b) (recent-push n ps _ le)
-
-begin-new : (t s : ℕ) (ps : List Period) → beganOn t ps ≡ false → begin t s ps ≡ period t s 0 ∷ ps
-begin-new t s [] b = refl
-begin-new t s (p ∷ ps) b = rw b
 
 module _ (t s : ℕ) (h : History) (z : Sized h) where
   named-both : (b : Bool) → startsOn t h ≡ b → h .count + cond b 0 1 ≤ 24

@@ -18,10 +18,11 @@ use Rattle.rules.specs.Answers.{isAccepted}
 use Rattle.rules.specs.declared.{View.View}
 use Rattle.rules.specs.Rejections.{Row, firstOf, due, pendingDue, marksAfter, isFull, isBy, touches, anyPoint}
 use Rattle.rules.specs.Rejections.{outside, notPoint, notMark, notWheels, notEnrolled, outOfTime, indexDisagrees}
-use Rattle.rules.specs.Rejections.{lastResortNear, rowsAt, rows, answerTo, accepted}
-use Rattle.rules.proofs.Views.{dated, dated-also}
+use Rattle.rules.specs.Rejections.{lastResortNear, rowsAt, rows, shown, answerTo, accepted}
+use Rattle.rules.proofs.Views.{shown-in, dated, dated-also}
 use Rattle.rules.proofs.Accept.{pass, neither}
 use Rattle.agreement.specs.Sound.{perDay, PendingAhead}
+use Rattle.agreement.proofs.Slots.{cond-holds}
 use Rattle.agreement.proofs.Good.{Wheels, Fine, Names, Good, marks-most, not-blank, unread, unchanged, naming}
 
 pass-near : (S : Settings) (t : ℕ) (k : SupplyKind) (rs : List Row) (a : Answer) → isAccepted (firstOf (lastResortNear S t k ∷ rs) a) ≡ true
@@ -62,19 +63,11 @@ span-most f d x z m i = let c = neither (leb (fullTurn (f .meter)) x || (eqb z 0
 
 pending-dropped : (t s : ℕ) (q : Pending) → PendingAhead t q → PendingAhead t (dropped s q)
 pending-dropped t s Pending.Nothing h = tt
-pending-dropped t s (Pending.Request q e) h = go (eqb q s)
-  where
-    go : (b : Bool) → PendingAhead t (cond b Pending.Nothing (Pending.Request q e))
-    go true = tt
-    go false = h
+pending-dropped t s (Pending.Request q e) h = cond-holds (PendingAhead t) (eqb q s) tt h
 
 due-dropped : (s : ℕ) (q : Pending) → pendingDue (dropped s q) ≤ pendingDue q
 due-dropped s Pending.Nothing = omega arith
-due-dropped s (Pending.Request q e) = go (eqb q s)
-  where
-    go : (b : Bool) → pendingDue (cond b Pending.Nothing (Pending.Request q e)) ≤ 1
-    go true = omega arith
-    go false = omega arith
+due-dropped s (Pending.Request q e) = cond-holds (λ (x : Pending). pendingDue x ≤ 1) (eqb q s) (omega arith) (omega arith)
 
 -- The enrolments of an effect on day t.
 abbrev pub enrolledBy : ℕ → Effect → List ℕ
@@ -204,17 +197,24 @@ module _ (S : Settings) (A : 0 < S .a) (B : 0 < S .b) (day : ℕ) (u : List Bool
       go true e w ih = rw (← (eqb-true p q e)) (w .0)
       go false e w ih = let z : p ≡ q → ⊥ = eqb-false p q e in ih (w .1) q (omega arith) (omega arith)
 
-  pub call-good : (v : ℕ → View) (p : ℕ) → 1 ≤ p → p ≤ 32 → Fine t (v p) → (c : Action) → isAccepted (answerTo S day u t c v) ≡ true
+  seen-good : (v : ℕ → View) (p : ℕ) → 1 ≤ p → p ≤ 32 → Fine t (v p) → (c : Action) → isAccepted (answerTo S day u t c v) ≡ true
       → Good t (v p) (effect S t c p (v p .fields)) (spansIn (effect S t c p (v p .fields))) (enrolledBy t (effect S t c p (v p .fields)))
   unfolding effect rows answerTo
-  call-good v p lo hi h (Action.Contract s) ok = unchanged t (v p) h (v p .fields) refl refl refl refl
-  call-good v p lo hi h (Action.Failure s) ok = let k = pass _ _ _ _ ok in
+  seen-good v p lo hi h (Action.Contract s) ok = unchanged t (v p) h (v p .fields) refl refl refl refl
+  seen-good v p lo hi h (Action.Failure s) ok = let k = pass _ _ _ _ ok in
       let l = pass _ _ _ _ (pass _ _ _ _ (dated-also day t _ _ _ (k .1) .1 .rest) .1) in
       failed-good (v p) h s (ltb-false s 1 (neither (ltb s 1) (ltb 99 s) (k .0) .0))
       (any-none 32 1 (λ q. touches s (v q .fields) && isFull (v q) (failed S t s (v q .fields))) (pass _ _ _ _ (l .1) .0) p lo (omega arith))
-  call-good v p lo hi h (Action.At q a) ok = go (eqb p q) refl
+  seen-good v p lo hi h (Action.At q a) ok = go (eqb p q) refl
     where
       go : (b : Bool) → eqb p q ≡ b → let e = cond b (effectOf S t a (v p .fields)) (Effect.Keep (v p .fields)) in Good t (v p) e (spansIn e) (enrolledBy t e)
       go true e = at-good (v p) h q a (accepted S t (Action.At q a) v) (rw (eqb-true p q e) ok)
       go false e = unchanged t (v p) h (v p .fields) refl refl refl refl
-  call-good v p lo hi h Action.Day ok = unchanged t (v p) h (v p .fields) refl refl refl refl
+  seen-good v p lo hi h Action.Day ok = unchanged t (v p) h (v p .fields) refl refl refl refl
+
+  -- An accepted call at point p, which shows v p.
+  pub call-good : (v : ℕ → View) (p : ℕ) → 1 ≤ p → p ≤ 32 → Fine t (v p) → (c : Action) → isAccepted (answerTo S day u t c (shown v)) ≡ true
+      → let e = effect S t c p (v p .fields) in Good t (v p) e (spansIn e) (enrolledBy t e)
+  call-good v p lo hi h c ok = let q = shown-in v p lo hi in
+      subst (λ (x : View). let e = effect S t c p (x .fields) in Good t x e (spansIn e) (enrolledBy t e)) q
+      (seen-good (shown v) p lo hi (rw q h) c ok)

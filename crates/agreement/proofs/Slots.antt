@@ -109,7 +109,7 @@ module _ (t s : ℕ) (h : History) (z : Sized h) where
 
 -- Booking a reading
 
-cond-holds : {A : Type 0} (P : A → Type 0) (b : Bool) {x y : A} → P x → P y → P (cond b x y)
+pub cond-holds : {A : Type 0} (P : A → Type 0) (b : Bool) {x y : A} → P x → P y → P (cond b x y)
 cond-holds P true p q = p
 cond-holds P false p q = q
 

@@ -1,22 +1,21 @@
 -- An opening gives a sound register, and every call keeps it sound.
 use mathlib.Core.Path.{_≡_, refl, sym, _∙_, ap, subst, subst₂}
-use mathlib.Core.Bool.{Bool, true, false, cond, false≢true}
+use mathlib.Core.Bool.{Bool, true, false, cond}
 use mathlib.Core.List.{List, []}
-use Prim.Native.Nat.{ℕ, zero, suc, _-_, _≤_, _<_}
+use Prim.Native.Nat.{ℕ, zero, suc, _≤_, _<_}
 use native.Mathlib.Omega.{arith}
-use lib.ListN.{length, getD, getD-replicate}
+use lib.ListN.{length, getD}
 use borrow.Author.Tests.{ltb-false}
 use Rattle.dates.specs.Dates.{lastDay}
 use Rattle.rules.specs.declared.{Opening.Opening, Period.Period, Point.Point, Register.Register, Settings.Settings}
-use Rattle.rules.specs.declared.{Effect.Effect, View.View, Call.Call}
-use Rattle.rules.specs.Effects.{spansIn, event, effect}
+use Rattle.rules.specs.declared.{Effect.Effect, Fields.Fields, Span.Span, View.View, Call.Call}
+use Rattle.rules.specs.Effects.{spansIn, event}
 use Rattle.rules.specs.Answers.{isAccepted}
 use Rattle.rules.specs.Rejections.{answerTo, shown, answer, openingAnswer}
 use Rattle.rules.specs.Pinned.Register
-use Rattle.rules.specs.Pinned.Register.{noPeriod, noPoint, blankPoint, entered, view, register, pointAt, advanced, says, done, applied}
-use Rattle.rules.specs.Periods.{total}
+use Rattle.rules.specs.Pinned.Register.{noPeriod, entered, view, register, pointAt, advanced, says, done, applied}
 use Rattle.rules.proofs.Accept.{pass}
-use Rattle.rules.proofs.Views.{passed, shown-in}
+use Rattle.rules.proofs.Views.{passed}
 use Rattle.agreement.specs.Sound.{Rising, SoundPoint, Sound, SoundRegisters}
 use Rattle.agreement.proofs.Tally.{oldest, Desc}
 use Rattle.agreement.proofs.Slots.{recent, Sized, used-count}
@@ -24,10 +23,13 @@ use Rattle.agreement.proofs.Cover.{total-read}
 use Rattle.agreement.proofs.Good.{Fine, Good, event-good}
 use Rattle.agreement.proofs.Jump.{onDay}
 use Rattle.agreement.proofs.Days.{up-kept}
-use Rattle.agreement.proofs.Kept.{enrolledBy, call-good}
+use Rattle.agreement.proofs.Kept.{call-good}
 use Rattle.agreement.proofs.Firm.{Firm, firm-later, firm-after, fine-entered}
 use Rattle.agreement.proofs.Step.{did, done-count, done-points, done-rest, advanced-rest}
-use Rattle.agreement.proofs.Run.{lasting}
+use Rattle.agreement.proofs.Run.{opened-agree}
+use Rattle.agreement.proofs.Tied.{Tied, views-agree}
+use Rattle.rules.specs.DayBook
+use Rattle.rules.specs.DayBook.{Page}
 
 -- Starts that rise in the slots fall in their list.
 rising-falls : (n e : ℕ) (ps : List Period) → Rising e n ps ≡ Desc e (recent n ps)
@@ -119,12 +121,9 @@ module _ (r : Register) (c : Call) (h : Sound r) where
     w = passed (r .settings) (r .day) (r .contracts) t (c .action) (shown v) ok
 
     acted-hale : (p : ℕ) → 1 ≤ p → p ≤ 32 → Hale t (did (r .settings) t (c .action) p (pointAt p (advanced t r .points)))
-    acted-hale p lo hi = let i = up-hale r h t (w .1) (w .0) p lo hi in let q : shown v p ≡ v p = shown-in v p lo hi in
-        let f : View → Effect = λ (x : View). effect (r .settings) t (c .action) p (x .fields) in
-        effect-hale t (pointAt p (advanced t r .points)) i (f (v p)) (enrolledBy t (f (v p)))
-        (subst (λ (x : View). Good t x (f x) (spansIn (f x)) (enrolledBy t (f x))) q
-        (call-good (r .settings) (h .lasting .0) (h .lasting .1) (r .day) (r .contracts) t (shown v) p lo hi (rw q (i .fine)) (c .action) ok))
-        (w .0)
+    acted-hale p lo hi = let i = up-hale r h t (w .1) (w .0) p lo hi in
+        effect-hale t (pointAt p (advanced t r .points)) i _ _
+        (call-good (r .settings) (h .lasting .0) (h .lasting .1) (r .day) (r .contracts) t v p lo hi (i .fine) (c .action) ok) (w .0)
 
     accepted-sound : Sound (done t (c .action) (advanced t r))
     accepted-sound = let a = advanced-rest t r in let m : length (advanced t r .points) ≡ 32 = a .3 ∙ h .count in
@@ -148,26 +147,22 @@ module _ (r : Register) (c : Call) (h : Sound r) where
       go true ok = accepted-sound ok
       go false z = h
 
--- A newly opened register has no period and nothing due.
+-- What stands beside a page is hale.
+tied-hale : (t : ℕ) (l : List Span) (n : List ℕ) (g : Page) (r : Point) → Tied t l n g r → Hale t r
+tied-hale t l n g r h = record {
+  firm = subst (λ (f : Fields). Firm t f (r .history)) (h .point .same) (h .point .firm);
+  fine = subst (Fine t) (views-agree t l n g r (h .point)) (h .fine);
+}
+
 opened-sound : (o : Opening) → isAccepted (openingAnswer o) ≡ true → Sound (Register.opened o)
-unfolding Register.opened openingAnswer total
-opened-sound o ok =
+unfolding Register.opened openingAnswer DayBook.opened
+opened-sound o ok = let h = opened-agree o ok in
     let d = pass _ _ _ _ (pass _ _ _ _ (pass _ _ _ _ (pass _ _ _ _ (pass _ _ _ _ (pass _ _ _ _ (pass _ _ _ _ ok .1) .1) .1) .1) .1) .1) in
     record {
-      lasting = lasting o ok;
+      lasting = h .lasting;
       calendar = ltb-false lastDay (o .day) (d .0);
-      count = refl;
-      points = λ p lo hi. rw (getD-replicate 32 (p - 1) blankPoint noPoint (omega arith)) (record {
-        slots = refl;
-        rising = tt;
-        room = omega arith;
-        ahead = record { kind = tt; pending = tt };
-        read = omega arith;
-        wheels = (omega arith, omega arith);
-        volume = omega arith;
-        blank = λ n. (refl, refl);
-        begun = λ y. absurd (false≢true y);
-      });
+      count = h .count;
+      points = λ p lo hi. hale-sound _ _ (tied-hale _ _ _ _ _ (h .points p lo hi));
     }
 
 pub sound-registers : SoundRegisters

@@ -21,8 +21,7 @@ use Rattle.rules.specs.Pinned.Register.{entered, catchUp, view, register, point
 use Rattle.rules.specs.Pinned.Register.{done, applied}
 use Rattle.rules.specs.DayBook
 use Rattle.rules.specs.DayBook.{Book, Page, upToDay, look, signed, written, next, does}
-use Rattle.agreement.proofs.Good.{Good}
-use Rattle.rules.proofs.Views.{shown-in, answer-ext, answer-off, passed, accepted-point}
+use Rattle.rules.proofs.Views.{answer-ext, answer-off, passed, accepted-point}
 use Rattle.agreement.proofs.Kept.{enrolledBy, call-good}
 use Rattle.agreement.proofs.Tied.{Tied, views-agree, effect-tied}
 use Rattle.agreement.proofs.Days.{gone-on, point-map, caught}
@@ -136,11 +135,8 @@ module _ (c : Call) (l : ℕ → List Span) (n : ℕ → List ℕ) (b : Book) (r
 
     turned : Tied t (l p ++ spansIn e) (n p ++ enrolledBy t e) (written e (page .cells)) (did (b .settings) t (c .action) p (point p))
     turned = let w = passed (b .settings) (b .day) (b .contracts) t (c .action) (shown v) ok in
-        let i = now (w .1) (w .0) p lo hi in let q : shown v p ≡ v p = shown-in v p lo hi in
-        let k : Good t (v p) e (spansIn e) (enrolledBy t e)
-        = subst
-        (λ (x : View). let f = effect (b .settings) t (c .action) p (x .fields) in Good t x f (spansIn f) (enrolledBy t f)) q
-        (call-good (b .settings) (h .lasting .0) (h .lasting .1) (b .day) (b .contracts) t (shown v) p lo hi (rw q (i .fine)) (c .action) ok) in
+        let i = now (w .1) (w .0) p lo hi in
+        let k = call-good (b .settings) (h .lasting .0) (h .lasting .1) (b .day) (b .contracts) t v p lo hi (i .fine) (c .action) ok in
         subst (λ (x : Fields). Tied t (l p ++ spansIn e) (n p ++ enrolledBy t e) (written e (page .cells))
         (entered t (effect (b .settings) t (c .action) p x) (point p .history)))
         (i .point .same) (effect-tied t (l p) (n p) page (point p) (i .point) e (enrolledBy t e) k (w .0))

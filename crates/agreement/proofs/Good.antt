@@ -101,9 +101,9 @@ unchanged t v h g r m s n =
     (λ z. (h .blank (sym n ∙ z) .0, s ∙ h .blank (sym n ∙ z) .1))
 
 -- At an enrolled point: a holder is named.
-pub naming : (t : ℕ) (v : View) → v .fields .reading .day ≤ t → Wheels (v .fields .meter) → v .fields .enrolled ≡ true → (g : Fields) → g .reading ≡ v .fields .reading
-    → g .meter ≡ v .fields .meter → g .enrolled ≡ v .fields .enrolled → Ahead t (g .supply) → marksAfter v (Effect.Name g) + due (g .supply) ≤ 24
-    → Good t v (Effect.Name g) [] []
+pub naming : (t : ℕ) (v : View) → v .fields .reading .day ≤ t → Wheels (v .fields .meter) → v .fields .enrolled ≡ true → (g : Fields)
+    → g .reading ≡ v .fields .reading → g .meter ≡ v .fields .meter → g .enrolled ≡ v .fields .enrolled → Ahead t (g .supply)
+    → marksAfter v (Effect.Name g) + due (g .supply) ≤ 24 → Good t v (Effect.Name g) [] []
 naming t v p w y g r m n a f =
     unread t v p w (Effect.Name g) [] r m a tt (subst (λ (b : Bool). Names t b g []) (sym y) (n ∙ y, refl)) f (not-blank (n ∙ y))
 

@@ -99,7 +99,8 @@ module _ (S : Settings) (B : 0 < S .b) (T : ℕ) where
     on-day f Pending.Nothing i a b = on-deadline f _ _ refl a (rw i tt) (λ z. rw i)
     on-day f (Pending.Request s e) i a b = elim (decLe e (suc t)) [
       | yes h ↦ let j : e ≡ suc t = omega arith in falls (supply s SupplyKind.Contract Pending.Nothing)
-          (rw (le-leb e T (omega arith), not-before (f .supply .kind) e a h, j)) (rw (eq-eqb e (suc t) j)) (record { kind = tt; pending = tt }) tt (rw i (omega arith))
+          (rw (le-leb e T (omega arith), not-before (f .supply .kind) e a h, j)) (rw (eq-eqb e (suc t) j)) (record { kind = tt; pending = tt }) tt
+          (rw i (omega arith))
       | no h ↦ rw (ne-eqb e (suc t) (omega arith))
           (on-deadline f _ _ refl a (rw i (omega arith)) (λ z. rw (z e (omega arith), and-false (leb e T), i)))
     ]

@@ -83,8 +83,8 @@ module _ (S : Settings) (A : 0 < S .a) (B : 0 < S .b) (day : ℕ) (u : List Bool
     asks : v .fields .enrolled ≡ true → (q : Pending) → PendingAhead t q → (e : Effect) → fieldsOf e ≡ withPending (v .fields) q
         → names e ≡ false → v .marks + due (withPending (v .fields) q .supply) ≤ 24 → Good t v e [] []
     asks y q a e fs n f =
-        unread t v (h .past) (h .wheels) e [] (rw fs refl) (rw fs refl) (rw fs (record { kind = h .ahead .kind; pending = a })) (rw (fs, n) refl) (rw (fs, n) (refl, refl))
-        (rw (fs, n) f) (rw fs (not-blank y))
+        unread t v (h .past) (h .wheels) e [] (rw fs refl) (rw fs refl) (rw fs (record { kind = h .ahead .kind; pending = a })) (rw (fs, n) refl)
+        (rw (fs, n) (refl, refl)) (rw (fs, n) f) (rw fs (not-blank y))
 
     -- a reading on day d
     reads : v .fields .enrolled ≡ true → (d x z : ℕ) (g : Fields) → g .reading .day ≡ d → g .enrolled ≡ v .fields .enrolled

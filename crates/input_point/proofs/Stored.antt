@@ -218,7 +218,8 @@ module _ (S : Settings) (day : ℕ) (u : List Bool) (fs : List Fields) (ns : Lis
       record {
         fields = length-set fs i f ∙ sized .fields;
         counts = sized .counts;
-        slots = rw (lt-ltb i 32 l) (length-paste ss (24 * i) (bookedIfFair s (history (getD ns i 0) (rowAt i ss)) .periods) 24 (omega (arith, sized .slots)) (omega (arith, back-whole s)) ∙ sized .slots);
+        slots = rw (lt-ltb i 32 l)
+            (length-paste ss (24 * i) (bookedIfFair s (history (getD ns i 0) (rowAt i ss)) .periods) 24 (omega (arith, sized .slots)) (omega (arith, back-whole s)) ∙ sized .slots);
       }
 
 -- ---- what an accepted message stores

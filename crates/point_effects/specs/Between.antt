@@ -6,7 +6,8 @@ use Prim.Native.Nat.{ℕ}
 use lib.Dec.{leb}
 use Rattle.dates.specs.Dates.{lastDay}
 use Rattle.rules.specs.declared.{Effect.Effect, Fields.Fields, History.History, Point.Point, Settings.Settings}
-use Rattle.rules.specs.declared.{Due.Due, Pending.Pending, PointAction.PointAction, Span.Span, SupplyKind.SupplyKind, View.View}
+use Rattle.rules.specs.declared.{PointAction.PointAction, Span.Span, View.View}
+use Rattle.rules.specs.declared.{Due.Due, Pending.Pending, SupplyKind.SupplyKind}
 use Rattle.rules.specs.Answers.{isAccepted}
 use Rattle.rules.specs.Effects.{fieldsOf, names, spansIn, effectOf, failed}
 use Rattle.rules.specs.Pinned.Register.{dueBy, happened, named}

@@ -66,7 +66,7 @@ fn ends_before(k: SupplyKind, day: u32) -> bool
     }
 }
 
-// What falls due first by day t: a request and a deadline on one day, the request. Past the calendar's end nothing does.
+// What falls due first by day t: a request and a deadline on one day, the request. Past the calendar's end, nothing.
 pub fn due_by(set: Settings, t: u32, k: SupplyKind, q: Pending) -> Due
     ensures { λ r. ⌜ r ≡ dueIn set t k q ⌝ }
 {

@@ -26,7 +26,8 @@ pointsOf (f ∷ fs) (n ∷ ns) ss = joined f n (take 24 ss) ∷ pointsOf fs ns (
 
 -- A reading booked over the n periods of the point at place i; no other place has one.
 unfoldable pub bookedAt : Span → ℕ → ℕ → List Period → List Period
-bookedAt s i n ss = cond (ltb i 32) (paste ss (24 * i) (bookedIfFair s (record { count = n; periods = rowAt i ss }) .periods) 24) ss
+bookedAt s i n ss =
+    cond (ltb i 32) (paste ss (24 * i) (bookedIfFair s (record { count = n; periods = rowAt i ss }) .periods) 24) ss
 
 -- 32 places, and 24 slots for each.
 pub record Sized (fs : List Fields) (ns : List ℕ) (ss : List Period) : Type 0 where

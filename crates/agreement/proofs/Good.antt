@@ -107,13 +107,13 @@ pub naming : (t : ℕ) (v : View) → v .fields .reading .day ≤ t → Wheels (
 naming t v p w y g r m n a f =
     unread t v p w (Effect.Name g) [] r m a tt (subst (λ (b : Bool). Names t b g []) (sym y) (n ∙ y, refl)) f (not-blank (n ∙ y))
 
--- Where something is due the point is enrolled.
-due-enrolled : (t : ℕ) (v : View) → Fine t v → 0 < due (v .fields .supply) → v .fields .enrolled ≡ true
-due-enrolled t v h lt = go (v .fields .enrolled) refl
+-- A point that is supplied in some way is enrolled.
+pub enrolled-by : (t : ℕ) (v : View) → Fine t v → (v .fields .supply ≡ unsupplied → ⊥) → v .fields .enrolled ≡ true
+enrolled-by t v h n = go (v .fields .enrolled) refl
   where
     go : (b : Bool) → v .fields .enrolled ≡ b → v .fields .enrolled ≡ true
     go true e = e
-    go false e = let z : due (v .fields .supply) ≡ 0 = ap due (h .blank e .1) in absurd (omega arith)
+    go false e = absurd (n (h .blank e .1))
 
 -- The event of a new day, at a point that was fine on the day before, books no reading.
 pub event-good : (S : Settings) → 0 < S .b → (t : ℕ) (v : View) → Fine t v → let e = event S (suc t) (v .fields) in
@@ -130,6 +130,6 @@ event-good S B t v h = go _ (on-day S B (suc t) t (omega arith) (v .fields) (v .
     go e (falls s i j a z lt) = let g = withSupply (v .fields) s in
         rw j (
           refl,
-          naming (suc t) v (omega (arith, h .past)) (h .wheels) (due-enrolled t v h (omega arith)) g refl refl refl a
+          naming (suc t) v (omega (arith, h .past)) (h .wheels) (enrolled-by t v h (λ q. let w : due (v .fields .supply) ≡ 0 = ap due q in omega arith)) g refl refl refl a
               (omega (arith, h .fit, marks-most v (Effect.Name g))),
         )

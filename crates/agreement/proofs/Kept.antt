@@ -23,7 +23,7 @@ use Rattle.rules.proofs.Views.{shown-in, dated, dated-also}
 use Rattle.rules.proofs.Accept.{pass, neither}
 use Rattle.agreement.specs.Sound.{perDay, PendingAhead}
 use Rattle.agreement.proofs.Slots.{cond-holds}
-use Rattle.agreement.proofs.Good.{Wheels, Fine, Names, Good, marks-most, not-blank, unread, unchanged, naming}
+use Rattle.agreement.proofs.Good.{Wheels, Fine, Names, Good, marks-most, not-blank, unread, unchanged, naming, enrolled-by}
 
 pass-near : (S : Settings) (t : ℕ) (k : SupplyKind) (rs : List Row) (a : Answer) → isAccepted (firstOf (lastResortNear S t k ∷ rs) a) ≡ true
     → isAccepted (firstOf rs a) ≡ true
@@ -158,34 +158,30 @@ module _ (S : Settings) (A : 0 < S .a) (B : 0 < S .b) (day : ℕ) (u : List Bool
     at-good p (PointAction.Suspend m) _ ok = unchanged t v h _ refl refl refl refl
 
     -- a failure, at any point
-    holder-enrolled : (s : ℕ) → 0 < s → v .fields .supply .holder ≡ s → v .fields .enrolled ≡ true
-    holder-enrolled s lo e = go (v .fields .enrolled) refl
-      where
-        go : (b : Bool) → v .fields .enrolled ≡ b → v .fields .enrolled ≡ true
-        go true z = z
-        go false z = let k : v .fields .supply .holder ≡ 0 = ap (λ (x : Supply). x .holder) (h .blank z .1) in absurd (omega arith)
+    module _ (s : ℕ) (lo : 0 < s) where
+      abbrev left : Pending
+      left = dropped s (v .fields .supply .pending)
 
-    failed-good : (s : ℕ) → 0 < s → (touches s (v .fields) && isFull v (failed S t s (v .fields))) ≡ false
-        → Good t v (failed S t s (v .fields)) (spansIn (failed S t s (v .fields))) (enrolledBy t (failed S t s (v .fields)))
-    unfolding failed
-    failed-good s lo f = go (eqb (v .fields .supply .holder) s) refl f
-      where
-        go : (b : Bool) → eqb (v .fields .supply .holder) s ≡ b
-            → ((b || isBy s (v .fields .supply .pending)) && isFull v (cond b
-            (Effect.Name (withSupply (v .fields) (supply (S .resort) (SupplyKind.LastResort (t + S .b)) (dropped s (v .fields .supply .pending)))))
-            (Effect.Keep (withPending (v .fields) (dropped s (v .fields .supply .pending)))))) ≡ false → let e = cond b
-            (Effect.Name (withSupply (v .fields) (supply (S .resort) (SupplyKind.LastResort (t + S .b)) (dropped s (v .fields .supply .pending)))))
-            (Effect.Keep (withPending (v .fields) (dropped s (v .fields .supply .pending)))) in
-            Good t v e (spansIn e) (enrolledBy t e)
-        go true e k = naming t v (h .past) (h .wheels) (holder-enrolled s lo (eqb-true _ _ e))
-            (withSupply (v .fields) (supply (S .resort) (SupplyKind.LastResort (t + S .b)) (dropped s (v .fields .supply .pending)))) refl refl refl
-            (record { kind = omega arith; pending = pending-dropped t s (v .fields .supply .pending) (h .ahead .pending) })
-            (not-full (Effect.Name (withSupply (v .fields) (supply (S .resort) (SupplyKind.LastResort (t + S .b)) (dropped s (v .fields .supply .pending))))) k)
-        go false e k =
-            unread t v (h .past) (h .wheels) (Effect.Keep (withPending (v .fields) (dropped s (v .fields .supply .pending)))) [] refl refl
-            (record { kind = h .ahead .kind; pending = pending-dropped t s (v .fields .supply .pending) (h .ahead .pending) }) refl (refl, refl)
-            (omega (arith, h .fit, due-dropped s (v .fields .supply .pending)))
-            (λ z. (h .blank z .0, ap (λ (x : Supply). supply (x .holder) (x .kind) (dropped s (x .pending))) (h .blank z .1)))
+      abbrev taken : Fields
+      taken = withSupply (v .fields) (supply (S .resort) (SupplyKind.LastResort (t + S .b)) left)
+
+      failed-good : (touches s (v .fields) && isFull v (failed S t s (v .fields))) ≡ false
+          → Good t v (failed S t s (v .fields)) (spansIn (failed S t s (v .fields))) (enrolledBy t (failed S t s (v .fields)))
+      unfolding failed
+      failed-good f = go (eqb (v .fields .supply .holder) s) refl f
+        where
+          ahead : PendingAhead t left
+          ahead = pending-dropped t s (v .fields .supply .pending) (h .ahead .pending)
+
+          go : (b : Bool) → eqb (v .fields .supply .holder) s ≡ b → let e = cond b (Effect.Name taken) (Effect.Keep (withPending (v .fields) left)) in
+              ((b || isBy s (v .fields .supply .pending)) && isFull v e) ≡ false → Good t v e (spansIn e) (enrolledBy t e)
+          go true e k = let y = enrolled-by t v h (λ q. let w : v .fields .supply .holder ≡ 0 = ap (λ (x : Supply). x .holder) q in
+              omega (arith, eqb-true (v .fields .supply .holder) s e)) in
+              naming t v (h .past) (h .wheels) y taken refl refl refl (record { kind = omega arith; pending = ahead }) (not-full (Effect.Name taken) k)
+          go false e k =
+              unread t v (h .past) (h .wheels) (Effect.Keep (withPending (v .fields) left)) [] refl refl
+              (record { kind = h .ahead .kind; pending = ahead }) refl (refl, refl) (omega (arith, h .fit, due-dropped s (v .fields .supply .pending)))
+              (λ z. (h .blank z .0, ap (λ (x : Supply). supply (x .holder) (x .kind) (dropped s (x .pending))) (h .blank z .1)))
 
   any-none : (n p : ℕ) (f : ℕ → Bool) → anyPoint p n f ≡ false → (q : ℕ) → p ≤ q → q < p + n → f q ≡ false
   unfolding anyPoint

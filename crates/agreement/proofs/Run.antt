@@ -23,14 +23,14 @@ use Rattle.agreement.proofs.Days.{gone-on}
 use Rattle.agreement.proofs.Step.{Agree, says-agree, readNow, enrolledNow, call-agree}
 
 -- An accepted opening has A and B at least 1.
-pub lasting : (o : Opening) → isAccepted (openingAnswer o) ≡ true → (0 < o .a) × (0 < o .b)
+lasting : (o : Opening) → isAccepted (openingAnswer o) ≡ true → (0 < o .a) × (0 < o .b)
 unfolding openingAnswer
 lasting o ok = let a = pass _ _ _ _ (pass _ _ _ _ ok .1) in let b = pass _ _ _ _ (a .1) in (
   ltb-false (o .a) 1 (neither (ltb (o .a) 1) (ltb 400 (o .a)) (a .0) .0),
   ltb-false (o .b) 1 (neither (ltb (o .b) 1) (ltb 400 (o .b)) (b .0) .0),
 )
 
-opened-agree : (o : Opening) → isAccepted (openingAnswer o) ≡ true → Agree (λ p. []) (λ p. []) (DayBook.opened o) (Register.opened o)
+pub opened-agree : (o : Opening) → isAccepted (openingAnswer o) ≡ true → Agree (λ p. []) (λ p. []) (DayBook.opened o) (Register.opened o)
 unfolding DayBook.opened Register.opened tally recent volume registered sumVolumes
 opened-agree o ok =
     record {
@@ -42,14 +42,20 @@ opened-agree o ok =
       points = λ p lo hi. rw (getD-replicate 32 (p - 1) blankPoint noPoint (omega arith)) (record {
         point = record {
           same = refl;
-          sized = record { slots = refl; some = omega arith };
+          firm = record {
+            sized = record { slots = refl; some = omega arith };
+            falling = tt;
+            most = omega arith;
+            none = λ z. refl;
+            begun = λ y. absurd (false≢true y);
+          };
           live = (refl, tt);
           told = refl;
           still = λ d le. refl;
           sum = refl;
-          most = omega arith;
           held = (refl, tt);
-          born = record { outside = λ z. (refl, refl); inside = λ y. absurd (false≢true y) };
+          outside = λ z. refl;
+          inside = λ y. absurd (false≢true y);
         };
         fine = record {
           past = omega arith;

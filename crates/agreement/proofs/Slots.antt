@@ -18,7 +18,7 @@ use Rattle.rules.specs.Volumes.{given, registered}
 use Rattle.rules.specs.Pinned.Register.{period, noPeriod, used, startsOn, replaced, appended, named, bookedPeriod}
 use Rattle.rules.specs.Pinned.Register.{bookedSlots, booked, bookedAll}
 use Rattle.agreement.proofs.Shares.{All, given-before, given-after, given-le}
-use Rattle.agreement.proofs.Tally.{begin, beganOn, bookTotal, bookTotals, sumVolumes, Desc, desc-bookTotal}
+use Rattle.agreement.proofs.Tally.{begin, beganOn, begin-new, bookTotal, bookTotals, sumVolumes, Desc, desc-bookTotal}
 use Rattle.agreement.proofs.Tally.{sum-reading}
 
 -- The first n slots, the newest first.
@@ -87,10 +87,6 @@ unfolding recent
 begin-again t s zero ps b le = absurd (false≢true b)
 begin-again t s (suc n) ps b le = let k : suc n - 1 ≡ n = omega arith in rw (k, b) (recent-push n ps _ le)
 
-begin-new : (t s : ℕ) (ps : List Period) → beganOn t ps ≡ false → begin t s ps ≡ period t s 0 ∷ ps
-begin-new t s [] b = refl
-begin-new t s (p ∷ ps) b = rw b
-
 module _ (t s : ℕ) (h : History) (z : Sized h) where
   named-both : (b : Bool) → startsOn t h ≡ b → h .count + cond b 0 1 ≤ 24
       → (listed (named t s h) ≡ begin t s (listed h)) × Sized (named t s h)
@@ -113,7 +109,7 @@ module _ (t s : ℕ) (h : History) (z : Sized h) where
 
 -- Booking a reading
 
-cond-holds : {A : Type 0} (P : A → Type 0) (b : Bool) {x y : A} → P x → P y → P (cond b x y)
+pub cond-holds : {A : Type 0} (P : A → Type 0) (b : Bool) {x y : A} → P x → P y → P (cond b x y)
 cond-holds P true p q = p
 cond-holds P false p q = q
 

@@ -15,7 +15,7 @@ use Rattle.rules.specs.Pinned.Register.{period, noPeriod}
 use Rattle.point_effects.specs.declared.{Ruling.Ruling}
 use Rattle.line_messages.specs.declared.{Message.Message}
 use Rattle.input_tables.specs.declared.{Tables.Tables}
-use Rattle.input_tables.specs.Between.Tables.{Sized, Apart}
+use Rattle.input_tables.specs.Between.Tables.{bookedAt, Sized, Apart}
 use Rattle.input_desk.specs.declared.{Desk.Desk}
 use Rattle.input_desk.specs.Pinned.Desk.{desk, answerOf, deskAfter}
 use Rattle.input_desk.proofs.Openings.{refused-after}
@@ -28,7 +28,7 @@ use Rattle.input_pieces.specs.Pinned.Session.{registerIn}
 use Rattle.input_pieces.proofs.Turns.{Turned}
 use Rattle.input_point.specs.Between.Deeds.{deedOf}
 use Rattle.input_point.specs.Between.Daily.{read, reads, Stores}
-use Rattle.input_point.proofs.Stored.{isWhole, bookedBack, storedIn, deed-stored, slot-sized, back-sized, Within, deed-within}
+use Rattle.input_point.proofs.Stored.{isWhole, storedIn, deed-stored, slot-sized, back-sized, Within, deed-within}
 
 -- The answer a, and the tables after it.
 pub record Next (d : Desk) (m : Message) (a : Answer) (ready : Bool) (S : Settings) (day : ℕ) (u : List Bool) (fs : List Fields) (ns : List ℕ)
@@ -132,7 +132,7 @@ module _ (z : State) where
                 calm = first-set fs i (e .fields) quiet′ (omega (arith, calm)) (omega arith);
               }
 
-          pub back-next : (t : ℕ) (s : Span) (g : Fields) → x ≡ Deed.Back t s g → (ss′ : List Period) → ss′ ≡ bookedBack s i ns ss →
+          pub back-next : (t : ℕ) (s : Span) (g : Fields) → x ≡ Deed.Back t s g → (ss′ : List Period) → ss′ ≡ bookedAt s i (getD ns i 0) ss →
               (due quiet′ : ℕ) → due ≡ dueDay (g .supply) → quiet′ ≡ min (z .quiet) due → Next d m a (z .ready) (z .set) t (z .contracts) (set fs i g) ns ss′ quiet′
           back-next t s g h ss′ hs due quiet′ hd hq =
               record {

@@ -1,20 +1,19 @@
 -- What a deed stores in the tables is what the effect does to the point.
 use mathlib.Core.Path.{_≡_, refl, sym, ap, _∙_}
-use mathlib.Core.Bool.{Bool, true, false, cond, not, _&&_, true≢false, false≢true}
+use mathlib.Core.Bool.{Bool, true, false, cond, _&&_, true≢false, false≢true}
 use mathlib.Core.List.{List}
 use Prim.Native.Nat.{ℕ, zero, suc, _+_, _-_, _*_, _≤_, _<_, min}
 use native.Mathlib.Omega.{arith}
-use borrow.Author.Tests.{ltb-true, leb-true, le-ltb}
+use borrow.Author.Tests.{ltb-true, leb-true, lt-ltb, le-ltb}
 use lib.Dec.{eqb, leb, ltb}
 use lib.ListN.{length, getD, set, length-set}
-use lib.Seq.{paste, set-getD, length-paste}
+use lib.Seq.{set-getD, length-paste}
 use Rattle.rules.specs.declared.{Effect.Effect, Fields.Fields, History.History, Period.Period, Point.Point, Span.Span}
 use Rattle.rules.specs.declared.{Register.Register, Settings.Settings, View.View, Action.Action, PointAction.PointAction}
 use Rattle.rules.specs.Answers.{isAccepted}
 use Rattle.rules.specs.Effects.{effectOf}
-use Rattle.dates.specs.Dates.{lastDay}
 use Rattle.rules.specs.Pinned.Register.{period, history, noPeriod, startsOn, replaced, appended, named, bookedSlots, booked}
-use Rattle.rules.specs.Pinned.Register.{bookedPeriod, noPoint, register, catchUp, view, advanced, says, done, acted, applied, on}
+use Rattle.rules.specs.Pinned.Register.{bookedPeriod, noPoint, register, view, advanced, says, done, acted, applied, on}
 use Rattle.rules.specs.Fields.{blank}
 use Rattle.rules.specs.Volumes.{given}
 use Rattle.point_volumes.specs.Between.{isFair, bookedIfFair, bookedNewest}
@@ -23,8 +22,9 @@ use Rattle.point_answers.specs.Between.{answerAt}
 use Rattle.point_effects.specs.Between.{rulingAt, Accepted, noted}
 use Rattle.point_effects.proofs.Accepted.{accepted-noted}
 use Rattle.register.specs.Between.Calls.{callAt}
+use Rattle.register.proofs.Advanced.{caughtUp-on}
 use Rattle.input_quiet.specs.Between.Quiet.{seen, viewOn, firstDue}
-use Rattle.input_quiet.proofs.Dues.{quiet-point, quiet-advanced, first-at}
+use Rattle.input_quiet.proofs.Dues.{quiet-point, quiet-advanced, first-at, first-never}
 use Rattle.input_quiet.proofs.SeenOn.{seen-on}
 use Rattle.input_point.specs.Between.Answers.{placeIn, placeOf, callSaid, saidBy}
 use Rattle.input_point.proofs.Settled.{says-shown, at-settled}
@@ -32,7 +32,7 @@ use Rattle.line_messages.specs.declared.{Message.Message}
 use Rattle.input_desk.specs.Pinned.Desk.{desk, unreadable, answerOf, deskAfter}
 use Rattle.rules.specs.Rejections.{answer}
 use Rattle.rules.proofs.Views.{accepted-point}
-use Rattle.input_tables.specs.Between.Tables.{joined, rowAt, pointsOf, Sized}
+use Rattle.input_tables.specs.Between.Tables.{joined, rowAt, pointsOf, bookedAt, Sized}
 use Rattle.input_tables.proofs.Points.{row-length, row-get, points-get, points-slot, points-row}
 use Rattle.input_point.specs.declared.{answers.Said.Said, deeds.Deed.Deed}
 use Rattle.input_point.specs.Between.Deeds.{slot, keptDeed, namingDeed, readingDeed, effectDeed, ruledDeed, callDeed, deedOf}
@@ -168,14 +168,11 @@ booked-length s h = go (isFair s)
     go true = slots-length (given s) (s .from) (min (h .count) 24) (s .to) (h .periods)
     go false = refl
 
-abbrev pub bookedBack : Span → ℕ → List ℕ → List Period → List Period
-bookedBack s i ns ss = paste ss (24 * i) (bookedIfFair s (history (getD ns i 0) (rowAt i ss)) .periods) 24
-
 -- the register with what a deed stores
 abbrev pub storedIn : Settings → ℕ → List Bool → List Fields → List ℕ → List Period → ℕ → Deed → Register
 storedIn S day u fs ns ss i (Deed.Slot x) =
     register S (x .today) u (pointsOf (set fs i (x .fields)) (set ns i (x .count)) (set ss (24 * i + x .place) (x .period)))
-storedIn S day u fs ns ss i (Deed.Back t s f) = register S t u (pointsOf (set fs i f) ns (bookedBack s i ns ss))
+storedIn S day u fs ns ss i (Deed.Back t s f) = register S t u (pointsOf (set fs i f) ns (bookedAt s i (getD ns i 0) ss))
 storedIn S day u fs ns ss i (Deed.Sign t s) = register S t (set u s true) (pointsOf fs ns ss)
 storedIn S day u fs ns ss i (Deed.Pass t) = register S t u (pointsOf fs ns ss)
 storedIn S day u fs ns ss i Deed.Whole = register S day u (pointsOf fs ns ss)
@@ -193,10 +190,11 @@ module _ (S : Settings) (day : ℕ) (u : List Bool) (fs : List Fields) (ns : Lis
 
   stored-point : (t : ℕ) (d : Deed) → On t d →
       register S t u (set (pointsOf fs ns ss) i (pointAfter (rowAt i ss) (getD ns i 0) d)) ≡ stores d
+  unfolding bookedAt
   stored-point t (Deed.Slot x) (e, k) = rw (e, points-slot (x .fields) (x .count) fs ns ss i (x .place) (x .period) k)
   stored-point t (Deed.Back b s f) e =
       let is = points-row f (getD ns i 0) fs ns ss (bookedIfFair s (history (getD ns i 0) (rowAt i ss)) .periods) i (back-whole s) (omega (arith, sized .slots)) in
-      rw (e, ← is, set-getD ns i 0)
+      rw (e, lt-ltb i 32 l, ← is, set-getD ns i 0)
   stored-point t (Deed.Sign b s) e = absurd e
   stored-point t (Deed.Pass b) e = absurd e
   stored-point t Deed.Whole e = absurd e
@@ -214,12 +212,14 @@ module _ (S : Settings) (day : ℕ) (u : List Bool) (fs : List Fields) (ns : Lis
   slot-sized f n k q =
       record { fields = length-set fs i f ∙ sized .fields; counts = length-set ns i n ∙ sized .counts; slots = length-set ss k q ∙ sized .slots }
 
-  pub back-sized : (s : Span) (f : Fields) → Sized (set fs i f) ns (bookedBack s i ns ss)
+  pub back-sized : (s : Span) (f : Fields) → Sized (set fs i f) ns (bookedAt s i (getD ns i 0) ss)
+  unfolding bookedAt
   back-sized s f =
       record {
         fields = length-set fs i f ∙ sized .fields;
         counts = sized .counts;
-        slots = length-paste ss (24 * i) (bookedIfFair s (history (getD ns i 0) (rowAt i ss)) .periods) 24 (omega (arith, sized .slots)) (omega (arith, back-whole s)) ∙ sized .slots;
+        slots = rw (lt-ltb i 32 l)
+            (length-paste ss (24 * i) (bookedIfFair s (history (getD ns i 0) (rowAt i ss)) .periods) 24 (omega (arith, sized .slots)) (omega (arith, back-whole s)) ∙ sized .slots);
       }
 
 -- ---- what an accepted message stores
@@ -258,11 +258,11 @@ module _ (S : Settings) (day : ℕ) (u : List Bool) (fs : List Fields) (ns : Lis
       let e = seen-on S t day g (omega (arith, row-length i ss (omega (arith, sized .slots)))) in
       let k = quiet-point S t g (omega (arith, first-at fs i (omega (arith, sized .fields)))) in
       ap (λ (x : View). x .fields) (ap (λ (x : Period). viewOn S day t (seen (getD fs i blank) (min n 24) (x .start))) (sym q) ∙ sym e) ∙
-      go (not (eqb day t) && leb t lastDay) g k
+      rw (caughtUp-on S t (omega (arith, first-never fs)), k) (go (eqb day t) g)
     where
-      go : (b : Bool) (g : Point) → catchUp S t g ≡ g → view t (cond b (catchUp S t g) g) .fields ≡ g .fields
-      go true g k = ap (λ (x : Point). x .fields) k
-      go false g k = refl
+      go : (b : Bool) (g : Point) → view t (cond b g g) .fields ≡ g .fields
+      go true g = refl
+      go false g = refl
 
   says-at : (t p : ℕ) (a : PointAction) → i ≡ placeIn (Action.At p a) → says r (callAt t p a) ≡ answerAt S day u t p a (v t)
   unfolding rulingAt

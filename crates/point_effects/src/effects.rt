@@ -25,7 +25,7 @@ ghost use Rattle.rules.specs.Volumes.{fullTurn, spanTo};
 ghost use Rattle.point_effects.specs.Between.{Accepted, failedBy};
 
 // The same fields with another supply.
-fn with_supply(f: Fields, s: Supply) -> Fields
+pub(crate) fn with_supply(f: Fields, s: Supply) -> Fields
     ensures { λ r. ⌜ r ≡ withSupply f s ⌝ }
 {
     let mut g = f;

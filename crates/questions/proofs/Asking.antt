@@ -23,9 +23,9 @@ use Rattle.rules.specs.Pinned.Register.{used, pointAt}
 use Rattle.questions.specs.Pinned.Questions.{unasked, holderAnswer, periodAnswer, advanceAnswer}
 use Rattle.rules.specs.DayBook.{opened, readings, enrolments, Page}
 use Rattle.rules.specs.Periods.{periodsOf, holderOn, book, register}
-use Rattle.agreement.proofs.Tally.{tally-desc, live-runs, Desc}
+use Rattle.agreement.proofs.Tally.{oldest}
 use Rattle.agreement.proofs.Slots.{listed, Sized, used-count, take-listed}
-use Rattle.agreement.proofs.Tied.{Tied, Since}
+use Rattle.agreement.proofs.Tied.{Tied}
 use Rattle.agreement.proofs.Run.{run-agrees}
 use Rattle.agreement.proofs.Theorem.{day-book-agrees}
 use Rattle.questions.proofs.Seen.{pending-unseen, request-unseen}
@@ -76,17 +76,17 @@ module _ (o : Opening) (ok : isAccepted (openingAnswer o) ≡ true) (calls : Lis
     tied = rw same-day at (run-agrees o ok calls .points p lo hi)
 
     pub point-sized : Sized (pointAt p (r .points) .history)
-    point-sized = tied .point .sized
+    point-sized = tied .point .firm .sized
 
     -- the periods that the register keeps are the day book's
     pub periods-are : periodsOf (pointAt p (r .points)) ≡ bookPeriods o calls p
     unfolding bookPeriods
     periods-are = let h = tied .point in
-        rw same-day (periods-told point (h .sized) (volume l) (g .cells) (h .told) (r .day) (h .live))
+        rw same-day (periods-told point (h .firm .sized) (volume l) (g .cells) (h .told) (r .day) (h .live))
 
     unborn : unasked r p ≡ true → (n ≡ []) × (listed (point .history) ≡ [])
-    unborn off = let h = tied .point in
-        h .born .outside (rw (h .same) (not-on _ (rw (le-ltb p 1 lo, le-ltb 32 p hi) at off)))
+    unborn off = let h = tied .point in let z : g .fields .enrolled ≡ false = rw (h .same) (not-on _ (rw (le-ltb p 1 lo, le-ltb 32 p hi) at off)) in
+        (h .outside z, h .firm .none z)
 
   -- a point that may not be asked of: the day book has nothing to tell
   module _ (off : unasked r p ≡ true) where
@@ -118,41 +118,41 @@ module _ (o : Opening) (ok : isAccepted (openingAnswer o) ≡ true) (calls : Lis
     h : Tied (r .day) l n g point
     h = tied (here .0) (here .1)
 
-    since : Since n (listed (point .history)) (g .fields .reading .day)
-    since = h .point .born .inside (rw (h .point .same) (not-off _ (neither (notPoint p) _ on .1)))
+    -- the oldest period starts with the enrolment
+    abbrev born : ℕ
+    born = oldest (listed (point .history)) (suc (r .day))
+
+    since : n ≡ born ∷ []
+    since = h .point .inside (rw (h .point .same) (not-off _ (neither (notPoint p) _ on .1))) (suc (r .day))
 
     used-all : used (point .history) ≡ point .history .count
-    used-all = used-count (point .history) (h .point .sized)
+    used-all = used-count (point .history) (h .point .firm .sized)
 
     slots : point .history .count ≤ length (point .history .periods)
-    slots = omega (arith, h .point .sized .slots, h .point .sized .some)
+    slots = omega (arith, h .point .firm .sized .slots, h .point .firm .sized .some)
 
-    falling : Desc (suc (r .day)) (listed (point .history))
-    falling = rw (h .point .told)
-        (tally-desc (volume l) (g .cells) (suc (r .day)) 0 (live-runs (r .day) (g .cells) (h .point .live)))
-
-    holder-asked : (d : ℕ) → since .enrolment ≤ d → d ≤ r .day → Tells d (holderAnswer r p d) (holderOn d (g .cells))
+    holder-asked : (d : ℕ) → born ≤ d → d ≤ r .day → Tells d (holderAnswer r p d) (holderOn d (g .cells))
     unfolding holderAnswer
     holder-asked d le due = let a = day-book-agrees o ok calls .points p (here .0) (here .1) in
         rw (on, le-ltb (r .day) d due, used-all)
-        (among-covered d (point .history .count) (point .history .periods) _ slots (a .covered (since .enrolment) d (since .one) le due))
+        (among-covered d (point .history .count) (point .history .periods) _ slots (a .covered (born) d (since) le due))
 
     holder-late : (d : ℕ) → r .day < d → holderAnswer r p d ≡ holder.OffRange
     unfolding holderAnswer
     holder-late d lt = rw (on, lt-ltb (r .day) d lt)
 
-    holder-early : (d : ℕ) → d < since .enrolment → holderAnswer r p d ≡ holder.OffRange
+    holder-early : (d : ℕ) → d < born → holderAnswer r p d ≡ holder.OffRange
     unfolding holderAnswer
-    holder-early d lt = let o = since .start (suc (r .day)) in elim (decLe d (r .day)) [
+    holder-early d lt = elim (decLe d (r .day)) [
       | yes due ↦ rw (on, le-ltb (r .day) d due, used-all)
-          (among-before d (point .history .count) (point .history .periods) (suc (r .day)) falling (omega (arith, o)))
+          (among-before d (point .history .count) (point .history .periods) (suc (r .day)) (h .point .firm .falling) (omega arith))
       | no late ↦ holder-late d (omega arith)
     ]
 
     advance-asked : advanceAnswer r p ≡ advance.Volume (registered l)
     unfolding advanceAnswer
     advance-asked =
-        let small : registered l < 2 ^ 64 = omega (arith, h .point .most, h .fine .past, run-day o ok calls) in
+        let small : registered l < 2 ^ 64 = omega (arith, h .point .sum, h .point .firm .most, h .fine .past, run-day o ok calls) in
         rw (on, used-all) (ap advance.Volume
         (sum-exact (point .history .count) (point .history .periods) (rw (h .point .sum) small) ∙ h .point .sum))
 
@@ -181,7 +181,7 @@ module _ (o : Opening) (ok : isAccepted (openingAnswer o) ≡ true) (calls : Lis
           ≡ cond (notPoint p) none (sinceEnrolment n (λ e. cond (leb e d && leb d (r .day)) (holderOn d (g .cells)) none))
       go true off =
           rw (none-made off (λ e. cond (leb e d && leb d (r .day)) (holderOn d (g .cells)) none)) (unfold holderAnswer in rw off)
-      go false on = let e = since on .enrolment in rw (is-point on, since on .one) (elim (decLe e d) [
+      go false on = let e = born on in rw (is-point on, since on) (elim (decLe e d) [
         | yes le ↦ (elim (decLe d (r .day)) [
           | yes due ↦ rw (le-leb e d le, le-leb d (r .day) due) (holder-asked on d le due .0)
           | no late ↦ rw (le-leb e d le, lt-leb d (r .day) (omega arith)) (ap holderTold (holder-late on d (omega arith)))
@@ -205,7 +205,7 @@ module _ (o : Opening) (ok : isAccepted (openingAnswer o) ≡ true) (calls : Lis
       go : (b : Bool) → unasked r p ≡ b
           → advanceTold (advanceAnswer r p) ≡ cond (notPoint p) none (sinceEnrolment n (λ e. some (registered l)))
       go true off = rw (none-made off (λ e. some (registered l))) (unfold advanceAnswer in rw off)
-      go false on = rw (is-point on, since on .one) (ap advanceTold (advance-asked on))
+      go false on = rw (is-point on, since on) (ap advanceTold (advance-asked on))
 
   answered-on : (e d : ℕ) → 1 ≤ p → p ≤ 32 → n ≡ e ∷ [] → e ≤ d → d ≤ r .day → holderNumber (holderAnswer r p d) ≡ 0
   answered-on e d lo hi q le due = go (unasked r p) refl
@@ -213,7 +213,7 @@ module _ (o : Opening) (ok : isAccepted (openingAnswer o) ≡ true) (calls : Lis
       go : (b : Bool) → unasked r p ≡ b → holderNumber (holderAnswer r p d) ≡ 0
       go true off = let w : _≡_ {A = ℕ} 0 1 = cc (unborn lo hi off .0, q) in absurd (omega arith)
       go false on =
-          let k : since on .enrolment ≡ e = cc (since on .one, q) in holder-asked on d (omega (arith, k)) due .1
+          let k : born on ≡ e = cc (since on, q) in holder-asked on d (omega (arith, k)) due .1
 
 pub asking : Asking
 asking =

@@ -2,6 +2,7 @@
 -- accepted call has that point stored.
 use mathlib.Core.Path.{_≡_, refl, sym, _∙_, ap}
 use mathlib.Core.Bool.{Bool, true, false, cond}
+use mathlib.Core.Logic.{inl}
 use mathlib.Core.List.{map}
 use Prim.Native.Nat.{ℕ, _-_, _≤_}
 use native.Mathlib.Omega.{arith}
@@ -66,7 +67,7 @@ module _ (r : Register) (t p : ℕ) (a : PointAction) where
   unfolding says answer answerAt answerTo rows accepted
   at-says = elim (decLe t lastDay) [
     | yes h ↦ answer-at (r .settings) (r .day) (r .contracts) t p a (shown every) found (shown-found h)
-    | no h ↦ answer-off (r .settings) (r .day) (r .contracts) t (shown every) found (Action.At p a) (lt-ltb lastDay t (omega arith))
+    | no h ↦ answer-off (r .settings) (r .day) (r .contracts) t (shown every) found (Action.At p a) (inl (lt-ltb lastDay t (omega arith)))
   ]
 
   pub at-refused : isAccepted ruling ≡ false → outcome ruling r ≡ applied r (callAt t p a)

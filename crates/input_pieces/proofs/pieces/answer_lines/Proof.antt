@@ -178,7 +178,7 @@ answer-lines-spec =
     add-slots-2 mul-slots-4 array-set-from-slots-2 (λ c κs. search needs) (λ c κs. search needs) (λ c. search needs)
     (λ c. omega (arith, c .before .before .before .before .before .before .before .before .before .before .before .before .before .before .place-of .ensures .1))
     (λ c. omega (arith, c .before .before .before .before .before .before .before .before .before .before .before .before .before .before .place-of .ensures .1))
-    (λ c κs. omega (arith, c .before .before .before .before .before .before .before .before .before .before .before .before .before .before .place-of .ensures .1)) (λ c κs. search needs) (λ c κs. search needs) (λ c. search needs)
+    (λ c κs. search needs) (λ c κs. search needs) (λ c κs. search needs) (λ c. search needs)
     (λ c. supplier-within _ _ _ _ _ _ _ _ (c .before .deed3 .given .1) (c .before .before .before .deed-of .ensures))
     (λ c. search needs) (λ c. search needs) (λ c κs. search needs) (λ c κs. search needs) (λ c κs. search needs)
     (λ c κs. search needs) (λ c κs. search needs) loop-less-2 loop-again-2 (λ c. search needs) (λ c. search needs)

@@ -52,7 +52,8 @@ unfoldable pub noted : ℕ → Effect → History → Point
 noted d e h =
     record {
       fields = fieldsOf e;
-      history = cond (names e) (named d (fieldsOf e .supply .holder) (bookedFair (spansIn e) h)) (bookedFair (spansIn e) h);
+      history =
+          cond (names e) (named d (fieldsOf e .supply .holder) (bookedFair (spansIn e) h)) (bookedFair (spansIn e) h);
     }
 
 unfoldable pub failedBy : Settings → ℕ → ℕ → Fields → Effect

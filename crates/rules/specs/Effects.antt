@@ -60,7 +60,8 @@ unfoldable pub deadlineEvent : Settings → ℕ → Fields → SupplyKind → Ef
 deadlineEvent S t f SupplyKind.None = Effect.Keep f
 deadlineEvent S t f SupplyKind.Contract = Effect.Keep f
 deadlineEvent S t f (SupplyKind.Default d) =
-    cond (eqb d t) (Effect.Name (withSupply f (supply (S .resort) (SupplyKind.LastResort (t + S .b)) (f .supply .pending))))
+    cond (eqb d t)
+    (Effect.Name (withSupply f (supply (S .resort) (SupplyKind.LastResort (t + S .b)) (f .supply .pending))))
     (Effect.Keep f)
 deadlineEvent S t f (SupplyKind.LastResort d) = cond (eqb d t) (Effect.Name (withSupply f unsupplied)) (Effect.Keep f)
 
@@ -112,7 +113,8 @@ dropped s (Pending.Request q e) = cond (eqb q s) Pending.Nothing (Pending.Reques
 unfoldable pub failed : Settings → ℕ → ℕ → Fields → Effect
 failed S t s f =
     cond (eqb (f .supply .holder) s)
-    (Effect.Name (withSupply f (supply (S .resort) (SupplyKind.LastResort (t + S .b)) (dropped s (f .supply .pending)))))
+    (Effect.Name
+    (withSupply f (supply (S .resort) (SupplyKind.LastResort (t + S .b)) (dropped s (f .supply .pending)))))
     (Effect.Keep (withPending f (dropped s (f .supply .pending))))
 
 -- 1 and 12 touch no point.

@@ -4,7 +4,8 @@ use mathlib.Core.Bool.{cond, _&&_}
 use mathlib.Core.List.{List, [], _∷_}
 use Prim.Native.Nat.{ℕ, _+_, min}
 use lib.Dec.{eqb, ltb}
-use Rattle.rules.specs.declared.{Fields.Fields, Settings.Settings, Supply.Supply, SupplyKind.SupplyKind, Pending.Pending}
+use Rattle.rules.specs.declared.{Fields.Fields, Settings.Settings, Supply.Supply, SupplyKind.SupplyKind}
+use Rattle.rules.specs.declared.{Pending.Pending}
 use Rattle.rules.specs.declared.{Due.Due, View.View}
 use Rattle.rules.specs.Fields.{withSupply}
 use Rattle.point_effects.specs.Between.{dueIn}

@@ -79,7 +79,8 @@ abbrev pub entered : ℕ → Effect → History → Point
 entered d e h =
     record {
       fields = fieldsOf e;
-      history = cond (names e) (named d (fieldsOf e .supply .holder) (bookedAll (spansIn e) h)) (bookedAll (spansIn e) h);
+      history =
+          cond (names e) (named d (fieldsOf e .supply .holder) (bookedAll (spansIn e) h)) (bookedAll (spansIn e) h);
     }
 
 -- What ends a supply kind by day t, where q is pending: default supply goes over to last resort, and the request stays;

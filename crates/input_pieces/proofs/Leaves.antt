@@ -110,10 +110,9 @@ module _ (z : State) where
       module _ (ok : isAccepted a ≡ true) where
         -- the whole register, taken apart again
         pub whole-next : (R : Register) → R ≡ registerIn (z .set) (z .day) (z .contracts) fs ns ss → (nd : Desk) →
-            (isAccepted (answerOf (desk (z .ready) R) m) ≡ true → nd ≡ deskAfter (desk (z .ready) R) m) → (t : Tables) → Apart (nd .register .points) t →
-            (quiet′ : ℕ) → quiet′ ≡ firstDue (t .fields) →
+            nd ≡ deskAfter (desk (z .ready) R) m → (t : Tables) → Apart (nd .register .points) t → (quiet′ : ℕ) → quiet′ ≡ firstDue (t .fields) →
             Next d m a (nd .ready) (nd .register .settings) (nd .register .day) (nd .register .contracts) (t .fields) (t .counts) (t .slots) quiet′
-        whole-next R hR nd does t apart quiet′ hq = let e : nd ≡ deskAfter d m = rw hR at (does (rw (hR, ← ha) ok)) in
+        whole-next R hR nd does t apart quiet′ hq = let e : nd ≡ deskAfter d m = rw hR at does in
             record { turned = record { answer = ha; after = rw (apart .points) e }; sized = apart .sized; calm = omega (arith, hq) }
 
         module _ (y : Said) (hy : y ≡ saidHere m i k) (x : Deed) (hx : x ≡ deedOf (z .quiet) m y (getD ns i 0) (getD ss (24 * i + k) noPeriod)) where

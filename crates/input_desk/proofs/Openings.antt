@@ -1,7 +1,7 @@
 -- The desk after an accepted message, and after a refused one.
 use mathlib.Core.Path.{_≡_, refl, sym, _∙_}
 use mathlib.Core.Bool.{Bool, true, false, cond, not, _&&_, false≢true}
-use Rattle.rules.specs.declared.{Call.Call, Opening.Opening, Register.Register, Outcome.Outcome}
+use Rattle.rules.specs.declared.{Opening.Opening, Outcome.Outcome}
 use Rattle.rules.specs.Answers.{isAccepted}
 use Rattle.rules.specs.Rejections.{openingAnswer}
 use Rattle.rules.specs.Pinned.Register.{says, advanced, done, opened, applied}

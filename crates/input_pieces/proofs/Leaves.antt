@@ -28,7 +28,8 @@ use Rattle.input_pieces.proofs.Turns.{Turned}
 use Rattle.input_point.specs.Between.Deeds.{deedOf}
 use Rattle.input_point.specs.Between.Daily.{dailyOf}
 use Rattle.input_point.proofs.DailyRules.{read, reads, Stores, daily-stores}
-use Rattle.input_point.proofs.Stored.{isWhole, bookedBack, storedIn, deed-stored, slot-sized, back-sized, Within, deed-within}
+use Rattle.input_point.proofs.DeedsDone.{Within, deed-within}
+use Rattle.input_point.proofs.Stored.{isWhole, bookedBack, storedIn, deed-stored, slot-sized, back-sized}
 
 -- The answer a, and the tables after it.
 pub record Next (d : Desk) (m : Message) (a : Answer) (ready : Bool) (S : Settings) (day : ℕ) (u : List Bool) (fs : List Fields) (ns : List ℕ)
@@ -115,12 +116,14 @@ module _ (z : State) where
         module _ {x : Deed} (hx : x ≡ deedOf (z .quiet) m y (getD ns i 0) (getD ss (24 * i + k) noPeriod)) where
           stored : isWhole x ≡ false → desk (z .ready) (storedIn (z .set) (z .day) (z .contracts) fs ns ss i x) ≡ deskAfter d m
           stored w =
-              let e : x ≡ deedOf (z .quiet) m (saidBy (z .set) (z .day) (z .contracts) (z .ready) m (getD fs i blank) (getD ns i 0) (newestStart i (getD ns i 0) ss))
-              (getD ns i 0) (getD ss (24 * i + (min (getD ns i 0) 24 - 1)) noPeriod) = rw (told .said, hk) at hx in
+              let e : x ≡ deedOf (z .quiet) m
+              (saidBy (z .set) (z .day) (z .contracts) (z .ready) m (getD fs i blank) (getD ns i 0) (newestStart i (getD ns i 0) ss)) (getD ns i 0)
+              (getD ss (24 * i + (min (getD ns i 0) 24 - 1)) noPeriod) = rw (told .said, hk) at hx in
               sym (deed-stored (z .set) (z .day) (z .contracts) fs ns ss sized (z .quiet) calm i lt (z .ready) m hi (rw (told .answer) at ok) x e w)
 
           pub slot-next : {e : Entry} → x ≡ Deed.Slot e → {due quiet′ : ℕ} → due ≡ dueDay (e .fields .supply) → quiet′ ≡ min (z .quiet) due →
-              Next d m a (z .ready) (z .set) (e .today) (z .contracts) (set fs i (e .fields)) (set ns i (e .count)) (set ss (24 * i + e .place) (e .period)) quiet′
+              Next d m a (z .ready) (z .set) (e .today) (z .contracts) (set fs i (e .fields)) (set ns i (e .count))
+              (set ss (24 * i + e .place) (e .period)) quiet′
           slot-next {e} h {quiet′ = quiet′} hd hq =
               record {
                 turned = record { answer = told .answer; after = rw h at (stored (rw h)) };
@@ -129,7 +132,8 @@ module _ (z : State) where
               }
 
           pub back-next : {t : ℕ} {s : Span} {g : Fields} → x ≡ Deed.Back t s g → {ss′ : List Period} → ss′ ≡ bookedBack s i ns ss →
-              {due quiet′ : ℕ} → due ≡ dueDay (g .supply) → quiet′ ≡ min (z .quiet) due → Next d m a (z .ready) (z .set) t (z .contracts) (set fs i g) ns ss′ quiet′
+              {due quiet′ : ℕ} → due ≡ dueDay (g .supply) → quiet′ ≡ min (z .quiet) due →
+              Next d m a (z .ready) (z .set) t (z .contracts) (set fs i g) ns ss′ quiet′
           back-next {t} {s} {g} h hs {quiet′ = quiet′} hd hq =
               record {
                 turned = record { answer = told .answer; after = rw hs (rw h at (stored (rw h))) };

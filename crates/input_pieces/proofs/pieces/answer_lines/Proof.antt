@@ -21,13 +21,15 @@ use Rattle.input_pieces.proofs.pieces.answer_lines.Statement.{statement
 use Rattle.input_pieces.proofs.pieces.answer_lines.Tie as tie
 
 abbrev Inv-loop : tie.InvT-loop
-Inv-loop opened since piece out₀ part₀ ready₀ set₀ day₀ contracts₀ fields₀ counts₀ slots₀ quiet₀ known₀ at₀ written₀ out part ready set day contracts fields counts slots quiet known at written =
+Inv-loop opened since piece out₀ part₀ ready₀ set₀ day₀ contracts₀ fields₀ counts₀ slots₀ quiet₀ known₀ at₀ written₀
+    out part ready set day contracts fields counts slots quiet known at written =
     Going piece out₀ (desk ready₀ (registerIn set₀ day₀ contracts₀ fields₀ counts₀ slots₀)) (kept part₀) out part
     (desk ready (registerIn set day contracts fields counts slots)) at written
     × IsKnown known × Sized fields counts slots × (quiet ≤ firstDue fields)
 
 abbrev μ-loop : tie.MeasureT-loop
-μ-loop opened since piece out₀ part₀ ready₀ set₀ day₀ contracts₀ fields₀ counts₀ slots₀ quiet₀ known₀ at₀ written₀ out part ready set day contracts fields counts slots quiet known at written =
+μ-loop opened since piece out₀ part₀ ready₀ set₀ day₀ contracts₀ fields₀ counts₀ slots₀ quiet₀ known₀ at₀ written₀
+    out part ready set day contracts fields counts slots quiet known at written =
     length piece - at
 
 loop-holds : tie.Need-loop-holds Inv-loop μ-loop
@@ -52,15 +54,27 @@ add-at c = let i = c .before .before .before .before in
 
 add-slots-2 : tie.Need-add-slots-2 Inv-loop μ-loop
 add-slots-2 c = let x = c .before .before .before in let k = x .before .before .before .before .before .before .before in
-    omega (arith, k .before .before .before .before .before .before .place-of .ensures .1, place-within _ _ _ _ _ (x .deed .given .1) (x .before .before .deed-of .ensures))
+    omega (
+      arith,
+      k .before .before .before .before .before .before .place-of .ensures .1,
+      place-within _ _ _ _ _ (x .deed .given .1) (x .before .before .deed-of .ensures),
+    )
 
 mul-slots-4 : tie.Need-mul-slots-4 Inv-loop μ-loop
 mul-slots-4 c = let x = c .before .before .before in let k = x .before .before .before .before .before .before .before in
-    omega (arith, k .before .before .before .before .before .before .place-of .ensures .1, place-within _ _ _ _ _ (x .deed .given .1) (x .before .before .deed-of .ensures))
+    omega (
+      arith,
+      k .before .before .before .before .before .before .place-of .ensures .1,
+      place-within _ _ _ _ _ (x .deed .given .1) (x .before .before .deed-of .ensures),
+    )
 
 array-set-from-slots-2 : tie.Need-array-set-from-slots-2 Inv-loop μ-loop
 array-set-from-slots-2 c = let x = c .before .before .before in let k = x .before .before .before .before .before .before .before in
-    omega (arith, k .before .before .before .before .before .before .place-of .ensures .1, place-within _ _ _ _ _ (x .deed .given .1) (x .before .before .deed-of .ensures))
+    omega (
+      arith,
+      k .before .before .before .before .before .before .place-of .ensures .1,
+      place-within _ _ _ _ _ (x .deed .given .1) (x .before .before .deed-of .ensures),
+    )
 
 loop-less : tie.Need-loop-less Inv-loop μ-loop
 loop-less c = let k = c .before .before .before .before .before .before .before .before in
@@ -152,9 +166,12 @@ answer-lines-spec =
     (λ c. let k = c .before .before .before .before .before .before .before .before in
     omega (arith, k .before .before .before .before .before .before .before .before .place-of .ensures .1))
     add-slots-2 mul-slots-4 array-set-from-slots-2 (λ c κs. search needs) (λ c κs. search needs) (λ c. search needs)
-    (λ c. omega (arith, c .before .before .before .before .before .before .before .before .before .before .before .before .before .before .place-of .ensures .1))
-    (λ c. omega (arith, c .before .before .before .before .before .before .before .before .before .before .before .before .before .before .place-of .ensures .1))
-    (λ c κs. omega (arith, c .before .before .before .before .before .before .before .before .before .before .before .before .before .before .place-of .ensures .1))
+    (λ c. let k = c .before .before .before .before .before .before .before in
+    omega (arith, k .before .before .before .before .before .before .before .place-of .ensures .1))
+    (λ c. let k = c .before .before .before .before .before .before .before in
+    omega (arith, k .before .before .before .before .before .before .before .place-of .ensures .1))
+    (λ c κs. let k = c .before .before .before .before .before .before .before in
+    omega (arith, k .before .before .before .before .before .before .before .place-of .ensures .1))
     (λ c κs. search needs) (λ c κs. search needs) (λ c. search needs)
     (λ c. supplier-within _ _ _ _ _ (c .before .deed3 .given .1) (c .before .before .before .deed-of .ensures))
     (λ c. search needs) (λ c. search needs) (λ c κs. search needs) (λ c κs. search needs) (λ c κs. search needs)

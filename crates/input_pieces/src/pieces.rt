@@ -165,18 +165,7 @@ pub(crate) fn answer_lines(
         let line = next_line(piece, at, known);
         let end = line.end;
         if piece.len() <= end {
-            return at_end(
-                ready,
-                set,
-                day,
-                contracts,
-                fields,
-                counts,
-                slots,
-                part,
-                &piece[at..],
-                written,
-            );
+            break;
         }
         let read = line.read;
         let whole = whole_message(part, read, &piece[at..end]);

@@ -103,20 +103,21 @@ module _ (S : Settings) (day : ℕ) (u : List Bool) (fs : List Fields) (ns : Lis
   ]
 
   -- what the tables have at the place of the point that a call names
+  abbrev here : ℕ → ℕ → View
+  here t i = viewOn S day t (seen (getD fs i blank) (min (getD ns i 0) 24) (newestStart i (getD ns i 0) ss))
+
   module _ (ready : Bool) where
     pub at-settled : (t p : ℕ) (a : PointAction) (i : ℕ) → i ≡ placeIn (Action.At p a) →
         answer S day u (record { today = t; action = Action.At p a }) (w t)
-        ≡ rulingAt S day u t p a (viewOn S day t (seen (getD fs i blank) (min (getD ns i 0) 24) (newestStart i (getD ns i 0) ss))) .answer
+        ≡ rulingAt S day u t p a (here t i) .answer
     unfolding answer rulingAt answerAt answerTo rows accepted
     at-settled t p a i e = go (notPoint p) refl e
       where
         go : (b : Bool) → notPoint p ≡ b → i ≡ cond b 0 (p - 1) →
-            answerTo S day u t (Action.At p a) (shown (w t))
-            ≡ rulingAt S day u t p a (viewOn S day t (seen (getD fs i blank) (min (getD ns i 0) 24) (newestStart i (getD ns i 0) ss))) .answer
-        go true q k = answer-none S day u t p a (shown (w t)) (λ x. viewOn S day t (seen (getD fs i blank) (min (getD ns i 0) 24) (newestStart i (getD ns i 0) ss))) q
+            answerTo S day u t (Action.At p a) (shown (w t)) ≡ rulingAt S day u t p a (here t i) .answer
+        go true q k = answer-none S day u t p a (shown (w t)) (λ x. here t i) q
         go false q k = let h = point-in p q in
-            answer-at S day u t p a (shown (w t)) (λ x. viewOn S day t (seen (getD fs i blank) (min (getD ns i 0) 24) (newestStart i (getD ns i 0) ss)))
-            (shown-in (w t) p (h .0) (h .1) ∙ rw k)
+            answer-at S day u t p a (shown (w t)) (λ x. here t i) (shown-in (w t) p (h .0) (h .1) ∙ rw k)
 
     plain : (t s : ℕ) → answerTo S day u t (Action.Contract s) (shown (w t)) ≡ answerTo S day u t (Action.Contract s) (λ p. blankView)
     unfolding answerTo rows accepted

@@ -162,29 +162,21 @@ module _ (S : Settings) (day : ℕ) (u : List Bool) (fs : List Fields) (ns : Lis
         accepted-noted S t a (getD fs i blank) (history n (rowAt i ss)) acc,
       )
 
-  signed : (t s : ℕ) → done t (Action.Contract s) (register S t u (pointsOf fs ns ss)) ≡ register S t (set u s true) (pointsOf fs ns ss)
-  unfolding done
-  signed t s = refl
-
-  passed-day : (t : ℕ) → done t Action.Day (register S t u (pointsOf fs ns ss)) ≡ register S t u (pointsOf fs ns ss)
-  unfolding done
-  passed-day t = refl
-
   abbrev told : ℕ → Action → Said
   told t a = callSaid S day u t a (getD fs i blank) n (last .start)
 
   call-stored : (t : ℕ) (a : Action) → t < quiet → i ≡ placeIn a → isAccepted (says r (on t a)) ≡ true → (x : Deed) →
       x ≡ callDeed t a (told t a) n last → isWhole x ≡ false →
       done t a (register S t u (pointsOf fs ns ss)) ≡ storedIn S day u fs ns ss i x
-  unfolding callDeed callSaid ruledDeed
+  unfolding callDeed callSaid ruledDeed done
   call-stored t (Action.Contract s) h hi ok x e w = go (ltb s 100) e
     where
       go : (b : Bool) → x ≡ cond b (Deed.Sign t s) Deed.Whole → done t (Action.Contract s) (register S t u (pointsOf fs ns ss)) ≡ storedIn S day u fs ns ss i x
-      go true k = rw k (signed t s)
+      go true k = rw k
       go false k = absurd (whole-not x k w)
   call-stored t (Action.Failure s) h hi ok x e w = absurd (whole-not x e w)
   call-stored t (Action.At p a) h hi ok x e w = rw e (at-stored t p a h hi ok)
-  call-stored t Action.Day h hi ok x e w = rw e (passed-day t)
+  call-stored t Action.Day h hi ok x e w = rw e
 
   pub deed-stored : (ready : Bool) (m : Message) → i ≡ placeOf m → isAccepted (answerOf (desk ready r) m) ≡ true → (x : Deed) →
       x ≡ deedOf quiet m (saidBy S day u ready m (getD fs i blank) n (last .start)) n last → isWhole x ≡ false →

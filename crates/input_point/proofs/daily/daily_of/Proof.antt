@@ -1,7 +1,8 @@
 -- Only a call at a point, on the register's own day, before anything falls due.
 use mathlib.Core.Path.{_≡_, refl}
 use mathlib.Core.List.{[], _∷_}
-use Prim.Native.Nat.{ℕ}
+use Prim.Native.Nat.{ℕ, _<_}
+use native.Mathlib.Omega.{arith}
 use borrow.Author.Tests.{not-true, not-false, eq-eqb, ne-eqb, lt-ltb, le-ltb}
 use types.Run.{miss}
 use Rattle.rules.specs.declared.{Action.Action, Fields.Fields, Period.Period, PointAction.PointAction}
@@ -27,29 +28,22 @@ returns-2 c = let r = c .before .before in let o = r .before .before in
 returns-3 : tie.Need-returns-3
 unfolding dailyOf
 returns-3 c = let t = c .before in let r = t .before .before in let o = r .before .before in
-    rw (o .m .given .1, not-false (o .before .before .args .ready) (r .if1 .left), eq-eqb _ _ (t .if2 .left), le-ltb _ _ (c .if3 .taken))
+    let s = o .before .before .args in let y = not-false (s .ready) (r .if1 .left) in
+    rw (o .m .given .1, y, eq-eqb _ _ (t .if2 .left), le-ltb (s .day) (s .quiet) (omega (arith, c .if3 .taken)))
 
 returns-5 : tie.Need-returns-5
 unfolding dailyOf dailyIn
 returns-5 c = let b = c .before .before in let i = b .before .before in let t = i .before in let r = t .before .before in
-    let o = r .before .before in
-    rw (
-      o .m .given .1,
-      not-false (o .before .before .args .ready) (r .if1 .left),
-      eq-eqb _ _ (t .if2 .left),
-      lt-ltb _ _ (i .if3 .left),
-      b .a .given .1,
-    ) (c .daily-at .ensures)
+    let o = r .before .before in let s = o .before .before .args in let y = not-false (s .ready) (r .if1 .left) in
+    let early : s .day < s .quiet = omega (arith, i .if3 .left) in
+    rw (o .m .given .1, y, eq-eqb _ _ (t .if2 .left), lt-ltb _ _ early, b .a .given .1) (c .daily-at .ensures)
 
 returns-6 : tie.Need-returns-6
 unfolding dailyOf
 returns-6 c = let i = c .before in let t = i .before in let r = t .before .before in let o = r .before .before in
-    rw (
-      o .m .given .1,
-      not-false (o .before .before .args .ready) (r .if1 .left),
-      eq-eqb _ _ (t .if2 .left),
-      lt-ltb _ _ (i .if3 .left),
-    ) (not-at _ _ _ _ _ (λ p a e. miss (0 ∷ 1 ∷ 3 ∷ []) 2 tt (rw e at (c .match2 .keys2))))
+    let y = not-false (o .before .before .args .ready) (r .if1 .left) in
+    rw (o .m .given .1, y, eq-eqb _ _ (t .if2 .left), lt-ltb _ _ (i .if3 .left))
+    (not-at _ _ _ _ _ (λ p a e. miss (0 ∷ 1 ∷ 3 ∷ []) 2 tt (rw e at (c .match2 .keys2))))
 
 pub daily-of-spec : {M : Type 1} → statement M
 daily-of-spec = tie.close (tie.spec (λ c. search needs) (λ c. search needs) (λ c. unfold dailyOf in

@@ -32,10 +32,8 @@ returns c = let k = c .before in rw (said _ _ _ _ _ _ (k .before .reading-answer
 returns-2 : tie.Need-returns-2
 unfolding dailyRead
 returns-2 c = let l = c .before in let i = l .before .before .before in let k = i .before in
-    rw (
-      said _ _ _ _ _ _ (k .before .reading-answer .ensures) (k .is-accepted .ensures) (not-false _ (i .if1 .left)),
-      sym (l .lies-in .ensures) ∙ not-true _ (c .if2 .taken),
-    )
+    let ok = said _ _ _ _ _ _ (k .before .reading-answer .ensures) (k .is-accepted .ensures) (not-false _ (i .if1 .left)) in
+    rw (ok, sym (l .lies-in .ensures) ∙ not-true _ (c .if2 .taken))
 
 cast-at : tie.Need-cast-at
 cast-at c = let i = c .before .before .before .before in let k = i .before in

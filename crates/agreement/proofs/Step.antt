@@ -12,7 +12,7 @@ use borrow.Author.Tests.{eqb-true, eqb-false, ltb-false}
 use Rattle.dates.specs.Dates.{lastDay}
 use Rattle.rules.specs.declared.{Fields.Fields, Point.Point, Register.Register, Settings.Settings, Span.Span}
 use Rattle.rules.specs.declared.{Call.Call, Action.Action, Effect.Effect}
-use Rattle.rules.specs.Effects.{spansIn, effectOf, effect}
+use Rattle.rules.specs.Effects.{spansIn, effectOf, effect, signed}
 use Rattle.rules.specs.Answers.{isAccepted}
 use Rattle.rules.specs.declared.{View.View}
 use Rattle.rules.specs.Rejections.{answerTo, shown, answer}
@@ -20,7 +20,7 @@ use Rattle.rules.specs.Pinned.Register
 use Rattle.rules.specs.Pinned.Register.{entered, catchUp, view, register, pointAt, noPoint, advanced, acted, failedPoint}
 use Rattle.rules.specs.Pinned.Register.{done, applied}
 use Rattle.rules.specs.DayBook
-use Rattle.rules.specs.DayBook.{Book, Page, upToDay, look, signed, written, next, does}
+use Rattle.rules.specs.DayBook.{Book, Page, upToDay, look, written, next, does}
 use Rattle.rules.proofs.Views.{answer-ext, answer-off, passed, accepted-point}
 use Rattle.agreement.proofs.Kept.{enrolledBy, call-good}
 use Rattle.agreement.proofs.Tied.{Tied, views-agree, effect-tied}

@@ -9,8 +9,8 @@ use borrow.Author.Tests.{eqb-false, ne-eqb}
 use Rattle.line_values.specs.Pinned.Words.{isSame}
 use Rattle.line_values.proofs.Steps.{other-length, same-words}
 use Rattle.line_kinds.specs.declared.{Kind.Kind}
-use Rattle.line_kinds.specs.Kinds.{word}
-use Rattle.line_kinds.specs.Pinned.Naming.{kinds, ofLength, kindIn, kindNamed}
+use Rattle.line_kinds.specs.Kinds.{kinds, word}
+use Rattle.line_kinds.specs.Pinned.Naming.{ofLength, kindIn, kindNamed}
 
 -- only the kinds whose word is as long are left
 pub kind-of-length : (n : ℕ) (ks : List Kind) (w : List ℕ) → length w ≡ n → kindIn ks w ≡ kindIn (ofLength n ks) w

@@ -14,8 +14,8 @@ use Rattle.line_fields.specs.Between.Shapes.{mostFields, sortsOf, fieldsAs, sor
 use Rattle.line_fields.specs.Pinned.Reading.{AllParsed, values, unread, fieldsOf}
 use Rattle.line_fields.proofs.FieldTexts.{fields-back, FieldsAre, fields-only, fields-short, sorts-as, fields-of-values, fields-zeros}
 use Rattle.line_kinds.specs.declared.{Kind.Kind}
-use Rattle.line_kinds.specs.Kinds.{word, shapeOf}
-use Rattle.line_kinds.specs.Pinned.Naming.{kinds, kindNamed}
+use Rattle.line_kinds.specs.Kinds.{kinds, word, shapeOf}
+use Rattle.line_kinds.specs.Pinned.Naming.{kindNamed}
 use Rattle.line_kinds.proofs.KindTable.{sound}
 use Rattle.line_kinds.proofs.Naming.{NamedBy, named, unnamed, found}
 use Rattle.line_messages.specs.declared.{Message.Message}

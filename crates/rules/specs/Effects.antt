@@ -6,11 +6,12 @@
 -- acceptedBy the answer to an accepted call that has this effect
 -- event      the event of a gas day, if one falls on it
 -- effectOf   what an accepted call does to the point that it names; `failed`: what a failure does to any point
--- effect     what an accepted call does to point p
+-- effect     what an accepted call does to point p; `signed`: to who is under contract
 use mathlib.Core.Bool.{Bool, true, false, cond}
 use mathlib.Core.List.{List, [], _∷_}
 use Prim.Native.Nat.{ℕ, _+_, max}
 use lib.Dec.{eqb}
+use lib.ListN.{set}
 use Rattle.rules.specs.declared.{Effect.Effect, Fields.Fields, Settings.Settings, SupplyKind.SupplyKind}
 use Rattle.rules.specs.declared.{Pending.Pending, Span.Span, Action.Action, PointAction.PointAction}
 use Rattle.rules.specs.declared.{Answer.Answer}
@@ -123,3 +124,10 @@ effect S t (Action.Contract s) p f = Effect.Keep f
 effect S t (Action.Failure s) p f = failed S t s f
 effect S t (Action.At q a) p f = cond (eqb p q) (effectOf S t a f) (Effect.Keep f)
 effect S t Action.Day p f = Effect.Keep f
+
+-- 1: "s is under contract"; 2: "s loses its contract"
+abbrev pub signed : Action → List Bool → List Bool
+signed (Action.Contract s) u = set u s true
+signed (Action.Failure s) u = set u s false
+signed (Action.At p a) u = u
+signed Action.Day u = u

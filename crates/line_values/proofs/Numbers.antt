@@ -13,6 +13,11 @@ use Rattle.line_text.proofs.Spelling.{spell-room}
 use Rattle.line_values.specs.Pinned.Numbers.{number, isDigit, moreOf, numberOf}
 use Rattle.line_values.specs.OneText.{Stops}
 
+-- 0 is read by itself: no digit follows it
+zero-back : (l : List ℕ) → numberOf (48 ∷ l) ≡ number 0 l
+unfolding numberOf
+zero-back l = refl
+
 pub is-digit : (d : ℕ) → d < 10 → isDigit (48 + d) ≡ true
 is-digit d h = rw (le-leb 48 (48 + d) (omega arith), le-leb (48 + d) 57 (omega arith))
 
@@ -41,7 +46,7 @@ number-spelled (suc k) n l p h hk = cases (ltb n 10)
 
 pub number-back : (n : ℕ) (l : List ℕ) → n < 10 ^ 12 → Stops l → numberOf (decimal n l) ≡ number n l
 unfolding spell numberOf
-number-back zero l h s = refl
+number-back zero l h s = zero-back l
 number-back (suc n) l h s = number-spelled 20 (suc n) l (omega arith) h (omega arith) ∙ more-stops (suc n) l s
 
 -- the last digit of a number of two or more

@@ -1,5 +1,7 @@
 -- `line_values::date_at` meets its contract: the year, the month, the day, and then the calendar.
-use Rattle.line_values.proofs.Steps.{date-steps}
+use mathlib.Core.Path.{sym, ap, _∙_}
+use Rattle.dates.specs.declared.{DayAnswer.DayAnswer}
+use Rattle.line_values.proofs.Steps.{dayFound, date-steps}
 use borrow.Author.Needs.{needs}
 use Rattle.line_values.proofs.date_at.Statement.{statement}
 use Rattle.line_values.proofs.date_at.Tie as tie
@@ -17,13 +19,15 @@ returns-4 : tie.Need-returns-4
 returns-4 c = let c₂ = c .before .before in let c₄ = c₂ .before .before in let c₆ = c₄ .before .before in
     let c₈ = c₆ .before .before in let c₁₀ = c₈ .before .before in let c₁₂ = c₁₀ .before .before in
     rw (date-steps, ← c₁₂ .before .before .fixed-at .ensures, c₁₂ .year .given .1, ← c₁₀ .fixed-at2 .ensures, c₈ .month .given .1)
-    (rw (← c₆ .fixed-at3 .ensures, c₄ .day .given .1, ← c₂ .day-of .ensures, c .enum-told4 .given .1))
+    (rw (← c₆ .fixed-at3 .ensures, c₄ .day .given .1)
+    (ap (λ (a : DayAnswer). dayFound a (c₄ .day .given .0 .1 .0)) (sym (c .enum-told4 .given .1) ∙ c₂ .day-of .ensures)))
 
 returns-5 : tie.Need-returns-5
 returns-5 c = let c₃ = c .before .before .before in let c₅ = c₃ .before .before in let c₇ = c₅ .before .before in
     let c₉ = c₇ .before .before in let c₁₁ = c₉ .before .before in let c₁₃ = c₁₁ .before .before in
     rw (date-steps, ← c₁₃ .before .before .fixed-at .ensures, c₁₃ .year .given .1, ← c₁₁ .fixed-at2 .ensures, c₉ .month .given .1)
-    (rw (← c₇ .fixed-at3 .ensures, c₅ .day .given .1, ← c₃ .day-of .ensures, c .before .n .given .1))
+    (rw (← c₇ .fixed-at3 .ensures, c₅ .day .given .1)
+    (ap (λ (a : DayAnswer). dayFound a (c₅ .day .given .0 .1 .0)) (sym (c .before .n .given .1) ∙ c₃ .day-of .ensures)))
 
 pub date-at-spec : {M : Type 1} → statement M
 date-at-spec = tie.close (tie.spec (λ c κs. search needs) (λ c. search needs) (λ c. search needs)

@@ -26,13 +26,13 @@ returns-2 c = let w = c .before .before .before in
 returns-3 : tie.Need-returns-3 Inv-loop μ-loop
 returns-3 c = let w = c .before .before .before .before in
     let d = in-digit _ (c .before .before .if1 .left) (c .before .if2 .left) in
-    rw (w .before .loop .inv .1, cons-at _ _ (w .loop-test .taken), more-step, d, le-ltb _ _ (c .if3 .taken))
+    rw (w .before .loop .inv .1, cons-at _ _ (w .loop-test .taken), more-step, d, le-ltb _ (10 ^ 11) (c .if3 .taken))
 
 loop-again : tie.Need-loop-again Inv-loop μ-loop
 loop-again c = let c₁ = c .before in let w = c₁ .before .before .before .before in
     let d = in-digit _ (c₁ .before .before .if1 .left) (c₁ .before .if2 .left) in (
       omega arith,
-      rw (c .digit .ensures, w .before .loop .inv .1, cons-at _ _ (w .loop-test .taken), more-step, d, lt-ltb _ _ (c₁ .if3 .left)),
+      rw (c .digit .ensures, w .before .loop .inv .1, cons-at _ _ (w .loop-test .taken), more-step, d, lt-ltb _ (10 ^ 11) (c₁ .if3 .left)),
     )
 
 returns-4 : tie.Need-returns-4 Inv-loop μ-loop

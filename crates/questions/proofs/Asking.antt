@@ -1,15 +1,16 @@
 -- The questions after any list of calls. The statement is specs/Asking.antt.
 use mathlib.Core.Path.{_≡_, refl, _∙_, ap}
-use mathlib.Core.Bool.{Bool, true, false, cond, _&&_, _||_}
+use mathlib.Core.Bool.{Bool, true, false, cond, _&&_, _||_, or-true}
 use mathlib.Core.List.{List, [], _∷_}
 use mathlib.Core.Option.{Option, none, some}
 use Prim.Native.Nat.{ℕ, zero, suc, _-_, _^_, _≤_, _<_}
 use native.Mathlib.Omega.{arith}
 use native.Mathlib.Decide.{decLe}
+use borrow.Table.Steps.{cases}
 use lib.Dec.{eqb, leb}
 use lib.ListN.{length}
 use native.Mathlib.Nat.{not-suc-le-zero}
-use borrow.Author.Tests.{lt-ltb, le-ltb, le-leb, lt-leb, ne-eqb}
+use borrow.Author.Tests.{lt-ltb, le-ltb, le-leb, lt-leb, ne-eqb, not-true, not-false}
 use Rattle.rules.specs.declared.{Opening.Opening, Call.Call, Register.Register, Span.Span, Point.Point}
 use Rattle.questions.specs.declared.{HolderAnswer.HolderAnswer, PeriodAnswer.PeriodAnswer, AdvanceAnswer.AdvanceAnswer}
 use Rattle.questions.specs.declared.HolderAnswer.the-variants as holder
@@ -31,7 +32,7 @@ use Rattle.agreement.proofs.Theorem.{day-book-agrees}
 use Rattle.questions.proofs.Seen.{pending-unseen, request-unseen}
 use Rattle.questions.specs.ByBook.{nth, askedNumber, sinceEnrolment, bookPeriods, bookHolder, bookPeriod, bookAdvance}
 use Rattle.questions.specs.Asking.{Asking}
-use Rattle.questions.proofs.Asked.{range-in, asked-in, not-on, not-off}
+use Rattle.questions.proofs.Asked.{range-in, asked-in}
 use Rattle.rules.proofs.Accept.{neither}
 use Rattle.questions.proofs.Calendar.{run-day}
 use Rattle.questions.proofs.Covers.{Tells, among-covered, among-before, sum-exact}
@@ -86,26 +87,18 @@ module _ (o : Opening) (ok : isAccepted (openingAnswer o) ≡ true) (calls : Lis
 
     unborn : unasked r p ≡ true → (n ≡ []) × (listed (point .history) ≡ [])
     unborn off = let h = tied .point in
-        h .born .outside (rw (h .same) (not-on _ (rw (le-ltb p 1 lo, le-ltb 32 p hi) at off)))
+        h .born .outside (rw (h .same) (not-true _ (rw (le-ltb p 1 lo, le-ltb 32 p hi) at off)))
 
   -- a point that may not be asked of: the day book has nothing to tell
   module _ (off : unasked r p ≡ true) where
     none-made : {A : Type 0} (f : ℕ → Option A) → cond (notPoint p) none (sinceEnrolment n f) ≡ none
-    none-made f = go (notPoint p) refl
-      where
-        go : (b : Bool) → notPoint p ≡ b → cond b none (sinceEnrolment n f) ≡ none
-        go true e = refl
-        go false e = let k = range-in 1 32 p e in rw (unborn (k .0) (k .1) off .0)
+    none-made f = cases (notPoint p) (λ e. rw e) (λ e. let k = range-in 1 32 p e in rw (e, unborn (k .0) (k .1) off .0))
 
     none-kept : (b : Bool) (m : ℕ) → cond (notPoint p || b) none (nth m (bookPeriods o calls p)) ≡ none
     unfolding nth
-    none-kept b m = go (notPoint p) b refl
-      where
-        go : (a b : Bool) → notPoint p ≡ a → cond (a || b) none (nth m (bookPeriods o calls p)) ≡ none
-        go true b e = refl
-        go false true e = refl
-        go false false e = let k = range-in 1 32 p e in
-            rw (← (periods-are (k .0) (k .1)), take-listed (point .history) (point-sized (k .0) (k .1)), unborn (k .0) (k .1) off .1)
+    none-kept true m = rw (or-true (notPoint p))
+    none-kept false m = cases (notPoint p) (λ e. rw e) (λ e. let k = range-in 1 32 p e in
+        rw (e, ← periods-are (k .0) (k .1), take-listed (point .history) (point-sized (k .0) (k .1)), unborn (k .0) (k .1) off .1))
 
   -- a point that may be asked of
   module _ (on : unasked r p ≡ false) where
@@ -119,7 +112,7 @@ module _ (o : Opening) (ok : isAccepted (openingAnswer o) ≡ true) (calls : Lis
     h = tied (here .0) (here .1)
 
     since : Since n (listed (point .history)) (g .fields .reading .day)
-    since = h .point .born .inside (rw (h .point .same) (not-off _ (neither (notPoint p) _ on .1)))
+    since = h .point .born .inside (rw (h .point .same) (not-false _ (neither (notPoint p) _ on .1)))
 
     used-all : used (point .history) ≡ point .history .count
     used-all = used-count (point .history) (h .point .sized)
@@ -175,45 +168,30 @@ module _ (o : Opening) (ok : isAccepted (openingAnswer o) ≡ true) (calls : Lis
   -- the three questions
   holder-is : (d : ℕ) → holderTold (holderAnswer r p d) ≡ bookHolder o calls p d
   unfolding bookHolder
-  holder-is d = rw same-day (go (unasked r p) refl)
-    where
-      go : (b : Bool) → unasked r p ≡ b → holderTold (holderAnswer r p d)
-          ≡ cond (notPoint p) none (sinceEnrolment n (λ e. cond (leb e d && leb d (r .day)) (holderOn d (g .cells)) none))
-      go true off =
-          rw (none-made off (λ e. cond (leb e d && leb d (r .day)) (holderOn d (g .cells)) none)) (unfold holderAnswer in rw off)
-      go false on = let e = since on .enrolment in rw (is-point on, since on .one) (elim (decLe e d) [
+  holder-is d = rw same-day (cases (unasked r p)
+      (λ off. rw (none-made off (λ e. cond (leb e d && leb d (r .day)) (holderOn d (g .cells)) none)) (unfold holderAnswer in rw off))
+      (λ on. let e = since on .enrolment in rw (is-point on, since on .one) (elim (decLe e d) [
         | yes le ↦ (elim (decLe d (r .day)) [
           | yes due ↦ rw (le-leb e d le, le-leb d (r .day) due) (holder-asked on d le due .0)
           | no late ↦ rw (le-leb e d le, lt-leb d (r .day) (omega arith)) (ap holderTold (holder-late on d (omega arith)))
         ])
         | no le ↦ rw (lt-leb e d (omega arith)) (ap holderTold (holder-early on d (omega arith)))
-      ])
+      ])))
 
   period-is : (m : ℕ) → periodTold (periodAnswer r p m) ≡ bookPeriod o calls p m
   unfolding bookPeriod
-  period-is m = go (unasked r p) refl
-    where
-      go : (b : Bool) → unasked r p ≡ b
-          → periodTold (periodAnswer r p m) ≡ cond (notPoint p || eqb m 0) none (nth (m - 1) (bookPeriods o calls p))
-      go true off = rw (none-kept off (eqb m 0) (m - 1)) (unfold periodAnswer in rw off)
-      go false on = rw (is-point on, ← (periods-are (here on .0) (here on .1))) (period-asked on m)
+  period-is m = cases (unasked r p) (λ off. rw (none-kept off (eqb m 0) (m - 1)) (unfold periodAnswer in rw off))
+      (λ on. rw (is-point on, ← periods-are (here on .0) (here on .1)) (period-asked on m))
 
   pub advance-is : advanceTold (advanceAnswer r p) ≡ bookAdvance o calls p
   unfolding bookAdvance
-  advance-is = go (unasked r p) refl
-    where
-      go : (b : Bool) → unasked r p ≡ b
-          → advanceTold (advanceAnswer r p) ≡ cond (notPoint p) none (sinceEnrolment n (λ e. some (registered l)))
-      go true off = rw (none-made off (λ e. some (registered l))) (unfold advanceAnswer in rw off)
-      go false on = rw (is-point on, since on .one) (ap advanceTold (advance-asked on))
+  advance-is = cases (unasked r p) (λ off. rw (none-made off (λ e. some (registered l))) (unfold advanceAnswer in rw off))
+      (λ on. rw (is-point on, since on .one) (ap advanceTold (advance-asked on)))
 
   answered-on : (e d : ℕ) → 1 ≤ p → p ≤ 32 → n ≡ e ∷ [] → e ≤ d → d ≤ r .day → holderNumber (holderAnswer r p d) ≡ 0
-  answered-on e d lo hi q le due = go (unasked r p) refl
-    where
-      go : (b : Bool) → unasked r p ≡ b → holderNumber (holderAnswer r p d) ≡ 0
-      go true off = let w : _≡_ {A = ℕ} 0 1 = cc (unborn lo hi off .0, q) in absurd (omega arith)
-      go false on =
-          let k : since on .enrolment ≡ e = cc (since on .one, q) in holder-asked on d (omega (arith, k)) due .1
+  answered-on e d lo hi q le due = cases (unasked r p)
+      (λ off. let w : _≡_ {A = ℕ} 0 1 = cc (unborn lo hi off .0, q) in absurd (omega arith))
+      (λ on. let k : since on .enrolment ≡ e = cc (since on .one, q) in holder-asked on d (omega (arith, k)) due .1)
 
 pub asking : Asking
 asking =

@@ -1,5 +1,5 @@
 -- The questions after any list of calls. The statement is specs/Asking.antt.
-use mathlib.Core.Path.{_≡_, refl, _∙_, ap}
+use mathlib.Core.Path.{_≡_, refl, sym, _∙_, ap}
 use mathlib.Core.Bool.{Bool, true, false, cond, _&&_, _||_, or-true}
 use mathlib.Core.List.{List, [], _∷_}
 use mathlib.Core.Option.{Option, none, some}
@@ -7,7 +7,7 @@ use Prim.Native.Nat.{ℕ, zero, suc, _-_, _^_, _≤_, _<_}
 use native.Mathlib.Omega.{arith}
 use native.Mathlib.Decide.{decLe}
 use borrow.Table.Steps.{cases}
-use lib.Dec.{eqb, leb}
+use lib.Dec.{eqb, leb, ltb}
 use lib.ListN.{length}
 use native.Mathlib.Nat.{not-suc-le-zero}
 use borrow.Author.Tests.{lt-ltb, le-ltb, le-leb, lt-leb, ne-eqb, not-true, not-false}
@@ -21,7 +21,7 @@ use Rattle.rules.specs.Answers.{isAccepted}
 use Rattle.questions.specs.Pinned.Questions.{holderNumber, holderTold, periodNumber, periodTold, advanceNumber, advanceTold}
 use Rattle.rules.specs.Rejections.{openingAnswer, notPoint}
 use Rattle.rules.specs.Pinned.Register.{used, pointAt}
-use Rattle.questions.specs.Pinned.Questions.{unasked, holderAnswer, periodAnswer, advanceAnswer}
+use Rattle.questions.specs.Pinned.Questions.{unasked, holderAmong, holderAnswer, periodAnswer, advanceAnswer}
 use Rattle.rules.specs.DayBook.{opened, readings, enrolments, Page}
 use Rattle.rules.specs.Periods.{periodsOf, holderOn, book, register}
 use Rattle.agreement.proofs.Tally.{tally-desc, live-runs, Desc}
@@ -124,20 +124,20 @@ module _ (o : Opening) (ok : isAccepted (openingAnswer o) ≡ true) (calls : Lis
     falling = rw (h .point .told)
         (tally-desc (volume l) (g .cells) (suc (r .day)) 0 (live-runs (r .day) (g .cells) (h .point .live)))
 
-    holder-asked : (d : ℕ) → since .enrolment ≤ d → d ≤ r .day → Tells d (holderAnswer r p d) (holderOn d (g .cells))
+    holder-walk : (d : ℕ) → holderAnswer r p d ≡ cond (ltb (r .day) d) holder.OffRange (holderAmong d (point .history .count) (point .history .periods))
     unfolding holderAnswer
-    holder-asked d le due = let a = day-book-agrees o ok calls .points p (here .0) (here .1) in
-        rw (on, le-ltb (r .day) d due, used-all)
+    holder-walk d = rw (on, used-all)
+
+    holder-asked : (d : ℕ) → since .enrolment ≤ d → d ≤ r .day → Tells d (holderAnswer r p d) (holderOn d (g .cells))
+    holder-asked d le due = let a = day-book-agrees o ok calls .points p (here .0) (here .1) in rw (holder-walk d, le-ltb (r .day) d due)
         (among-covered d (point .history .count) (point .history .periods) _ slots (a .covered (since .enrolment) d (since .one) le due))
 
     holder-late : (d : ℕ) → r .day < d → holderAnswer r p d ≡ holder.OffRange
-    unfolding holderAnswer
-    holder-late d lt = rw (on, lt-ltb (r .day) d lt)
+    holder-late d lt = rw (holder-walk d, lt-ltb (r .day) d lt)
 
     holder-early : (d : ℕ) → d < since .enrolment → holderAnswer r p d ≡ holder.OffRange
-    unfolding holderAnswer
     holder-early d lt = let o = since .start (suc (r .day)) in elim (decLe d (r .day)) [
-      | yes due ↦ rw (on, le-ltb (r .day) d due, used-all)
+      | yes due ↦ rw (holder-walk d, le-ltb (r .day) d due)
           (among-before d (point .history .count) (point .history .periods) (suc (r .day)) falling (omega (arith, o)))
       | no late ↦ holder-late d (omega arith)
     ]
@@ -169,7 +169,7 @@ module _ (o : Opening) (ok : isAccepted (openingAnswer o) ≡ true) (calls : Lis
   holder-is : (d : ℕ) → holderTold (holderAnswer r p d) ≡ bookHolder o calls p d
   unfolding bookHolder
   holder-is d = rw same-day (cases (unasked r p)
-      (λ off. rw (none-made off (λ e. cond (leb e d && leb d (r .day)) (holderOn d (g .cells)) none)) (unfold holderAnswer in rw off))
+      (λ off. unfold holderAnswer in rw off (sym (none-made off (λ e. cond (leb e d && leb d (r .day)) (holderOn d (g .cells)) none))))
       (λ on. let e = since on .enrolment in rw (is-point on, since on .one) (elim (decLe e d) [
         | yes le ↦ (elim (decLe d (r .day)) [
           | yes due ↦ rw (le-leb e d le, le-leb d (r .day) due) (holder-asked on d le due .0)

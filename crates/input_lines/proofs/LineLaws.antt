@@ -1,6 +1,6 @@
 -- The lines of an input have no line feed, and with theirs they are the input again.
 use Prim.Native.Nat.{ℕ}
-use mathlib.Core.Path.{_≡_, refl}
+use mathlib.Core.Path.{_≡_, refl, ap, _∙_}
 use mathlib.Core.Bool.{Bool, true, false, cond}
 use mathlib.Core.List.{List, [], _∷_, _++_, append-assoc}
 use native.Mathlib.Omega.{arith}
@@ -31,7 +31,7 @@ last-back (b ∷ x) = refl
 back : (x l : List ℕ) → unlines (linesFrom x l) ≡ x ++ (l ++ ending (endsWithin (isSome x) l))
 unfolding linesFrom endsWithin unlines
 back x [] = last-back x
-back x (b ∷ l) = cases (eqb b 10) (λ e. rw (e, back [] l, ← eqb-true b 10 e))
+back x (b ∷ l) = cases (eqb b 10) (λ e. rw e (ap (λ (r : List ℕ). x ++ (10 ∷ r)) (back [] l) ∙ rw (← eqb-true b 10 e)))
     (λ e. rw (e, back (x ++ (b ∷ [])) l, some-snoc x b) (append-assoc x (b ∷ []) (l ++ ending (endsWithin true l))))
 
 feeds-snoc : (x : List ℕ) (b : ℕ) → feeds x ≡ 0 → eqb b 10 ≡ false → feeds (x ++ (b ∷ [])) ≡ 0

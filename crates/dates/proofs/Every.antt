@@ -11,6 +11,9 @@ and-left a b t = and-eq-true-iff a b .0 t .0
 pub and-right : (a b : Bool) → (a && b) ≡ true → b ≡ true
 and-right a b t = and-eq-true-iff a b .0 t .1
 
+pub and-both : (a b : Bool) → a ≡ true → b ≡ true → (a && b) ≡ true
+and-both a b s t = and-eq-true-iff a b .1 (s, t)
+
 -- the test holds at each number below n
 abbrev pub every : (ℕ → Bool) → ℕ → Bool
 every f zero = true

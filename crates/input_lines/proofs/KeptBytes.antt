@@ -25,12 +25,9 @@ capped-front x t = take-front keptBytes x t
 pub capped-more : (x : List ℕ) (b : ℕ) (t : List ℕ) → capped (capped (x ++ (b ∷ [])) ++ t) ≡ capped (x ++ (b ∷ t))
 capped-more x b t = capped-front (x ++ (b ∷ [])) t ∙ ap capped (append-assoc x (b ∷ []) t)
 
-pub capped-short : (l : List ℕ) → length l ≤ keptBytes → capped l ≡ l
-unfolding capped
-capped-short l h = take-all keptBytes l h
-
 pub capped-nil : (l : List ℕ) → length l ≤ keptBytes → capped (l ++ []) ≡ l
-capped-nil l h = ap capped (append-nil l) ∙ capped-short l h
+unfolding capped
+capped-nil l h = rw (append-nil l) (take-all keptBytes l h)
 
 pub capped-le : (l : List ℕ) → length (capped l) ≤ keptBytes
 unfolding capped
@@ -66,8 +63,8 @@ capped-append x more h = let s : keptBytes ≡ length x + (keptBytes - length x)
     ap (λ (l : List ℕ). x ++ l) (take-min (keptBytes - length x) more)
 
 -- the bytes held and as many of the new ones as fit
-pub begun-appended : (bytes more : List ℕ) (len held added : ℕ) (o₁ o₂ : List ℕ) (a b : ℕ) → length bytes ≡ keptBytes → held ≡ min len keptBytes →
-    added ≡ min (length more) (keptBytes - held) →
+pub begun-appended : (bytes more : List ℕ) (len held added : ℕ) (o₁ o₂ : List ℕ) (a b : ℕ) → length bytes ≡ keptBytes →
+    held ≡ min len keptBytes → added ≡ min (length more) (keptBytes - held) →
     Appended 0 (take held bytes) (replicate keptBytes 0) o₁ a → Appended a (take added more) o₁ o₂ b →
     record { len = b; bytes = o₂ } ≡ begunOf (capped (take (min len keptBytes) bytes ++ more))
 unfolding begunOf

@@ -7,6 +7,7 @@ use native.Mathlib.Omega.{arith}
 use native.Mathlib.Nat.{not-suc-le-zero}
 use borrow.Author.Tests.{ne-eqb}
 use lib.Dec.{eqb}
+use borrow.Table.Steps.{cases}
 use lib.ListN.{length, take, drop}
 use lib.Seq.{take-append-seam, take-all, drop-length}
 use Rattle.rules.specs.declared.{Register.Register}
@@ -50,11 +51,7 @@ unfolding listingFrom
 none-left r from h e = rw e (ap (listingFrom 33) (ap (λ (n : ℕ). drop n (r .points)) (sym h) ∙ drop-length (r .points)))
 
 closing-all : {d : Desk} {from : ℕ} {w : List ℕ} → Sized d → from ≤ 32 → Closing d from w → w ≡ toList d from
-closing-all {d} {from} s le (done h) = go (d .ready) refl
-  where
-    go : (b : Bool) → d .ready ≡ b → [] ≡ cond b (left (d .register) from) []
-    go true e = sym (none-left (d .register) from (s e) (omega arith))
-    go false e = refl
+closing-all {d} {from} s le (done h) = cases (d .ready) (λ e. rw e (sym (none-left (d .register) from (s e) (omega arith)))) (λ e. rw e)
 closing-all {d} {from} s le (more {w = w} before after x c rest) = let n = length before in
     let at : x .next ≡ closedNext d from n = ap (λ (y : Listed). y .next) (c .answer) in
     let long : x .written ≡ length (closingPiece d from n) = ap (λ (y : Listed). y .written) (c .answer) in

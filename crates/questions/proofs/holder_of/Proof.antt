@@ -15,10 +15,6 @@ holder-of-spec = tie.close (tie.spec (λ c κs. search needs)
     (λ c κs. let k = c .before .before in
     asked-in (k .before .before .args .r) _ (sym (k .before .is-unasked .ensures) ∙ k .if1 .left))
     (λ c κs. search needs) (λ c κs. search needs)
-    (λ c. let j = c .before .before .before in let k = j .before .before .before in unfold holderAnswer in rw (
-      ← (k .before .is-unasked .ensures),
-      k .if1 .left,
-      le-ltb _ _ (j .before .if2 .left),
-      ← (j .history-of .ensures),
-      ← (c .before .period-count .ensures),
-    ) (c .holder-among .ensures)))
+    (λ c. let j = c .before .before .before in let k = j .before .before .before in unfold holderAnswer in
+    rw (← k .before .is-unasked .ensures, k .if1 .left, le-ltb _ _ (j .before .if2 .left), ← j .history-of .ensures)
+    (rw (← c .before .period-count .ensures) (c .holder-among .ensures))))

@@ -1,13 +1,7 @@
 -- The two machines brought up to a day: the book day by day, the register by catch-up.
-use mathlib.Core.Path.{_≡_, refl, sym, _∙_, ap, subst, subst₂}
-use mathlib.Core.Bool.{Bool, true, false, cond}
-use mathlib.Core.List.{List, [], _∷_, _++_, append-nil, map}
-use Prim.Native.Nat.{ℕ, zero, suc, _+_, _-_, _≤_, _<_}
-use native.Mathlib.Omega.{arith}
-use native.Mathlib.Nat.{add-zero, add-suc, suc-add}
-use lib.Dec.{eqb}
-use lib.ListN.{length, getD}
-use borrow.Author.Tests.{eqb-true}
+use Rattle.basics.proofs.Basics.{_≡_, refl, sym, _∙_, ap, subst, subst₂, true, false, Bool, cond, List, [], _∷_, _++_}
+use Rattle.basics.proofs.Basics.{append-nil, map, _≤_, ℕ, _-_, _+_, _<_, suc, zero, add-zero, add-suc, suc-add, arith}
+use Rattle.basics.proofs.Basics.{eqb, length, getD, eqb-true}
 use Rattle.dates.specs.Dates.{lastDay}
 use Rattle.rules.specs.declared.{Fields.Fields, Point.Point, Register.Register, Settings.Settings, Span.Span}
 use Rattle.rules.specs.declared.{Effect.Effect}

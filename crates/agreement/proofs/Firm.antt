@@ -1,11 +1,6 @@
 -- The periods of a point by themselves: firm ones stay firm through an effect that is good.
-use mathlib.Core.Path.{_≡_, refl, sym, _∙_, ap}
-use mathlib.Core.Bool.{Bool, true, false, cond}
-use mathlib.Core.List.{List, []}
-use Prim.Native.Nat.{ℕ, suc, _+_, _*_, _≤_, _<_}
-use native.Mathlib.Omega.{arith}
-use native.Mathlib.Nat.{le-trans}
-use lib.ListN.{length}
+use Rattle.basics.proofs.Basics.{_≡_, refl, sym, _∙_, ap, true, false, Bool, cond, List, [], _≤_, ℕ, _+_, _<_, suc, _*_}
+use Rattle.basics.proofs.Basics.{le-trans, arith, length}
 use Rattle.dates.specs.Dates.{lastDay}
 use Rattle.rules.specs.declared.{Fields.Fields, History.History, Period.Period, Point.Point, Span.Span, Effect.Effect}
 use Rattle.rules.specs.Effects.{fieldsOf, names, spansIn}

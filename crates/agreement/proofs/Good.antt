@@ -2,11 +2,8 @@
 --
 -- Fine   what holds of a point's view on day t, of any list of calls
 -- Good   what holds of an effect on such a view, with the readings sp and the enrolments j that come with it
-use mathlib.Core.Path.{_≡_, refl, sym, _∙_, ap, subst}
-use mathlib.Core.Bool.{Bool, true, false, cond, true≢false}
-use mathlib.Core.List.{List, [], _∷_}
-use Prim.Native.Nat.{ℕ, suc, _+_, _*_, _≤_, _<_}
-use native.Mathlib.Omega.{arith}
+use Rattle.basics.proofs.Basics.{_≡_, refl, sym, _∙_, ap, subst, true, false, Bool, cond, true≢false, List, [], _∷_}
+use Rattle.basics.proofs.Basics.{_≤_, ℕ, _+_, _<_, suc, _*_, arith}
 use Rattle.rules.specs.declared.{Fields.Fields, Settings.Settings, Supply.Supply}
 use Rattle.rules.specs.declared.{Meter.Meter, Reading.Reading, Span.Span, Due.Due, Effect.Effect}
 use Rattle.rules.specs.Fields.{supply, fields, withSupply, unsupplied}
@@ -72,8 +69,8 @@ pub not-blank : {P : Type 0} {b : Bool} → b ≡ true → b ≡ false → P
 not-blank y n = absurd (true≢false (sym y ∙ n))
 
 -- An effect that reads no meter.
-pub unread : (t : ℕ) (v : View) → v .fields .reading .day ≤ t → Wheels (v .fields .meter) → (e : Effect) (j : List ℕ) → fieldsOf e .reading ≡ v .fields .reading
-    → fieldsOf e .meter ≡ v .fields .meter → Ahead t (fieldsOf e .supply) → Keeps (v .fields) (names e) (fieldsOf e) → Enrols t (v .fields) (names e) (fieldsOf e) j
+pub unread : (t : ℕ) (v : View) → v .fields .reading .day ≤ t → Wheels (v .fields .meter) → (e : Effect) (j : List ℕ)
+    → fieldsOf e .reading ≡ v .fields .reading → fieldsOf e .meter ≡ v .fields .meter → Ahead t (fieldsOf e .supply) → Keeps (v .fields) (names e) (fieldsOf e) → Enrols t (v .fields) (names e) (fieldsOf e) j
     → marksAfter v e + due (fieldsOf e .supply) ≤ 24
     → (fieldsOf e .enrolled ≡ false → (marksAfter v e ≡ 0) × (fieldsOf e .supply ≡ unsupplied)) → Good t v e [] j
 unfolding registered
@@ -130,6 +127,7 @@ event-good S B t v h = go _ (on-day S B (suc t) t (omega arith) (v .fields) (v .
     go e (falls s i j a z lt) = let g = withSupply (v .fields) s in
         rw j (
           refl,
-          naming (suc t) v (omega (arith, h .past)) (h .wheels) (enrolled-by t v h (λ q. let w : due (v .fields .supply) ≡ 0 = ap due q in omega arith)) g refl refl refl a
+          naming (suc t) v (omega (arith, h .past)) (h .wheels)
+              (enrolled-by t v h (λ q. let w : due (v .fields .supply) ≡ 0 = ap due q in omega arith)) g refl refl refl a
               (omega (arith, h .fit, marks-most v (Effect.Name g))),
         )

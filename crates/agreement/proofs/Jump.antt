@@ -1,12 +1,6 @@
 -- From event to event is the same as day by day: n days of a point, one at a time, are what `catchUp` does.
-use mathlib.Core.Path.{_≡_, refl, sym, _∙_}
-use mathlib.Core.Bool.{true, false, not, _&&_, and-false}
-use Prim.Native.Nat.{ℕ, zero, suc, _+_, _≤_, _<_}
-use native.Mathlib.Omega.{arith}
-use native.Mathlib.Decide.{decLe}
-use native.Mathlib.Nat.{add-zero}
-use lib.Dec.{leb}
-use borrow.Author.Tests.{eq-eqb, ne-eqb, le-leb, lt-leb, lt-ltb, le-ltb}
+use Rattle.basics.proofs.Basics.{_≡_, refl, sym, _∙_, true, false, _&&_, not, and-false, _≤_, ℕ, _+_, _<_, suc, zero}
+use Rattle.basics.proofs.Basics.{add-zero, decLe, arith, leb, lt-ltb, le-leb, le-ltb, lt-leb, ne-eqb, eq-eqb}
 use Rattle.rules.specs.declared.{Due.Due, Effect.Effect, Fields.Fields, Point.Point, Settings.Settings, Supply.Supply}
 use Rattle.rules.specs.declared.{SupplyKind.SupplyKind, Pending.Pending}
 use Rattle.rules.specs.Fields.{supply, unsupplied, withSupply}

@@ -1,13 +1,9 @@
 -- Every accepted call leaves a fine point behind (`Good`), whichever point one looks at.
-use mathlib.Core.Path.{_≡_, refl, sym, _∙_, ap, subst}
-use mathlib.Core.Bool.{Bool, true, false, cond, not, _&&_, _||_, false≢true}
-use mathlib.Core.List.{List, [], _∷_}
-use Prim.Native.Nat.{ℕ, zero, suc, _+_, _-_, _*_, _≤_, _<_, min, max}
-use native.Mathlib.Omega.{arith}
-use native.Mathlib.Nat.{pow-le-pow-right, mul-le-mul-right, le-trans}
-use lib.Dec.{eqb, leb, ltb}
+use Rattle.basics.proofs.Basics.{_≡_, refl, sym, _∙_, ap, subst, true, false, Bool, cond, _&&_, false≢true, _||_, not}
+use Rattle.basics.proofs.Basics.{List, [], _∷_, _≤_, ℕ, _-_, _+_, _<_, suc, zero, _*_, min, max, le-trans}
+use Rattle.basics.proofs.Basics.{mul-le-mul-right, pow-le-pow-right, arith, eqb, ltb, leb, ltb-false, eqb-true}
+use Rattle.basics.proofs.Basics.{ltb-true, not-false, leb-false, eqb-false}
 use lib.Pow.{pow-add}
-use borrow.Author.Tests.{eqb-true, eqb-false, leb-false, ltb-true, ltb-false, not-false}
 use Rattle.rules.specs.declared.{Fields.Fields, Settings.Settings, Supply.Supply, SupplyKind.SupplyKind}
 use Rattle.rules.specs.declared.{Pending.Pending, Meter.Meter, Action.Action, PointAction.PointAction}
 use Rattle.rules.specs.declared.{Answer.Answer, Effect.Effect}

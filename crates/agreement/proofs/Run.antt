@@ -1,12 +1,7 @@
 -- The whole list: from a newly opened register on, the register stays beside the day book.
-use mathlib.Core.Path.{_≡_, refl, sym, _∙_, ap₂, subst₂, fun-ext}
-use mathlib.Core.Bool.{Bool, true, false, cond, false≢true}
-use mathlib.Core.List.{List, [], _∷_, _++_, append-nil, append-assoc}
-use Prim.Native.Nat.{ℕ, _-_, _<_}
-use native.Mathlib.Omega.{arith}
-use lib.Dec.{ltb}
-use lib.ListN.{getD-replicate}
-use borrow.Author.Tests.{ltb-false}
+use Rattle.basics.proofs.Basics.{_≡_, refl, sym, _∙_, ap₂, fun-ext, subst₂, true, false, Bool, cond, false≢true, List}
+use Rattle.basics.proofs.Basics.{[], _∷_, _++_, append-assoc, append-nil, ℕ, _-_, _<_, arith, ltb, getD-replicate}
+use Rattle.basics.proofs.Basics.{ltb-false}
 use Rattle.rules.specs.declared.{Register.Register, Span.Span, Opening.Opening, Call.Call, Answer.Answer}
 use Rattle.rules.specs.Volumes.{volume, registered}
 use Rattle.rules.specs.Answers.{isAccepted}

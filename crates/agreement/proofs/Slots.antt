@@ -1,18 +1,11 @@
 -- The 24 slots of a point, read newest first: naming a holder and booking a reading do to them what Tally's functions
 -- do to the list. The count stays within the slots, no volume wraps, and booking may stop at the period that holds the
 -- reading's first day.
-use mathlib.Core.Path.{_≡_, refl, sym, _∙_, ap, ap₂}
-use mathlib.Core.Bool.{Bool, true, false, cond, _&&_, false≢true}
-use mathlib.Core.List.{List, [], _∷_, _++_, reverse, reverseAux, append-nil}
-use Prim.Native.Nat.{ℕ, zero, suc, _+_, _-_, _*_, _^_, _≤_, _<_}
-use native.Mathlib.Omega.{arith}
-use native.Mathlib.Decide.{decLe}
-use native.Mathlib.Numerals.{add-one}
-use native.Mathlib.Nat.{mod-eq-of-lt}
-use lib.Dec.{eqb, leb, ltb}
-use lib.ListN.{length, getD, set, take, length-set}
-use lib.Seq.{getD-set-same, getD-set-other, set-comm, take-suc, append-snoc}
-use borrow.Author.Tests.{lt-ltb, le-leb, lt-leb}
+use Rattle.basics.proofs.Basics.{_≡_, refl, sym, _∙_, ap, ap₂, true, false, Bool, cond, _&&_, false≢true, List, [], _∷_}
+use Rattle.basics.proofs.Basics.{_++_, append-nil, reverseAux, reverse, _≤_, ℕ, _-_, _+_, _<_, suc, zero, _*_, _^_}
+use Rattle.basics.proofs.Basics.{mod-eq-of-lt, add-one, decLe, arith, eqb, ltb, leb, length, take, getD, set}
+use Rattle.basics.proofs.Basics.{length-set, take-suc, getD-set-same, getD-set-other, append-snoc, set-comm, lt-ltb}
+use Rattle.basics.proofs.Basics.{le-leb, lt-leb}
 use Rattle.rules.specs.declared.{Period.Period, History.History, Span.Span}
 use Rattle.rules.specs.Volumes.{given, registered}
 use Rattle.rules.specs.Pinned.Register.{period, noPeriod, used, startsOn, replaced, appended, named, bookedPeriod}

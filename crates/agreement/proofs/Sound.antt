@@ -1,11 +1,6 @@
 -- An opening gives a sound register, and every call keeps it sound.
-use mathlib.Core.Path.{_≡_, refl, sym, _∙_, ap, subst, subst₂}
-use mathlib.Core.Bool.{Bool, true, false, cond}
-use mathlib.Core.List.{List, []}
-use Prim.Native.Nat.{ℕ, zero, suc, _≤_, _<_}
-use native.Mathlib.Omega.{arith}
-use lib.ListN.{length, getD}
-use borrow.Author.Tests.{ltb-false}
+use Rattle.basics.proofs.Basics.{_≡_, refl, sym, _∙_, ap, subst, subst₂, true, false, Bool, cond, List, [], _≤_, ℕ, _<_}
+use Rattle.basics.proofs.Basics.{suc, zero, arith, length, getD, ltb-false}
 use Rattle.dates.specs.Dates.{lastDay}
 use Rattle.rules.specs.declared.{Opening.Opening, Period.Period, Point.Point, Register.Register, Settings.Settings}
 use Rattle.rules.specs.declared.{Effect.Effect, Fields.Fields, Span.Span, View.View, Call.Call}

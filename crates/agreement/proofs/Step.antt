@@ -1,14 +1,8 @@
 -- One call on both sides: the same answer, and the register stays beside the day book.
-use mathlib.Core.Path.{_≡_, refl, sym, _∙_, ap, subst}
-use mathlib.Core.Bool.{Bool, true, false, cond}
+use Rattle.basics.proofs.Basics.{_≡_, refl, sym, _∙_, ap, subst, true, false, Bool, cond, List, [], _++_, append-nil}
+use Rattle.basics.proofs.Basics.{map, _≤_, ℕ, _-_, _<_, arith, eqb, ltb, length, set, length-set, length-map}
+use Rattle.basics.proofs.Basics.{getD-set-same, getD-set-other, ltb-false, eqb-true, eqb-false}
 use mathlib.Core.Logic.{inl, inr}
-use mathlib.Core.List.{List, [], _++_, append-nil, map}
-use Prim.Native.Nat.{ℕ, _-_, _≤_, _<_}
-use native.Mathlib.Omega.{arith}
-use lib.Dec.{eqb, ltb}
-use lib.ListN.{length, set, length-set, length-map}
-use lib.Seq.{getD-set-same, getD-set-other}
-use borrow.Author.Tests.{eqb-true, eqb-false, ltb-false}
 use Rattle.dates.specs.Dates.{lastDay}
 use Rattle.rules.specs.declared.{Fields.Fields, Point.Point, Register.Register, Settings.Settings, Span.Span}
 use Rattle.rules.specs.declared.{Call.Call, Action.Action, Effect.Effect}

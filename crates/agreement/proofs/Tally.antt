@@ -1,14 +1,8 @@
 -- The periods as a function of the day book's cells and the day volumes, here newest first: what naming a holder, a new
 -- day and booking a reading do to it. Then the sum of the volumes, the oldest start and the order of the starts.
-use mathlib.Core.Path.{_≡_, refl, _∙_, ap, fun-ext}
-use mathlib.Core.Bool.{Bool, true, false, cond}
-use mathlib.Core.List.{List, [], _∷_}
-use Prim.Native.Nat.{ℕ, zero, suc, _+_, _-_, _*_, _≤_, _<_}
-use native.Mathlib.Omega.{arith}
-use native.Mathlib.Nat.{le-trans, zero-add, suc-add}
-use lib.Dec.{eqb}
-use lib.ListN.{length}
-use borrow.Author.Tests.{eq-eqb, ne-eqb, eqb-true, eqb-false}
+use Rattle.basics.proofs.Basics.{_≡_, refl, _∙_, ap, fun-ext, true, false, Bool, cond, List, [], _∷_, _≤_, ℕ, _-_, _+_}
+use Rattle.basics.proofs.Basics.{_<_, suc, zero, _*_, le-trans, zero-add, suc-add, arith, eqb, length, ne-eqb, eq-eqb}
+use Rattle.basics.proofs.Basics.{eqb-true, eqb-false}
 use Rattle.rules.specs.declared.{Period.Period, Span.Span}
 use Rattle.rules.specs.Volumes.{given, dayVolume, volume, registered}
 use Rattle.rules.specs.Pinned.Register.{period}

@@ -1,10 +1,6 @@
 -- Demand 3: the theorem `day-book-agrees`. Its statement is specs/Demand3.antt.
-use mathlib.Core.Path.{_≡_, refl, sym, _∙_, ap}
-use mathlib.Core.Bool.{Bool, true, false}
-use mathlib.Core.List.{List, [], _∷_}
-use Prim.Native.Nat.{ℕ, _+_, _^_, _≤_}
-use native.Mathlib.Omega.{arith}
-use lib.ListN.{take}
+use Rattle.basics.proofs.Basics.{_≡_, refl, sym, _∙_, ap, true, false, Bool, List, [], _∷_, _≤_, ℕ, _+_, _^_, arith}
+use Rattle.basics.proofs.Basics.{take}
 use Rattle.rules.specs.declared.{Meter.Meter, Point.Point, Span.Span}
 use Rattle.rules.specs.Volumes.{fullTurn, volume}
 use Rattle.rules.specs.DayBook.{Page}

@@ -2,13 +2,8 @@
 --
 -- Told   the point says what the page says, by the readings l and the enrolments n of the list so far
 -- Tied   besides, all that is due lies ahead and there is room for it
-use mathlib.Core.Path.{_≡_, refl, sym, _∙_, ap, subst, fun-ext}
-use mathlib.Core.Bool.{Bool, true, false, cond}
-use mathlib.Core.List.{List, [], _∷_, _++_, append-nil}
-use Prim.Native.Nat.{ℕ, suc, _+_, _≤_}
-use native.Mathlib.Omega.{arith}
-use native.Mathlib.Nat.{le-trans}
-use lib.ListN.{length}
+use Rattle.basics.proofs.Basics.{_≡_, refl, sym, _∙_, ap, subst, fun-ext, true, false, Bool, cond, List, [], _∷_, _++_}
+use Rattle.basics.proofs.Basics.{append-nil, _≤_, ℕ, _+_, suc, le-trans, arith, length}
 use Rattle.dates.specs.Dates.{lastDay}
 use Rattle.rules.specs.declared.{Fields.Fields, History.History, Point.Point, Span.Span, Effect.Effect, View.View}
 use Rattle.rules.specs.Effects.{fieldsOf, names, spansIn}

@@ -1,10 +1,5 @@
 -- What an answer of `dateAnswer` says of the day that was asked for.
-use mathlib.Core.Path.{_≡_}
-use Prim.Native.Nat.{ℕ, _≤_, _<_}
-use native.Mathlib.Omega.{arith}
-use borrow.Author.Tests.{leb-true, leb-false}
-use borrow.Table.Steps.{cases}
-use lib.Dec.{leb}
+use Rattle.basics.proofs.Basics.{_≡_, _≤_, ℕ, _<_, arith, leb, leb-true, leb-false, cases}
 use Rattle.dates.specs.declared.{Date.Date, DateAnswer.DateAnswer}
 use Rattle.dates.specs.Dates.{lastDay, dateOf}
 use Rattle.dates.specs.Numbers.{dateAnswer}

@@ -1,10 +1,6 @@
 -- Counting dates on from 1 January 2000 comes to the sums of month lengths, and every number is such a sum.
-use mathlib.Core.Path.{_≡_, refl, _∙_, ap, sym}
-use Prim.Native.Nat.{ℕ, zero, suc, _+_, _-_, _≤_, _<_}
-use native.Mathlib.Nat.{add-zero, add-suc, add-assoc}
-use native.Mathlib.Omega.{arith}
-use native.Mathlib.Numerals.{add-one}
-use borrow.Author.Tests.{lt-ltb, le-ltb}
+use Rattle.basics.proofs.Basics.{_≡_, refl, sym, _∙_, ap, _≤_, ℕ, _-_, _+_, _<_, suc, zero, add-zero, add-assoc}
+use Rattle.basics.proofs.Basics.{add-suc, add-one, arith, lt-ltb, le-ltb}
 use Rattle.dates.specs.declared.{Date.Date}
 use Rattle.dates.specs.Dates.{leapRow, monthLength, date, next, dateOf}
 use Rattle.dates.specs.Numbers.{monthStart, yearStart}

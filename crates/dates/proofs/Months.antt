@@ -1,13 +1,6 @@
 -- The month table and the table of its sums, by tests that antt computes.
-use mathlib.Core.Path.{_≡_, refl}
-use mathlib.Core.Bool.{Bool, true, cond, _&&_}
-use mathlib.Core.List.{List, [], _∷_}
-use Prim.Native.Nat.{ℕ, suc, _+_, _/_, _%_, _≤_, _<_}
-use native.Mathlib.Omega.{arith}
-use borrow.Author.Tests.{lt-ltb, le-ltb, ltb-true, leb-true, eqb-true}
-use borrow.Table.Steps.{cases}
-use lib.Dec.{ltb, leb, eqb}
-use lib.ListN.{getD}
+use Rattle.basics.proofs.Basics.{_≡_, refl, true, Bool, cond, _&&_, List, [], _∷_, _≤_, ℕ, _+_, _<_, suc, _/_, _%_}
+use Rattle.basics.proofs.Basics.{arith, eqb, ltb, leb, getD, lt-ltb, le-ltb, eqb-true, ltb-true, leb-true, cases}
 use Rattle.dates.specs.Dates.{leapRow, monthLength}
 use Rattle.dates.specs.Numbers.{monthStart}
 use Rattle.dates.proofs.Every.{and-left, and-right, every-below, every₂, every₂-below}

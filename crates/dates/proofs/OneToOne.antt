@@ -1,9 +1,5 @@
 -- Days and dates are one to one over the whole calendar: the statement `OneToOne`, proved.
-use mathlib.Core.Path.{_≡_, _∙_, ap, sym}
-use mathlib.Core.Bool.{true}
-use Prim.Native.Nat.{ℕ, suc, _+_, _-_, _≤_, _<_}
-use native.Mathlib.Omega.{arith}
-use borrow.Author.Tests.{le-leb, lt-leb}
+use Rattle.basics.proofs.Basics.{_≡_, sym, _∙_, ap, true, _≤_, ℕ, _-_, _+_, _<_, suc, arith, le-leb, lt-leb}
 use Rattle.dates.specs.declared.{DayAnswer.DayAnswer}
 use Rattle.dates.specs.Dates.{lastDay, leapRow, date, dateOf}
 use Rattle.dates.specs.Numbers.{isReal, dayNumber, dayAnswer, dateAnswer}

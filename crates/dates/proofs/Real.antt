@@ -1,10 +1,5 @@
 -- What the test of a real date says, fact by fact, and the answer to it.
-use mathlib.Core.Path.{_≡_}
-use mathlib.Core.Bool.{true}
-use Prim.Native.Nat.{ℕ, _+_, _-_, _≤_}
-use borrow.Author.Tests.{le-leb, leb-true}
-use borrow.Table.Steps.{cases}
-use native.Mathlib.Omega.{arith}
+use Rattle.basics.proofs.Basics.{_≡_, true, _≤_, ℕ, _-_, _+_, arith, le-leb, leb-true, cases}
 use Rattle.dates.specs.declared.{DayAnswer.DayAnswer}
 use Rattle.dates.specs.Dates.{leapRow, monthLength}
 use Rattle.dates.specs.Numbers.{isReal, dayNumber, dayAnswer}

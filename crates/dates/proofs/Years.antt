@@ -1,10 +1,6 @@
 -- The first day of a year, as the code reckons it, is the sum of the years before it: one step, tested for 200 years.
-use mathlib.Core.Path.{_≡_, refl}
-use Prim.Native.Nat.{ℕ, zero, suc, _+_, _-_, _*_, _/_, _≤_, _<_}
-use native.Mathlib.Omega.{arith}
-use borrow.Author.Tests.{ltb-true, ltb-false, eqb-true}
-use borrow.Table.Steps.{cases}
-use lib.Dec.{ltb, eqb}
+use Rattle.basics.proofs.Basics.{_≡_, refl, _≤_, ℕ, _-_, _+_, _<_, suc, zero, _*_, _/_, arith, eqb, ltb, ltb-false}
+use Rattle.basics.proofs.Basics.{eqb-true, ltb-true, cases}
 use Rattle.dates.specs.Dates.{leapRow, monthLength}
 use Rattle.dates.specs.Numbers.{monthStart, yearStart}
 use Rattle.dates.proofs.Every.{every-below}

@@ -1,15 +1,7 @@
 -- The table of Easter Sundays follows the Gregorian computus in every year: one test that antt computes over the whole
 -- table, and one law that makes it the rule. Then the code's Easter Sunday from 22 March, and that it is a Sunday.
-use mathlib.Core.Path.{_≡_, refl, sym}
-use mathlib.Core.Bool.{Bool, true, _&&_}
-use mathlib.Core.List.{List, [], _∷_}
-use Prim.Native.Nat.{ℕ, _+_, _-_, _≤_, _<_}
-use native.Mathlib.Nat.{add-assoc}
-use native.Mathlib.Omega.{arith}
-use borrow.Author.Tests.{ltb-true, eqb-true}
-use borrow.Author.Needs.{needs}
-use lib.Dec.{ltb, eqb}
-use lib.ListN.{getD}
+use Rattle.basics.proofs.Basics.{_≡_, refl, sym, true, Bool, _&&_, List, [], _∷_, _≤_, ℕ, _-_, _+_, _<_, add-assoc}
+use Rattle.basics.proofs.Basics.{arith, eqb, ltb, getD, eqb-true, ltb-true, needs}
 use Rattle.dates.specs.declared.{DayAnswer.DayAnswer}
 use Rattle.dates.specs.Dates.{leapRow, monthLength, weekday, lastDay}
 use Rattle.dates.specs.Numbers.{monthStart, isReal, dayNumber, dayAnswer}

@@ -1,6 +1,5 @@
 -- The desk after an accepted message, and after a refused one.
-use mathlib.Core.Path.{_≡_, refl, sym, _∙_}
-use mathlib.Core.Bool.{Bool, true, false, cond, not, _&&_, false≢true}
+use Rattle.basics.proofs.Basics.{_≡_, refl, sym, _∙_, true, false, Bool, cond, _&&_, false≢true, not}
 use Rattle.rules.specs.declared.{Opening.Opening, Outcome.Outcome}
 use Rattle.rules.specs.Answers.{isAccepted}
 use Rattle.rules.specs.Rejections.{openingAnswer}

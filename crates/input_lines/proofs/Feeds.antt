@@ -1,15 +1,7 @@
 -- Laws of line feeds: where the first one stands, how many there are, and how many bytes have no more than n of them.
-use Prim.Native.Nat.{ℕ, zero, suc, _-_, _≤_, _<_}
-use mathlib.Core.Path.{_≡_, refl, ap, _∙_}
-use mathlib.Core.Bool.{true, false, cond, _&&_, and-false}
-use mathlib.Core.List.{List, [], _∷_}
-use native.Mathlib.Omega.{arith}
-use native.Mathlib.Nat.{le-of-suc-le-suc, not-suc-le-zero}
-use borrow.Author.Tests.{eq-eqb, ne-eqb}
-use borrow.Table.Steps.{cases}
-use lib.Dec.{eqb}
-use lib.ListN.{length, take, drop, getD}
-use lib.Seq.{drop-cons}
+use Rattle.basics.proofs.Basics.{_≡_, refl, _∙_, ap, true, false, cond, _&&_, and-false, List, [], _∷_, _≤_, ℕ, _-_}
+use Rattle.basics.proofs.Basics.{_<_, suc, zero, not-suc-le-zero, le-of-suc-le-suc, arith, eqb, length, drop, take}
+use Rattle.basics.proofs.Basics.{getD, drop-cons, ne-eqb, eq-eqb, cases}
 use Rattle.input_lines.specs.Between.Feeds.{untilFeed, fitting}
 use Rattle.input_lines.specs.Lines.{feeds}
 

@@ -1,11 +1,7 @@
 -- Laws of what is kept of a line that has not ended.
-use Prim.Native.Nat.{ℕ, zero, suc, _+_, _-_, _≤_, min}
-use mathlib.Core.Path.{_≡_, refl, ap, _∙_}
-use mathlib.Core.List.{List, [], _∷_, _++_, append-assoc, append-nil}
-use native.Mathlib.Omega.{arith}
-use native.Mathlib.Decide.{decLe}
-use lib.ListN.{length, take, replicate, length-append, length-take}
-use lib.Seq.{take-all, take-append-add, take-append-seam, length-take-le}
+use Rattle.basics.proofs.Basics.{_≡_, refl, _∙_, ap, List, [], _∷_, _++_, append-assoc, append-nil, _≤_, ℕ, _-_, _+_}
+use Rattle.basics.proofs.Basics.{suc, zero, min, decLe, arith, length, take, length-append, replicate, length-take}
+use Rattle.basics.proofs.Basics.{length-take-le, take-all, take-append-seam, take-append-add}
 use Rattle.line_text.specs.Between.Appending.{Appended}
 use Rattle.line_text.proofs.Appends.{zeros-put}
 use Rattle.input_lines.specs.declared.{Begun.Begun}

@@ -1,13 +1,6 @@
 -- The lines of an input have no line feed, and with theirs they are the input again.
-use Prim.Native.Nat.{ℕ}
-use mathlib.Core.Path.{_≡_, refl, ap, _∙_}
-use mathlib.Core.Bool.{Bool, true, false, cond}
-use mathlib.Core.List.{List, [], _∷_, _++_, append-assoc}
-use native.Mathlib.Omega.{arith}
-use native.Mathlib.Nat.{not-suc-le-zero}
-use borrow.Author.Tests.{eqb-true}
-use borrow.Table.Steps.{cases}
-use lib.Dec.{eqb}
+use Rattle.basics.proofs.Basics.{_≡_, refl, _∙_, ap, true, false, Bool, cond, List, [], _∷_, _++_, append-assoc, ℕ}
+use Rattle.basics.proofs.Basics.{not-suc-le-zero, arith, eqb, eqb-true, cases}
 use Rattle.input_lines.specs.Lines.{feeds, unlines, endsWithin}
 use Rattle.input_lines.specs.Pinned.Lines.{lastLine, linesFrom, linesOf}
 use Rattle.input_lines.specs.Laws.{Clear, none, one, LinesAre}

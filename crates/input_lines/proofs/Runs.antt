@@ -1,12 +1,6 @@
 -- Laws of runs: a line feed is found or none is left, and an input cut into pieces is run as one.
-use Prim.Native.Nat.{ℕ, suc, _≤_, _<_}
-use mathlib.Core.Path.{_≡_, refl, ap}
-use mathlib.Core.List.{List, [], _∷_, _++_, append-assoc}
-use native.Mathlib.Omega.{arith}
-use native.Mathlib.Nat.{le-of-suc-le-suc, not-suc-le-zero}
-use borrow.Table.Steps.{cases}
-use lib.Dec.{eqb}
-use lib.ListN.{length, take, drop}
+use Rattle.basics.proofs.Basics.{_≡_, refl, ap, List, [], _∷_, _++_, append-assoc, _≤_, ℕ, _<_, suc, not-suc-le-zero}
+use Rattle.basics.proofs.Basics.{le-of-suc-le-suc, arith, eqb, length, drop, take, cases}
 use Rattle.input_lines.specs.Between.Feeds.{untilFeed}
 use Rattle.input_lines.specs.Pinned.Lines.{lastLine, linesFrom, linesOf}
 use Rattle.input_lines.specs.Between.Begun.{keptBytes, capped}

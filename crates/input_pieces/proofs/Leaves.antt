@@ -1,12 +1,6 @@
 -- What a line leaves behind: refused, stored in the tables, or done on the whole register.
-use mathlib.Core.Path.{_≡_, refl, sym, ap, _∙_}
-use mathlib.Core.Bool.{Bool, true, false}
-use mathlib.Core.List.{List}
-use Prim.Native.Nat.{ℕ, _+_, _-_, _*_, _≤_, _<_, min}
-use native.Mathlib.Omega.{arith}
-use native.Mathlib.Nat.{le-trans}
-use lib.ListN.{getD, set}
-use lib.Seq.{set-getD}
+use Rattle.basics.proofs.Basics.{_≡_, refl, sym, _∙_, ap, true, false, Bool, List, _≤_, ℕ, _-_, _+_, _<_, _*_, min}
+use Rattle.basics.proofs.Basics.{le-trans, arith, getD, set, set-getD}
 use Rattle.rules.specs.declared.{Answer.Answer, Fields.Fields, Period.Period, Register.Register, Settings.Settings, Span.Span}
 use Rattle.rules.specs.Answers.{isAccepted}
 use Rattle.rules.specs.Fields.{blank}

@@ -1,12 +1,7 @@
 -- A line of a piece answered, on plain values: what is written so far, then the run from here, is the whole run.
-use Prim.Native.Nat.{ℕ, suc, _+_, _-_, _*_, _/_, _≤_, _<_}
-use mathlib.Core.Path.{_≡_, refl, sym, ap, _∙_}
-use mathlib.Core.Bool.{Bool}
-use mathlib.Core.List.{List, [], _++_, append-assoc, append-nil}
-use native.Mathlib.Omega.{arith}
-use native.Mathlib.Nat.{zero-add}
-use lib.ListN.{length, take, drop, length-drop, take-append-drop}
-use lib.Seq.{drop-drop, length-take-le}
+use Rattle.basics.proofs.Basics.{_≡_, refl, sym, _∙_, ap, Bool, List, [], _++_, append-assoc, append-nil, _≤_, ℕ, _-_}
+use Rattle.basics.proofs.Basics.{_+_, _<_, suc, _*_, _/_, zero-add, arith, length, drop, take, length-drop}
+use Rattle.basics.proofs.Basics.{take-append-drop, length-take-le, drop-drop}
 use Rattle.rules.specs.declared.{Answer.Answer, Fields.Fields, Period.Period, Settings.Settings}
 use Rattle.line_text.specs.Between.Appending.{put, Appended}
 use Rattle.line_text.proofs.Appends.{room-put, put-drop, appended-take, appended-length}

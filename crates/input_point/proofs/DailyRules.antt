@@ -1,10 +1,6 @@
 -- A daily reading: what it is answered and what it stores.
-use mathlib.Core.Path.{_≡_, refl, ap, _∙_}
-use mathlib.Core.Bool.{Bool, true, false, cond, _&&_}
-use mathlib.Core.List.{List, []}
-use Prim.Native.Nat.{ℕ, _-_, _<_, min}
-use lib.Dec.{eqb, ltb}
-use borrow.Author.Tests.{lt-ltb, ltb-true, eq-eqb, eqb-true}
+use Rattle.basics.proofs.Basics.{_≡_, refl, _∙_, ap, true, false, Bool, cond, _&&_, List, [], ℕ, _-_, _<_, min, eqb}
+use Rattle.basics.proofs.Basics.{ltb, lt-ltb, eq-eqb, eqb-true, ltb-true}
 use Rattle.rules.specs.declared.{Action.Action, Answer.Answer, Effect.Effect, Fields.Fields, Period.Period, PointAction.PointAction}
 use Rattle.rules.specs.declared.{Reading.Reading, Settings.Settings, Span.Span, View.View, Call.Call}
 use Rattle.rules.specs.Answers.{isAccepted}

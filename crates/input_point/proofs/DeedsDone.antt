@@ -1,13 +1,7 @@
 -- What a deed does to a point is what the effect does, on one of its slots.
-use mathlib.Core.Path.{_≡_, refl, sym, ap, _∙_}
-use mathlib.Core.Bool.{Bool, true, false, cond, _&&_}
-use mathlib.Core.List.{List}
-use Prim.Native.Nat.{ℕ, zero, suc, _+_, _-_, _<_, min}
-use native.Mathlib.Omega.{arith}
-use borrow.Author.Tests.{ltb-true, leb-true}
-use lib.Dec.{eqb, leb, ltb}
-use lib.ListN.{length, getD, set, length-set}
-use lib.Seq.{set-getD}
+use Rattle.basics.proofs.Basics.{_≡_, refl, sym, _∙_, ap, true, false, Bool, cond, _&&_, List, ℕ, _-_, _+_, _<_, suc}
+use Rattle.basics.proofs.Basics.{zero, min, arith, eqb, ltb, leb, length, getD, set, length-set, set-getD, ltb-true}
+use Rattle.basics.proofs.Basics.{leb-true}
 use Rattle.rules.specs.declared.{Effect.Effect, Fields.Fields, History.History, Period.Period, Point.Point, Span.Span}
 use Rattle.rules.specs.declared.{Action.Action}
 use Rattle.rules.specs.Pinned.Register.{period, history, noPeriod, startsOn, replaced, appended, named, bookedSlots, booked}

@@ -1,10 +1,6 @@
 -- A number in range is a point's.
-use mathlib.Core.Path.{_≡_, refl}
-use mathlib.Core.Bool.{Bool, true, false, cond, _||_, true≢false}
-use Prim.Native.Nat.{ℕ, _-_, _≤_, _<_}
-use native.Mathlib.Omega.{arith}
-use borrow.Author.Tests.{ltb-false}
-use lib.Dec.{ltb}
+use Rattle.basics.proofs.Basics.{_≡_, refl, true, false, Bool, cond, _||_, true≢false, _≤_, ℕ, _-_, _<_, arith, ltb}
+use Rattle.basics.proofs.Basics.{ltb-false}
 use Rattle.rules.specs.Rejections.{notPoint}
 
 pub point-in : (p : ℕ) → notPoint p ≡ false → (1 ≤ p) × (p ≤ 32)

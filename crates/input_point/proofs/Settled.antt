@@ -1,14 +1,8 @@
 -- The answer told from the tables is the desk's.
-use mathlib.Core.Path.{_≡_, refl, ap, _∙_}
-use mathlib.Core.Bool.{Bool, true, false, cond, _&&_, _||_, false≢true}
+use Rattle.basics.proofs.Basics.{_≡_, refl, _∙_, ap, true, false, Bool, cond, _&&_, false≢true, _||_, List, [], _∷_}
+use Rattle.basics.proofs.Basics.{map, _≤_, ℕ, _-_, _+_, _<_, suc, zero, _*_, min, decLe, arith, eqb, length, getD}
+use Rattle.basics.proofs.Basics.{lt-ltb}
 use mathlib.Core.Logic.{inl}
-use mathlib.Core.List.{List, [], _∷_, map}
-use Prim.Native.Nat.{ℕ, zero, suc, _+_, _-_, _*_, _≤_, _<_, min}
-use native.Mathlib.Omega.{arith}
-use native.Mathlib.Decide.{decLe}
-use borrow.Author.Tests.{lt-ltb}
-use lib.Dec.{eqb}
-use lib.ListN.{length, getD}
 use Rattle.dates.specs.Dates.{lastDay}
 use Rattle.rules.specs.declared.{Fields.Fields, Period.Period, Point.Point, Settings.Settings, Register.Register, View.View}
 use Rattle.rules.specs.declared.{Action.Action, PointAction.PointAction, Answer.Answer, Call.Call}

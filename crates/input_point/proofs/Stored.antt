@@ -1,13 +1,7 @@
 -- What a deed stores in the tables is what the message does to the register.
-use mathlib.Core.Path.{_≡_, refl, sym, ap, _∙_}
-use mathlib.Core.Bool.{Bool, true, false, cond, _&&_, true≢false, false≢true}
-use mathlib.Core.List.{List}
-use Prim.Native.Nat.{ℕ, _+_, _-_, _*_, _≤_, _<_, min}
-use native.Mathlib.Omega.{arith}
-use borrow.Author.Tests.{ltb-true, lt-ltb, le-ltb}
-use lib.Dec.{eqb, leb, ltb}
-use lib.ListN.{length, getD, set, length-set}
-use lib.Seq.{set-getD, length-paste}
+use Rattle.basics.proofs.Basics.{_≡_, refl, sym, _∙_, ap, true, false, Bool, cond, _&&_, false≢true, true≢false, List}
+use Rattle.basics.proofs.Basics.{_≤_, ℕ, _-_, _+_, _<_, _*_, min, arith, eqb, ltb, leb, length, getD, set, length-set}
+use Rattle.basics.proofs.Basics.{set-getD, length-paste, lt-ltb, le-ltb, ltb-true}
 use Rattle.rules.specs.declared.{Effect.Effect, Fields.Fields, Period.Period, Point.Point, Span.Span}
 use Rattle.rules.specs.declared.{Register.Register, Settings.Settings, View.View, Action.Action, PointAction.PointAction}
 use Rattle.rules.specs.Answers.{isAccepted}

@@ -1,14 +1,7 @@
 -- Before anything falls due, bringing points up to a day changes nothing.
-use mathlib.Core.Path.{_≡_, refl, sym, _∙_, ap, ap₂}
-use mathlib.Core.Bool.{Bool, true, false, cond}
-use mathlib.Core.List.{List, [], _∷_, map}
-use Prim.Native.Nat.{ℕ, zero, suc, _-_, _≤_, _<_, min}
-use native.Mathlib.Omega.{arith}
-use native.Mathlib.Nat.{not-suc-le-zero}
-use borrow.Author.Tests.{lt-leb, eqb-true}
-use lib.Dec.{eqb}
-use lib.ListN.{length, take, drop, getD, set}
-use lib.Seq.{drop-length}
+use Rattle.basics.proofs.Basics.{_≡_, refl, sym, _∙_, ap, ap₂, true, false, Bool, cond, List, [], _∷_, map, _≤_, ℕ, _-_}
+use Rattle.basics.proofs.Basics.{_<_, suc, zero, min, not-suc-le-zero, arith, eqb, length, drop, take, getD, set}
+use Rattle.basics.proofs.Basics.{drop-length, lt-leb, eqb-true}
 use Rattle.rules.specs.declared.{Fields.Fields, Point.Point, Settings.Settings, SupplyKind.SupplyKind}
 use Rattle.rules.specs.declared.{Due.Due, Pending.Pending, Period.Period}
 use Rattle.rules.specs.Fields.{blank}

@@ -1,12 +1,7 @@
 -- The view of a point brought up to a day is the view brought up.
-use mathlib.Core.Path.{_≡_, refl, sym, _∙_, ap}
-use mathlib.Core.Bool.{Bool, true, false, cond, _&&_}
-use Prim.Native.Nat.{ℕ, _+_, _-_, _≤_, _<_, min}
-use native.Mathlib.Omega.{arith}
-use borrow.Author.Tests.{ltb-true, eqb-true, eq-eqb, ne-eqb, lt-leb}
-use lib.Dec.{eqb, ltb}
-use lib.ListN.{length, set, length-set}
-use lib.Seq.{getD-set-same}
+use Rattle.basics.proofs.Basics.{_≡_, refl, sym, _∙_, ap, true, false, Bool, cond, _&&_, _≤_, ℕ, _-_, _+_, _<_, min}
+use Rattle.basics.proofs.Basics.{arith, eqb, ltb, length, set, length-set, getD-set-same, lt-leb, ne-eqb, eq-eqb}
+use Rattle.basics.proofs.Basics.{eqb-true, ltb-true}
 use Rattle.dates.specs.Dates.{lastDay}
 use Rattle.rules.specs.declared.{Fields.Fields, History.History, Period.Period, Point.Point, Settings.Settings, Due.Due, View.View}
 use Rattle.rules.specs.Pinned.Register.{

@@ -1,15 +1,7 @@
 -- However an input is cut, what is handed on for writing is its transcript. The statement is specs/Transcript.antt.
-use Prim.Native.Nat.{ℕ, _+_, _/_, _≤_}
-use mathlib.Core.Path.{_≡_, refl, sym, ap, ap₂, subst, _∙_}
-use mathlib.Core.Bool.{Bool, true, false, cond, false≢true}
-use mathlib.Core.List.{List, [], _∷_, _++_, append-assoc}
-use native.Mathlib.Omega.{arith}
-use native.Mathlib.Nat.{not-suc-le-zero}
-use borrow.Author.Tests.{ne-eqb}
-use lib.Dec.{eqb}
-use borrow.Table.Steps.{cases}
-use lib.ListN.{length, take, drop}
-use lib.Seq.{take-append-seam, take-all, drop-length}
+use Rattle.basics.proofs.Basics.{_≡_, refl, sym, _∙_, ap, ap₂, subst, true, false, Bool, cond, false≢true, List, []}
+use Rattle.basics.proofs.Basics.{_∷_, _++_, append-assoc, _≤_, ℕ, _+_, _/_, not-suc-le-zero, arith, eqb, length, drop}
+use Rattle.basics.proofs.Basics.{take, take-all, drop-length, take-append-seam, ne-eqb, cases}
 use Rattle.rules.specs.declared.{Register.Register}
 use Rattle.line_text.specs.Between.Appending.{put}
 use Rattle.line_listing.specs.declared.{Listed.Listed}

@@ -1,11 +1,6 @@
 -- An open register always has 32 points.
-use Prim.Native.Nat.{ℕ, _-_}
-use mathlib.Core.Path.{_≡_, refl, _∙_}
-use mathlib.Core.Bool.{Bool, true, false, cond, not, _&&_}
-use mathlib.Core.List.{List, [], _∷_, _++_}
-use borrow.Table.Steps.{cases}
-use lib.Dec.{eqb}
-use lib.ListN.{length, length-set, length-map, length-replicate}
+use Rattle.basics.proofs.Basics.{_≡_, refl, _∙_, true, false, Bool, cond, _&&_, not, List, [], _∷_, _++_, ℕ, _-_, eqb}
+use Rattle.basics.proofs.Basics.{length, length-set, length-replicate, length-map, cases}
 use Rattle.rules.specs.declared.{Point.Point, Register.Register, Call.Call, Action.Action, Opening.Opening}
 use Rattle.rules.specs.Answers.{isAccepted}
 use Rattle.rules.specs.Rejections.{openingAnswer}

@@ -1,14 +1,8 @@
 -- One field at a position, and one turn of reading fields: what is left to read, and the place that its value
 -- takes.
-use Prim.Native.Nat.{ℕ, suc, _+_, _-_, _<_, _≤_}
-use mathlib.Core.Path.{_≡_, sym, _∙_}
-use mathlib.Core.Bool.{false}
-use mathlib.Core.List.{List, [], _∷_, _++_}
-use native.Mathlib.Numerals.{add-one}
-use native.Mathlib.Omega.{arith}
-use lib.ListN.{length, take, drop, set, getD, replicate}
-use lib.Seq.{drop-cons, drop-set-lt, take-suc-set}
-use borrow.Author.Tests.{le-leb, lt-leb}
+use Rattle.basics.proofs.Basics.{_≡_, sym, _∙_, false, List, [], _∷_, _++_, _≤_, ℕ, _-_, _+_, _<_, suc, add-one, arith}
+use Rattle.basics.proofs.Basics.{length, drop, take, getD, set, replicate, drop-cons, drop-set-lt, take-suc-set, le-leb}
+use Rattle.basics.proofs.Basics.{lt-leb}
 use Rattle.line_fields.specs.declared.{Shape.Shape, KnownDate.KnownDate}
 use Rattle.line_fields.specs.Pinned.Reading.{fieldsOf, fieldsIn}
 use Rattle.line_fields.specs.Between.Shapes.{sortAt, sortsFrom, sortsOf}

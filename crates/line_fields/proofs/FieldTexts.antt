@@ -1,14 +1,7 @@
 -- Reading the fields and writing them are inverse, and their text is short.
-use Prim.Native.Nat.{ℕ, zero, suc, _+_, _≤_, _^_}
-use mathlib.Core.Path.{_≡_, refl, sym, ap, _∙_}
-use mathlib.Core.Bool.{true, and-eq-true-iff}
-use mathlib.Core.List.{List, [], _∷_, _++_, append-assoc, append-nil}
-use native.Mathlib.Omega.{arith}
-use borrow.Table.Steps.{cases}
-use lib.Dec.{eqb}
-use lib.ListN.{length, getD, replicate, length-append}
-use lib.Seq.{getD-append-seam}
-use borrow.Author.Tests.{eqb-true, leb-true, ltb-true, le-leb, lt-ltb}
+use Rattle.basics.proofs.Basics.{_≡_, refl, sym, _∙_, ap, true, and-eq-true-iff, List, [], _∷_, _++_, append-assoc}
+use Rattle.basics.proofs.Basics.{append-nil, _≤_, ℕ, _+_, suc, zero, _^_, arith, eqb, length, getD, length-append}
+use Rattle.basics.proofs.Basics.{replicate, getD-append-seam, lt-ltb, le-leb, eqb-true, ltb-true, leb-true, cases}
 use Rattle.dates.specs.Dates.{lastDay}
 use Rattle.line_text.proofs.DayTexts.{day-append, day-length}
 use Rattle.line_text.proofs.Spelling.{decimal-append, decimal-length}

@@ -1,11 +1,5 @@
 -- What the fields that were read say: the text behind them, and with a right known date the fields of the text.
-use Prim.Native.Nat.{ℕ}
-use mathlib.Core.Path.{_≡_, sym, ap, _∙_}
-use mathlib.Core.Bool.{cond}
-use mathlib.Core.List.{List, []}
-use borrow.Table.Steps.{cases}
-use lib.Dec.{leb}
-use lib.ListN.{drop}
+use Rattle.basics.proofs.Basics.{_≡_, sym, _∙_, ap, cond, List, [], ℕ, leb, drop, cases}
 use Rattle.line_values.proofs.Places.{Ends, ends-self, end-place}
 use Rattle.line_fields.specs.declared.{KnownDate.KnownDate, LineFields.LineFields, Shape.Shape}
 use Rattle.line_fields.specs.Between.Known.{IsKnown}

@@ -1,13 +1,6 @@
 -- What is handed back of one field, and of all: the positions, and the values.
-use Prim.Native.Nat.{ℕ, _+_, _-_, _≤_}
-use mathlib.Core.Path.{_≡_, refl, sym, ap}
-use mathlib.Core.Bool.{Bool, false, cond}
-use mathlib.Core.List.{List, [], _∷_, _++_}
-use native.Mathlib.Omega.{arith}
-use borrow.Table.Steps.{cases}
-use lib.Dec.{eqb}
-use lib.ListN.{length, take, drop, replicate, take-append-drop}
-use lib.Seq.{length-take-le}
+use Rattle.basics.proofs.Basics.{_≡_, refl, sym, ap, false, Bool, cond, List, [], _∷_, _++_, _≤_, ℕ, _-_, _+_, arith}
+use Rattle.basics.proofs.Basics.{eqb, length, drop, take, replicate, take-append-drop, length-take-le, cases}
 use Rattle.line_values.specs.declared.{Found.Found}
 use Rattle.line_values.specs.Pinned.Words.{isSame}
 use Rattle.line_values.specs.Pinned.Numbers.{Parsed, number, bad, numberOf}

@@ -1,12 +1,8 @@
 -- A date whose bytes are those of the known one is the known one, and a date that was read is known from then on.
-use Prim.Native.Nat.{ℕ, zero, suc, _+_, _-_, _*_, _/_, _%_, _^_, _<_, _≤_}
-use mathlib.Core.Path.{_≡_, refl, sym, ap, _∙_}
-use mathlib.Core.Bool.{true}
-use mathlib.Core.List.{List, [], _∷_, _++_}
-use native.Mathlib.Omega.{arith}
-use borrow.Table.Steps.{cases}
-use lib.ListN.{length, take, drop, getD, length-append, length-take, length-drop, take-append-drop}
-use lib.Seq.{drop-drop, getD-drop, take-add, take-at, length-take-le}
+use Rattle.basics.proofs.Basics.{_≡_, refl, sym, _∙_, ap, true, List, [], _∷_, _++_, _≤_, ℕ, _-_, _+_, _<_, suc, zero}
+use Rattle.basics.proofs.Basics.{_*_, _^_, _/_, _%_, arith, length, drop, take, getD, length-append, length-drop}
+use Rattle.basics.proofs.Basics.{take-append-drop, length-take, length-take-le, drop-drop, take-at, getD-drop, take-add}
+use Rattle.basics.proofs.Basics.{cases}
 use Rattle.dates.specs.Dates.{dateOf}
 use Rattle.dates.specs.declared.{DateAnswer.DateAnswer}
 use Rattle.dates.specs.Numbers.{dateAnswer}

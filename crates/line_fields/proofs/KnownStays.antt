@@ -1,10 +1,5 @@
 -- A right known date changes nothing, and stays right: the statement `KnownStays`, proved.
-use Prim.Native.Nat.{ℕ}
-use mathlib.Core.Path.{_≡_, refl}
-use mathlib.Core.List.{List, [], _∷_, _++_}
-use borrow.Table.Steps.{cases}
-use lib.Dec.{leb, eqb}
-use lib.ListN.{take}
+use Rattle.basics.proofs.Basics.{_≡_, refl, List, [], _∷_, _++_, ℕ, eqb, leb, take, cases}
 use Rattle.line_values.specs.Pinned.Words.{isSame}
 use Rattle.line_values.specs.Pinned.Numbers.{Parsed, number, bad, numberOf}
 use Rattle.line_values.specs.Pinned.Days.{dayIn}

@@ -1,15 +1,7 @@
 -- The closing lines of a register after any list of calls are the day book's. The statement is specs/ByBook.antt.
-use Prim.Native.Nat.{ℕ, zero, suc, _+_, _-_, _≤_, _<_}
-use mathlib.Core.Path.{_≡_, refl, ap, ap₂, _∙_}
-use mathlib.Core.Bool.{true}
-use mathlib.Core.List.{List, [], _∷_, _++_, append-assoc, append-nil}
-use native.Mathlib.Omega.{arith}
-use native.Mathlib.Numerals.{add-one}
-use native.Mathlib.Nat.{add-zero}
-use borrow.Author.Tests.{le-ltb}
-use borrow.Table.Steps.{cases}
-use lib.ListN.{length, take, getD}
-use lib.Seq.{take-suc}
+use Rattle.basics.proofs.Basics.{_≡_, refl, _∙_, ap, ap₂, true, List, [], _∷_, _++_, append-assoc, append-nil, _≤_, ℕ}
+use Rattle.basics.proofs.Basics.{_-_, _+_, _<_, suc, zero, add-zero, add-one, arith, length, take, getD, take-suc}
+use Rattle.basics.proofs.Basics.{le-ltb, cases}
 use Rattle.rules.specs.declared.{Period.Period, Point.Point, Register.Register, Opening.Opening, Call.Call}
 use Rattle.rules.specs.Answers.{isAccepted}
 use Rattle.rules.specs.Rejections.{openingAnswer}

@@ -1,14 +1,7 @@
 -- Each call and each opening has one line, and each line at most one meaning: the statement `OneLine`, proved.
-use Prim.Native.Nat.{ℕ, _-_, _≤_}
-use mathlib.Core.Path.{_≡_, refl, sym, ap, _∙_}
-use mathlib.Core.Bool.{true}
-use mathlib.Core.List.{List, [], _∷_, _++_, append-nil}
-use native.Mathlib.Omega.{arith}
-use borrow.Table.Steps.{cases}
-use lib.Dec.{leb}
-use lib.ListN.{length, take, drop, length-append, take-append-drop}
-use lib.Seq.{take-at, drop-at}
-use borrow.Author.Tests.{le-leb}
+use Rattle.basics.proofs.Basics.{_≡_, refl, sym, _∙_, ap, true, List, [], _∷_, _++_, append-nil, _≤_, ℕ, _-_, arith}
+use Rattle.basics.proofs.Basics.{leb, length, drop, take, length-append, take-append-drop, take-at, drop-at, le-leb}
+use Rattle.basics.proofs.Basics.{cases}
 use Rattle.line_text.specs.Longest.{longestLine}
 use Rattle.line_fields.specs.Fields.{fieldsText, fitAll}
 use Rattle.line_fields.specs.Between.Shapes.{mostFields, sortsOf, fieldsAs, sortsIn, valuesIn}

@@ -1,13 +1,7 @@
 -- Where the first word of a line ends.
-use Prim.Native.Nat.{ℕ, suc, _+_, _<_, _≤_}
-use mathlib.Core.Path.{_≡_, refl}
-use mathlib.Core.Bool.{true, not, and-eq-true-iff}
-use mathlib.Core.List.{List, [], _∷_, _++_}
-use lib.Dec.{eqb}
-use native.Mathlib.Numerals.{add-one}
-use lib.ListN.{length, drop, getD, drop-of-length-le}
-use lib.Seq.{drop-cons}
-use borrow.Author.Tests.{eq-eqb, ne-eqb, not-true}
+use Rattle.basics.proofs.Basics.{_≡_, refl, true, not, and-eq-true-iff, List, [], _∷_, _++_, _≤_, ℕ, _+_, _<_, suc}
+use Rattle.basics.proofs.Basics.{add-one, eqb, length, drop, getD, drop-of-length-le, drop-cons, ne-eqb, eq-eqb}
+use Rattle.basics.proofs.Basics.{not-true}
 use Rattle.line_fields.specs.declared.{Sort.Sort}
 use Rattle.line_fields.specs.Fields.{Field, fieldText, fieldsText}
 use Rattle.line_kinds.proofs.KindTable.{lacks}

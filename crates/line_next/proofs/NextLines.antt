@@ -1,15 +1,8 @@
 -- The next line, read where it stands: a kind's word, its fields and then a line feed are the line of its message.
-use Prim.Native.Nat.{ℕ, suc, _+_, _<_, _≤_}
-use mathlib.Core.Path.{_≡_, refl, sym, ap, ap₂, _∙_}
-use mathlib.Core.Bool.{Bool, true, false, cond}
-use mathlib.Core.List.{List, [], _∷_, _++_, append-assoc, append-nil}
-use native.Mathlib.Omega.{arith}
-use native.Mathlib.Numerals.{add-one}
-use borrow.Table.Steps.{cases}
-use lib.Dec.{leb, eqb}
-use lib.ListN.{length, take, drop, getD, length-append, length-drop, take-append-drop, drop-of-length-le}
-use lib.Seq.{drop-cons, take-at, take-length}
-use borrow.Author.Tests.{eqb-true, eq-eqb, ne-eqb}
+use Rattle.basics.proofs.Basics.{_≡_, refl, sym, _∙_, ap, ap₂, true, false, Bool, cond, List, [], _∷_, _++_}
+use Rattle.basics.proofs.Basics.{append-assoc, append-nil, _≤_, ℕ, _+_, _<_, suc, add-one, arith, eqb, leb, length}
+use Rattle.basics.proofs.Basics.{drop, take, getD, length-append, length-drop, drop-of-length-le, take-append-drop}
+use Rattle.basics.proofs.Basics.{drop-cons, take-at, take-length, ne-eqb, eq-eqb, eqb-true, cases}
 use Rattle.line_values.specs.Pinned.Words.{isSame}
 use Rattle.line_fields.specs.Pinned.Reading.{values, unread, fieldsOf}
 use Rattle.line_fields.specs.Fields.{fieldsText}

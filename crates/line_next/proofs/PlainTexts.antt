@@ -1,13 +1,6 @@
 -- No line feed stands in the line of a message, so the line ends where its fields do.
-use Prim.Native.Nat.{ℕ, zero, suc, _+_, _/_, _%_}
-use mathlib.Core.Path.{_≡_, refl, ap}
-use mathlib.Core.Bool.{true, false, not, and-eq-true-iff}
-use mathlib.Core.List.{List, [], _∷_, _++_}
-use native.Mathlib.Omega.{arith}
-use borrow.Table.Steps.{cases}
-use lib.Dec.{ltb, eqb}
-use lib.ListN.{length}
-use borrow.Author.Tests.{ne-eqb, not-true}
+use Rattle.basics.proofs.Basics.{_≡_, refl, ap, true, false, not, and-eq-true-iff, List, [], _∷_, _++_, ℕ, _+_, suc}
+use Rattle.basics.proofs.Basics.{zero, _/_, _%_, arith, eqb, ltb, length, ne-eqb, not-true, cases}
 use Rattle.dates.specs.declared.{DateAnswer.DateAnswer}
 use Rattle.dates.specs.Numbers.{dateAnswer}
 use Rattle.line_text.specs.Decimal.{spell, fixed}

@@ -1,14 +1,9 @@
 -- Texts put into a buffer one behind the other, and what a writer's contract says where there is room.
-use Prim.Native.Nat.{ℕ, zero, suc, _+_, _-_, _<_, _≤_}
-use mathlib.Core.Path.{_≡_, refl, sym, ap, _∙_}
-use mathlib.Core.List.{List, [], _++_, append-assoc}
-use native.Mathlib.Omega.{arith}
-use native.Mathlib.Nat.{add-zero, zero-add, add-assoc}
-use borrow.Author.Tests.{le-leb, lt-leb, leb-true, leb-false}
-use borrow.Table.Steps.{cases}
-use lib.Dec.{leb}
-use lib.ListN.{length, take, drop, replicate, length-append, length-replicate, take-append-drop}
-use lib.Seq.{take-at, drop-at, length-take-le, drop-drop, take-length, sets, sets-eq, length-sets, paste}
+use Rattle.basics.proofs.Basics.{_≡_, refl, sym, _∙_, ap, List, [], _++_, append-assoc, _≤_, ℕ, _-_, _+_, _<_, suc}
+use Rattle.basics.proofs.Basics.{zero, add-zero, zero-add, add-assoc, arith, leb, length, drop, take, length-append}
+use Rattle.basics.proofs.Basics.{replicate, take-append-drop, length-replicate, length-take-le, drop-drop, take-at}
+use Rattle.basics.proofs.Basics.{drop-at, paste, take-length, sets, sets-eq, length-sets, le-leb, lt-leb, leb-true}
+use Rattle.basics.proofs.Basics.{leb-false, cases}
 use Rattle.line_text.specs.Between.Appending.{put, Appended}
 
 -- putting a text is storing its bytes

@@ -1,8 +1,5 @@
 -- The text of a day: what stands behind it, and its eight bytes.
-use Prim.Native.Nat.{ℕ}
-use mathlib.Core.Path.{_≡_}
-use mathlib.Core.List.{List, [], _++_}
-use lib.ListN.{length}
+use Rattle.basics.proofs.Basics.{_≡_, List, [], _++_, ℕ, length}
 use Rattle.dates.specs.declared.{Date.Date, DateAnswer.DateAnswer}
 use Rattle.dates.specs.Numbers.{dateAnswer}
 use Rattle.line_text.specs.Days.{dateText, answerText, dayText}

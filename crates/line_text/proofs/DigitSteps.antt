@@ -1,11 +1,7 @@
 -- Writing digits: what holds on the way while the last digits of a number stand already, and a date's eight digits.
-use Prim.Native.Nat.{ℕ, suc, _+_, _-_, _/_, _%_, _^_, _<_, _≤_}
-use mathlib.Core.Path.{_≡_, sym, ap, _∙_}
-use mathlib.Core.List.{List, [], _∷_}
-use native.Mathlib.Omega.{arith}
-use native.Mathlib.Numerals.{towards-suc}
-use lib.ListN.{length, take, drop, set, length-set}
-use lib.Seq.{drop-cons, getD-set-same, drop-set-lt, take-set-le, take-take, set-split}
+use Rattle.basics.proofs.Basics.{_≡_, sym, _∙_, ap, List, [], _∷_, _≤_, ℕ, _-_, _+_, _<_, suc, _^_, _/_, _%_}
+use Rattle.basics.proofs.Basics.{towards-suc, arith, length, drop, take, set, length-set, drop-cons, getD-set-same}
+use Rattle.basics.proofs.Basics.{drop-set-lt, take-set-le, take-take, set-split}
 use Rattle.dates.specs.declared.{Date.Date}
 use Rattle.line_text.specs.Decimal.{decimal, fixed}
 use Rattle.line_text.specs.Days.{dateText}

@@ -1,12 +1,6 @@
 -- The decimal text of a number, digit by digit: its last digit, its length, and what stands behind it.
-use Prim.Native.Nat.{ℕ, zero, suc, _+_, _/_, _%_, _^_, _<_, _≤_}
-use mathlib.Core.Path.{_≡_, refl, ap}
-use mathlib.Core.List.{List, [], _∷_, _++_, append-assoc}
-use native.Mathlib.Omega.{arith}
-use borrow.Table.Steps.{cases}
-use lib.Dec.{ltb}
-use lib.ListN.{length, length-append}
-use borrow.Author.Tests.{ltb-false, lt-ltb, le-ltb}
+use Rattle.basics.proofs.Basics.{_≡_, refl, ap, List, [], _∷_, _++_, append-assoc, _≤_, ℕ, _+_, _<_, suc, zero, _^_}
+use Rattle.basics.proofs.Basics.{_/_, _%_, arith, ltb, length, length-append, lt-ltb, le-ltb, ltb-false, cases}
 use Rattle.line_text.specs.Decimal.{spell, decimal}
 
 -- room for more digits than a number has changes nothing

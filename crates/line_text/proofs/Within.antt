@@ -1,12 +1,6 @@
 -- Texts of a bounded length, put into a buffer one behind the other.
-use Prim.Native.Nat.{ℕ, _+_, _≤_}
-use mathlib.Core.Path.{_≡_, sym, ap, _∙_}
-use mathlib.Core.List.{List, [], _++_}
-use native.Mathlib.Omega.{arith}
-use borrow.Author.Tests.{leb-true, leb-false}
-use borrow.Table.Steps.{cases}
-use lib.Dec.{leb}
-use lib.ListN.{length, length-append}
+use Rattle.basics.proofs.Basics.{_≡_, sym, _∙_, ap, List, [], _++_, _≤_, ℕ, _+_, arith, leb, length, length-append}
+use Rattle.basics.proofs.Basics.{leb-true, leb-false, cases}
 use Rattle.line_text.specs.Between.Appending.{Appended, AppendedWithin}
 use Rattle.line_text.proofs.Appends.{put-append, put-none, put-length, appended, appended-length, room-put, no-room}
 

@@ -1,9 +1,5 @@
 -- Reading a date and writing it are inverse: a day of the calendar is read back from its date, and only from it.
-use Prim.Native.Nat.{ℕ, _-_, _^_, _<_, _≤_}
-use mathlib.Core.Path.{_≡_, refl, ap}
-use mathlib.Core.List.{List}
-use native.Mathlib.Omega.{arith}
-use borrow.Author.Tests.{le-leb}
+use Rattle.basics.proofs.Basics.{_≡_, refl, ap, List, _≤_, ℕ, _-_, _<_, _^_, arith, le-leb}
 use Rattle.dates.specs.declared.{Date.Date, DayAnswer.DayAnswer, DateAnswer.DateAnswer}
 use Rattle.dates.specs.Dates.{lastDay, leapRow, dateOf}
 use Rattle.dates.specs.Numbers.{dayAnswer, dateAnswer}

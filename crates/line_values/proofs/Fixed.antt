@@ -1,10 +1,6 @@
 -- Texts of a fixed number of digits: read back as written, and only so.
-use Prim.Native.Nat.{ℕ, zero, suc, _+_, _-_, _*_, _/_, _%_, _^_, _<_, _≤_}
-use mathlib.Core.Path.{_≡_, refl, sym, ap, _∙_}
-use mathlib.Core.List.{List, [], _∷_}
-use native.Mathlib.Omega.{arith}
-use native.Mathlib.Nat.{add-zero, zero-add}
-use borrow.Table.Steps.{cases}
+use Rattle.basics.proofs.Basics.{_≡_, refl, sym, _∙_, ap, List, [], _∷_, _≤_, ℕ, _-_, _+_, _<_, suc, zero, _*_, _^_}
+use Rattle.basics.proofs.Basics.{_/_, _%_, add-zero, zero-add, arith, cases}
 use Rattle.line_text.specs.Decimal.{fixed}
 use Rattle.line_values.specs.Pinned.Numbers.{fixedOf, number, isDigit}
 use Rattle.line_values.proofs.Numbers.{is-digit, digit-range}

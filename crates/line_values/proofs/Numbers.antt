@@ -1,12 +1,7 @@
 -- Reading a number and writing it are inverse: a number of at most 12 digits is read back from its text, and only from it.
-use Prim.Native.Nat.{ℕ, zero, suc, _+_, _-_, _*_, _/_, _%_, _^_, _<_, _≤_}
-use mathlib.Core.Path.{_≡_, refl, sym, ap, _∙_}
-use mathlib.Core.Bool.{true}
-use mathlib.Core.List.{List, [], _∷_}
-use native.Mathlib.Omega.{arith}
-use lib.Dec.{ltb, leb, eqb}
-use borrow.Table.Steps.{cases}
-use borrow.Author.Tests.{ltb-true, ltb-false, leb-true, lt-ltb, le-ltb, le-leb, ne-eqb, eqb-true, eqb-false}
+use Rattle.basics.proofs.Basics.{_≡_, refl, sym, _∙_, ap, true, List, [], _∷_, _≤_, ℕ, _-_, _+_, _<_, suc, zero, _*_}
+use Rattle.basics.proofs.Basics.{_^_, _/_, _%_, arith, eqb, ltb, leb, lt-ltb, le-leb, le-ltb, ne-eqb, ltb-false}
+use Rattle.basics.proofs.Basics.{eqb-true, ltb-true, leb-true, eqb-false, cases}
 use Rattle.dates.proofs.Every.{and-left, and-right}
 use Rattle.line_text.specs.Decimal.{spell, decimal}
 use Rattle.line_text.proofs.Spelling.{spell-room}

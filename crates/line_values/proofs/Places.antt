@@ -1,12 +1,7 @@
 -- What reading leaves is the end of the text, and it stands at the position that is handed back.
-use Prim.Native.Nat.{ℕ, zero, suc, _+_, _-_, _*_, _^_, _≤_}
-use mathlib.Core.Path.{_≡_, refl, sym, ap, _∙_}
-use mathlib.Core.List.{List, [], _∷_, _++_, append-assoc}
-use native.Mathlib.Omega.{arith}
-use borrow.Table.Steps.{cases}
-use lib.Dec.{ltb, eqb}
-use lib.ListN.{length, drop, length-append}
-use lib.Seq.{drop-drop, drop-at}
+use Rattle.basics.proofs.Basics.{_≡_, refl, sym, _∙_, ap, List, [], _∷_, _++_, append-assoc, _≤_, ℕ, _-_, _+_, suc}
+use Rattle.basics.proofs.Basics.{zero, _*_, _^_, arith, eqb, ltb, length, drop, length-append, drop-drop, drop-at}
+use Rattle.basics.proofs.Basics.{cases}
 use Rattle.dates.specs.declared.{DayAnswer.DayAnswer}
 use Rattle.dates.specs.Numbers.{dayAnswer}
 use Rattle.line_values.specs.declared.{Found.Found}

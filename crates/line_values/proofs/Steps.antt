@@ -1,16 +1,8 @@
 -- One step of reading at a position of a line: what the definitions of reading come to there.
-use Prim.Native.Nat.{ℕ, zero, suc, _+_, _-_, _*_, _^_, _<_, _≤_}
-use mathlib.Core.Path.{_≡_, refl, ap, ap₂, fun-ext, _∙_}
-use mathlib.Core.Bool.{true, false, cond, _&&_, and-false}
-use mathlib.Core.List.{List, [], _∷_}
-use native.Mathlib.Nat.{pow-le-pow-right}
-use native.Mathlib.Numerals.{add-one}
-use native.Mathlib.Omega.{arith}
-use borrow.Table.Steps.{cases}
-use lib.Dec.{ltb, eqb}
-use lib.ListN.{length, drop, getD, drop-of-length-le}
-use lib.Seq.{drop-cons}
-use borrow.Author.Tests.{le-leb, lt-leb, eqb-true, eq-eqb}
+use Rattle.basics.proofs.Basics.{_≡_, refl, _∙_, ap, ap₂, fun-ext, true, false, cond, _&&_, and-false, List, [], _∷_}
+use Rattle.basics.proofs.Basics.{_≤_, ℕ, _-_, _+_, _<_, suc, zero, _*_, _^_, pow-le-pow-right, add-one, arith, eqb, ltb}
+use Rattle.basics.proofs.Basics.{length, drop, getD, drop-of-length-le, drop-cons, le-leb, lt-leb, eq-eqb, eqb-true}
+use Rattle.basics.proofs.Basics.{cases}
 use Rattle.dates.specs.declared.{DayAnswer.DayAnswer}
 use Rattle.dates.specs.Numbers.{dayAnswer}
 use Rattle.dates.proofs.Every.{and-left, and-right}

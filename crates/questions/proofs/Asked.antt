@@ -1,9 +1,5 @@
 -- A point that may be asked of is one of 1 to 32.
-use mathlib.Core.Path.{_≡_, sym, _∙_}
-use mathlib.Core.Bool.{Bool, false}
-use Prim.Native.Nat.{ℕ, _≤_}
-use lib.Dec.{ltb}
-use borrow.Author.Tests.{ltb-false}
+use Rattle.basics.proofs.Basics.{_≡_, sym, _∙_, false, Bool, _≤_, ℕ, ltb, ltb-false}
 use Rattle.rules.specs.declared.{Register.Register}
 use Rattle.rules.specs.Rejections.{notPoint, outside}
 use Rattle.questions.specs.Pinned.Questions.{unasked}

@@ -1,16 +1,8 @@
 -- The questions after any list of calls. The statement is specs/Asking.antt.
-use mathlib.Core.Path.{_≡_, refl, sym, _∙_, ap}
-use mathlib.Core.Bool.{Bool, true, false, cond, _&&_, _||_, or-true}
-use mathlib.Core.List.{List, [], _∷_}
-use mathlib.Core.Option.{Option, none, some}
-use Prim.Native.Nat.{ℕ, zero, suc, _-_, _^_, _≤_, _<_}
-use native.Mathlib.Omega.{arith}
-use native.Mathlib.Decide.{decLe}
-use borrow.Table.Steps.{cases}
-use lib.Dec.{eqb, leb, ltb}
-use lib.ListN.{length}
-use native.Mathlib.Nat.{not-suc-le-zero}
-use borrow.Author.Tests.{lt-ltb, le-ltb, le-leb, lt-leb, ne-eqb, not-true, not-false}
+use Rattle.basics.proofs.Basics.{_≡_, refl, sym, _∙_, ap, true, false, Bool, cond, _&&_, _||_, or-true, some, Option}
+use Rattle.basics.proofs.Basics.{none, List, [], _∷_, _≤_, ℕ, _-_, _<_, suc, zero, _^_, not-suc-le-zero, decLe, arith}
+use Rattle.basics.proofs.Basics.{eqb, ltb, leb, length, lt-ltb, le-leb, le-ltb, lt-leb, ne-eqb, not-true, not-false}
+use Rattle.basics.proofs.Basics.{cases}
 use Rattle.rules.specs.declared.{Opening.Opening, Call.Call, Register.Register, Span.Span, Point.Point}
 use Rattle.questions.specs.declared.{HolderAnswer.HolderAnswer, PeriodAnswer.PeriodAnswer, AdvanceAnswer.AdvanceAnswer}
 use Rattle.questions.specs.declared.HolderAnswer.the-variants as holder

@@ -1,11 +1,5 @@
 -- The register's day stays on the calendar.
-use mathlib.Core.Path.{_≡_, refl}
-use mathlib.Core.Bool.{true}
-use mathlib.Core.List.{List, [], _∷_}
-use Prim.Native.Nat.{ℕ, _≤_}
-use borrow.Table.Steps.{cases}
-use lib.Dec.{eqb}
-use borrow.Author.Tests.{eqb-true, ltb-false}
+use Rattle.basics.proofs.Basics.{_≡_, refl, true, List, [], _∷_, _≤_, ℕ, eqb, ltb-false, eqb-true, cases}
 use Rattle.dates.specs.Dates.{lastDay}
 use Rattle.rules.specs.declared.{Register.Register, Opening.Opening, Call.Call, Action.Action}
 use Rattle.rules.specs.Answers.{isAccepted}

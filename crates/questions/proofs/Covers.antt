@@ -1,17 +1,7 @@
 -- The walk over a point's periods finds the one that the day lies in, and their sum does not wrap.
-use mathlib.Core.Path.{_≡_, refl, sym, _∙_, ap}
-use mathlib.Core.Bool.{true, _&&_}
-use mathlib.Core.List.{List, [], _∷_, _++_, map, append-nil}
-use mathlib.Core.Option.{Option, none, some}
-use Prim.Native.Nat.{ℕ, zero, suc, _^_, _≤_, _<_}
-use native.Mathlib.Omega.{arith}
-use native.Mathlib.Decide.{decLe}
-use native.Mathlib.Nat.{mod-eq-of-lt}
-use borrow.Table.Steps.{cases}
-use lib.Dec.{leb}
-use lib.ListN.{length, getD, take}
-use lib.Seq.{take-suc, append-snoc}
-use borrow.Author.Tests.{le-leb, lt-leb, lt-ltb}
+use Rattle.basics.proofs.Basics.{_≡_, refl, sym, _∙_, ap, true, _&&_, some, Option, none, List, [], _∷_, _++_}
+use Rattle.basics.proofs.Basics.{append-nil, map, _≤_, ℕ, _<_, suc, zero, _^_, mod-eq-of-lt, decLe, arith, leb, length}
+use Rattle.basics.proofs.Basics.{take, getD, take-suc, append-snoc, lt-ltb, le-leb, lt-leb, cases}
 use Rattle.rules.specs.declared.{Period.Period}
 use Rattle.questions.specs.declared.{HolderAnswer.HolderAnswer}
 use Rattle.questions.specs.declared.HolderAnswer.the-variants as holder

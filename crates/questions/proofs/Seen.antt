@@ -1,12 +1,6 @@
 -- No question sees a pending request: each answer of a register is that of the register without its requests.
-use mathlib.Core.Path.{_≡_, refl, sym, _∙_}
-use mathlib.Core.Bool.{true}
-use mathlib.Core.List.{List, map}
-use Prim.Native.Nat.{ℕ, _-_}
-use borrow.Author.Tests.{le-ltb}
-use borrow.Table.Steps.{cases}
-use lib.ListN.{set, List·getD-map}
-use lib.Seq.{map-set-same}
+use Rattle.basics.proofs.Basics.{_≡_, refl, sym, _∙_, true, List, map, ℕ, _-_, set, List·getD-map, map-set-same, le-ltb}
+use Rattle.basics.proofs.Basics.{cases}
 use Rattle.dates.specs.Dates.{lastDay}
 use Rattle.rules.specs.declared.{Point.Point, Register.Register, Pending.Pending, Action.Action}
 use Rattle.rules.specs.declared.{PointAction.PointAction}

@@ -1,11 +1,6 @@
 -- The register brought up to a day, and a point of it.
-use mathlib.Core.Path.{_≡_, refl, sym, _∙_, ap, fun-ext}
-use mathlib.Core.Bool.{Bool, true, false, cond}
-use mathlib.Core.List.{List, map}
-use Prim.Native.Nat.{ℕ, _-_, _≤_, _<_}
-use lib.Dec.{leb}
-use lib.ListN.{getD, List·getD-map}
-use borrow.Author.Tests.{le-leb, lt-leb, eq-eqb, ne-eqb}
+use Rattle.basics.proofs.Basics.{_≡_, refl, sym, _∙_, ap, fun-ext, true, false, Bool, cond, List, map, _≤_, ℕ, _-_, _<_}
+use Rattle.basics.proofs.Basics.{leb, getD, List·getD-map, le-leb, lt-leb, ne-eqb, eq-eqb}
 use Rattle.dates.specs.Dates.{lastDay}
 use Rattle.rules.specs.declared.{Due.Due, Point.Point, Register.Register, Settings.Settings}
 use Rattle.rules.specs.Pinned.Register.{catchUp, nextEvent, dueBy, expiryBy, happened, register, pointAt, noPoint, advanced}

@@ -1,15 +1,8 @@
 -- A call that names a point, on the whole register: the answer is that of the point as the call finds it, and the register after an
 -- accepted call has that point stored.
-use mathlib.Core.Path.{_≡_, refl, sym, _∙_, ap}
-use mathlib.Core.Bool.{Bool, true, false, cond}
+use Rattle.basics.proofs.Basics.{_≡_, refl, sym, _∙_, ap, true, false, Bool, cond, map, _≤_, ℕ, _-_, decLe, arith, eqb}
+use Rattle.basics.proofs.Basics.{leb, set, lt-ltb, le-leb, le-ltb}
 use mathlib.Core.Logic.{inl}
-use mathlib.Core.List.{map}
-use Prim.Native.Nat.{ℕ, _-_, _≤_}
-use native.Mathlib.Omega.{arith}
-use native.Mathlib.Decide.{decLe}
-use lib.Dec.{eqb, leb}
-use lib.ListN.{set}
-use borrow.Author.Tests.{le-leb, lt-ltb, le-ltb}
 use Rattle.dates.specs.Dates.{lastDay}
 use Rattle.rules.specs.declared.{Point.Point, Register.Register, Answer.Answer, Action.Action}
 use Rattle.rules.specs.declared.{PointAction.PointAction, View.View, Effect.Effect}

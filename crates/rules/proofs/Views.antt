@@ -1,11 +1,7 @@
 -- What an answer looks at, and what an accepted call has passed.
-use mathlib.Core.Path.{_≡_, refl, fun-ext}
-use mathlib.Core.Bool.{Bool, true, false, cond, _||_}
+use Rattle.basics.proofs.Basics.{_≡_, refl, fun-ext, true, false, Bool, cond, _||_, List, _∷_, _≤_, ℕ, ltb, le-ltb}
+use Rattle.basics.proofs.Basics.{ltb-false}
 use mathlib.Core.Logic.{_⊎_, inl, inr, ⊎-elim}
-use mathlib.Core.List.{List, _∷_}
-use Prim.Native.Nat.{ℕ, _≤_}
-use lib.Dec.{ltb}
-use borrow.Author.Tests.{ltb-false, le-ltb}
 use Rattle.dates.specs.Dates.{lastDay}
 use Rattle.rules.specs.declared.{Settings.Settings, Call.Call, Action.Action, PointAction.PointAction}
 use Rattle.rules.specs.Answers.{isAccepted}

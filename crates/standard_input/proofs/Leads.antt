@@ -1,9 +1,5 @@
 -- What is still to come behind a session leads to a desk of an input.
-use mathlib.Core.Path.{_≡_, sym, _∙_, ap, subst}
-use mathlib.Core.List.{List, []}
-use Prim.Native.Nat.{ℕ, _≤_}
-use native.Mathlib.Omega.{arith}
-use lib.ListN.{length, take}
+use Rattle.basics.proofs.Basics.{_≡_, sym, _∙_, ap, subst, List, [], _≤_, ℕ, arith, length, take}
 use Rattle.input_desk.specs.declared.{Desk.Desk}
 use Rattle.input_pieces.specs.declared.{Session.Session, Fed.Fed}
 use Rattle.input_pieces.specs.Pinned.Session.{FedBy}

@@ -1,8 +1,6 @@
 -- `day_of` meets its contract: a date that fails a test is not real, one that passes them all is.
-use mathlib.Core.Path.{sym}
-use native.Mathlib.Omega.{arith}
+use Rattle.basics.proofs.Basics.{sym, arith, needs}
 use Rattle.dates.proofs.Real.{no-date, found}
-use borrow.Author.Needs.{needs}
 use Rattle.dates.proofs.day_of.Statement.{statement}
 use Rattle.dates.proofs.day_of.Tie as tie
 

@@ -1,11 +1,8 @@
 -- `count_working` meets its contract: the days counted and the working days left are all of them.
 use mathlib.Core.Logic.{⊎-elim}
-use mathlib.Core.Path.{_≡_, _∙_, sym}
-use Prim.Native.Nat.{_+_, _-_, _≤_}
-use native.Mathlib.Omega.{arith}
+use Rattle.basics.proofs.Basics.{_≡_, sym, _∙_, _≤_, _-_, _+_, arith, needs}
 use Rattle.holidays.specs.Working.{workingDays}
 use Rattle.holidays.proofs.Counting.{walk-step, walk-end}
-use borrow.Author.Needs.{needs}
 use Rattle.holidays.proofs.count_working.Statement.{statement}
 use Rattle.holidays.proofs.count_working.Tie as tie
 

@@ -1,9 +1,6 @@
 -- `is_after_easter` meets its contract: three days after Easter Sunday, and none where there is no Easter.
-use mathlib.Core.Path.{_∙_, sym}
-use Prim.Native.Nat.{_+_}
-use borrow.Author.Tests.{eq-eqb, ne-eqb}
+use Rattle.basics.proofs.Basics.{sym, _∙_, _+_, ne-eqb, eq-eqb, needs}
 use Rattle.holidays.specs.Holidays.{isAfterEaster}
-use borrow.Author.Needs.{needs}
 use Rattle.holidays.proofs.is_after_easter.Statement.{statement}
 use Rattle.holidays.proofs.is_after_easter.Tie as tie
 

@@ -1,11 +1,7 @@
 -- `is_fixed_holiday` meets its contract: the rows passed do not fall on the date.
-use Prim.Native.Nat.{_≤_, _-_}
-use mathlib.Core.Path.{_≡_, refl, _∙_, sym}
-use native.Mathlib.Omega.{arith}
-use lib.ListN.{drop}
+use Rattle.basics.proofs.Basics.{_≡_, refl, sym, _∙_, _≤_, _-_, arith, drop, needs}
 use Rattle.holidays.specs.Holidays.{fixedHolidays, anyFallsOn, isFixedHoliday}
 use Rattle.holidays.proofs.FixedTable.{row-passed, row-met}
-use borrow.Author.Needs.{needs}
 use Rattle.holidays.proofs.is_fixed_holiday.Statement.{statement}
 use Rattle.holidays.proofs.is_fixed_holiday.Tie as tie
 

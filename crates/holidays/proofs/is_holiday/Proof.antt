@@ -1,9 +1,7 @@
 -- `is_holiday` meets its contract: a day with a date that is a fixed or a moving holiday.
-use mathlib.Core.Path.{_∙_, sym}
-use borrow.Author.Tests.{le-leb, lt-leb}
+use Rattle.basics.proofs.Basics.{sym, _∙_, le-leb, lt-leb, needs}
 use Rattle.dates.proofs.Answers.{answer-on, answer-off}
 use Rattle.holidays.specs.Holidays.{isHoliday, isHolidayOn}
-use borrow.Author.Needs.{needs}
 use Rattle.holidays.proofs.is_holiday.Statement.{statement}
 use Rattle.holidays.proofs.is_holiday.Tie as tie
 

@@ -1,7 +1,7 @@
 -- The register opened, or the call done; else nothing.
 use Rattle.input_desk.specs.Pinned.Desk.{deskAfter}
 use Rattle.input_desk.proofs.Openings.{opening-after}
-use borrow.Author.Needs.{needs}
+use Rattle.basics.proofs.Basics.{needs}
 use Rattle.input_desk.proofs.after.Statement.{statement}
 use Rattle.input_desk.proofs.after.Tie as tie
 

@@ -1,9 +1,6 @@
-use borrow.Author.Needs.{needs}
+use Rattle.basics.proofs.Basics.{sym, arith, length-take-le, needs}
 use Rattle.input_lines.proofs.append_to.Statement.{statement}
 use Rattle.input_lines.proofs.append_to.Tie as tie
-use mathlib.Core.Path.{sym}
-use lib.Seq.{length-take-le}
-use native.Mathlib.Omega.{arith}
 use Rattle.input_lines.proofs.KeptBytes.{begun-appended}
 
 slice-aggregate-put-word-2 : tie.Need-slice-aggregate-put-word-2

@@ -1,11 +1,6 @@
-use borrow.Author.Needs.{needs}
+use Rattle.basics.proofs.Basics.{_≡_, sym, _∙_, _≤_, _-_, _+_, add-one, arith, length, drop, length-drop, needs}
 use Rattle.input_lines.proofs.fitting.Statement.{statement}
 use Rattle.input_lines.proofs.fitting.Tie as tie
-use Prim.Native.Nat.{_+_, _-_, _≤_}
-use mathlib.Core.Path.{_≡_, sym, _∙_}
-use lib.ListN.{length, drop, length-drop}
-use native.Mathlib.Omega.{arith}
-use native.Mathlib.Numerals.{add-one}
 use Rattle.input_lines.specs.Between.Feeds.{fitting}
 use Rattle.input_lines.proofs.Feeds.{fitting-all, fitting-over, fitting-next, fitting-le}
 

@@ -1,11 +1,6 @@
-use borrow.Author.Needs.{needs}
+use Rattle.basics.proofs.Basics.{_≡_, refl, _-_, _+_, add-one, arith, length, drop, length-drop, needs}
 use Rattle.input_lines.proofs.line_end.Statement.{statement}
 use Rattle.input_lines.proofs.line_end.Tie as tie
-use Prim.Native.Nat.{_+_, _-_}
-use mathlib.Core.Path.{_≡_, refl}
-use lib.ListN.{length, drop, length-drop}
-use native.Mathlib.Omega.{arith}
-use native.Mathlib.Numerals.{add-one}
 use Rattle.input_lines.specs.Between.Feeds.{untilFeed}
 use Rattle.input_lines.proofs.Feeds.{until-here, until-later, until-le}
 

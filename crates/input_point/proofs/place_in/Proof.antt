@@ -1,7 +1,6 @@
 -- The place of a point, one before its number.
-use mathlib.Core.Path.{sym, _∙_}
+use Rattle.basics.proofs.Basics.{sym, _∙_, needs}
 use Rattle.input_point.proofs.Places.{point-in, point-lt, place-none}
-use borrow.Author.Needs.{needs}
 use Rattle.input_point.proofs.place_in.Statement.{statement}
 use Rattle.input_point.proofs.place_in.Tie as tie
 

@@ -1,13 +1,9 @@
 -- The row taken out, booked, and put back slot by slot.
-use mathlib.Core.Path.{_≡_, refl, sym, _∙_}
-use Prim.Native.Nat.{_-_, _*_, _≤_}
-use native.Mathlib.Omega.{arith}
-use borrow.Author.Tests.{lt-ltb, le-ltb}
+use Rattle.basics.proofs.Basics.{_≡_, refl, sym, _∙_, _≤_, _-_, _*_, arith, lt-ltb, le-ltb, needs}
 use Rattle.rules.specs.Pinned.Register.{noPeriod}
 use Rattle.input_tables.specs.Between.Tables.{rowAt, bookedAt}
 use Rattle.input_tables.proofs.Points.{row-length, row-get}
 use Rattle.input_tables.proofs.Filled.{Filled, filled-next, filled-all, Pasted, pasted-start, pasted-next}
-use borrow.Author.Needs.{needs}
 use Rattle.input_tables.proofs.booked_at.Statement.{statement}
 use Rattle.input_tables.proofs.booked_at.Tie as tie
 

@@ -1,7 +1,7 @@
 -- The closing lines, where a register is open.
 use Rattle.input_pieces.specs.Pinned.Session.{deskOf}
 use Rattle.input_whole.proofs.Ends.{closed-ready, closed-unready}
-use borrow.Author.Needs.{needs}
+use Rattle.basics.proofs.Basics.{needs}
 use Rattle.input_whole.proofs.close.Statement.{statement}
 use Rattle.input_whole.proofs.close.Tie as tie
 

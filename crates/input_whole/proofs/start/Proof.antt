@@ -1,9 +1,7 @@
 -- Before any input: no register is open, and no line has begun.
-use mathlib.Core.Path.{ap}
-use mathlib.Core.Bool.{false}
+use Rattle.basics.proofs.Basics.{ap, false, needs}
 use Rattle.input_desk.specs.Pinned.Desk.{desk}
 use Rattle.input_whole.specs.Pinned.Ends.{startDesk}
-use borrow.Author.Needs.{needs}
 use Rattle.input_whole.proofs.start.Statement.{statement}
 use Rattle.input_whole.proofs.start.Tie as tie
 

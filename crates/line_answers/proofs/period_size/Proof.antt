@@ -1,7 +1,6 @@
 -- `line_answers::period_size` meets its contract.
-use native.Mathlib.Omega.{arith}
+use Rattle.basics.proofs.Basics.{arith, needs}
 use Rattle.line_answers.proofs.LineTexts.{digits-few, period-length}
-use borrow.Author.Needs.{needs}
 use Rattle.line_answers.proofs.period_size.Statement.{statement}
 use Rattle.line_answers.proofs.period_size.Tie as tie
 

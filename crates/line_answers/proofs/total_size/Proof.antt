@@ -1,7 +1,6 @@
 -- `line_answers::total_size` meets its contract.
-use native.Mathlib.Omega.{arith}
+use Rattle.basics.proofs.Basics.{arith, needs}
 use Rattle.line_answers.proofs.LineTexts.{digits-few, total-length}
-use borrow.Author.Needs.{needs}
 use Rattle.line_answers.proofs.total_size.Statement.{statement}
 use Rattle.line_answers.proofs.total_size.Tie as tie
 

@@ -1,10 +1,8 @@
 -- `line_fields::field_at` meets its contract: a `;`, and then what the sort asks for.
-use lib.ListN.{drop-of-length-le}
-use borrow.Author.Tests.{eq-eqb, ne-eqb}
+use Rattle.basics.proofs.Basics.{drop-of-length-le, ne-eqb, eq-eqb, needs}
 use Rattle.line_values.proofs.Steps.{cons-at}
 use Rattle.line_fields.specs.Between.With.{fieldWith}
 use Rattle.line_fields.proofs.Handed.{field-step}
-use borrow.Author.Needs.{needs}
 use Rattle.line_fields.proofs.field_at.Statement.{statement}
 use Rattle.line_fields.proofs.field_at.Tie as tie
 

@@ -1,12 +1,8 @@
 -- `line_fields::known_date_at` meets its contract: the bytes are those of the known date, or a date is read.
-use Prim.Native.Nat.{_+_, _*_, _^_, _<_}
-use mathlib.Core.Path.{_≡_}
-use native.Mathlib.Omega.{arith}
-use lib.ListN.{take, drop, length-drop}
+use Rattle.basics.proofs.Basics.{_≡_, _+_, _<_, _*_, _^_, arith, drop, take, length-drop, needs}
 use Rattle.line_fields.specs.Between.Known.{packed}
 use Rattle.line_fields.proofs.KnownDates.{date-short, date-same, date-other, eight-packed, eight-bytes}
 use Rattle.line_fields.proofs.Handed.{found-known}
-use borrow.Author.Needs.{needs}
 use Rattle.line_fields.proofs.known_date_at.Statement.{statement}
 use Rattle.line_fields.proofs.known_date_at.Tie as tie
 

@@ -1,6 +1,6 @@
 -- `line_fields::known_number_at` meets its contract: the number, and the date that was known.
 use Rattle.line_fields.proofs.Handed.{found-known}
-use borrow.Author.Needs.{needs}
+use Rattle.basics.proofs.Basics.{needs}
 use Rattle.line_fields.proofs.known_number_at.Statement.{statement}
 use Rattle.line_fields.proofs.known_number_at.Tie as tie
 

@@ -1,15 +1,10 @@
 -- `line_fields::read_fields` meets its contract: the values so far, and what is read from here on, are what is read in all.
-use Prim.Native.Nat.{_≤_, _<_, _-_}
-use mathlib.Core.Path.{_≡_, refl}
-use mathlib.Core.Bool.{true, false}
-use mathlib.Core.List.{[]}
-use native.Mathlib.Omega.{arith}
-use lib.ListN.{length, length-set, take, drop, replicate}
+use Rattle.basics.proofs.Basics.{_≡_, refl, true, false, [], _≤_, _-_, _<_, arith, length, drop, take, length-set}
+use Rattle.basics.proofs.Basics.{replicate, needs}
 use Rattle.line_fields.specs.Between.With.{fieldsWith}
 use Rattle.line_fields.specs.Between.Shapes.{sortsFrom}
 use Rattle.line_fields.proofs.FieldSteps.{sorts-next, sorts-none, one-more, zeros-left, fields-in-is, too-many}
 use Rattle.line_fields.proofs.Handed.{handed, fields-step, handed-here, reads}
-use borrow.Author.Needs.{needs}
 use Rattle.line_fields.proofs.read_fields.Statement.{statement}
 use Rattle.line_fields.proofs.read_fields.Tie as tie
 

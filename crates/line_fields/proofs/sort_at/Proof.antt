@@ -1,5 +1,5 @@
 -- `line_fields::sort_at` meets its contract, test by test.
-use borrow.Author.Tests.{eq-eqb, ne-eqb}
+use Rattle.basics.proofs.Basics.{ne-eqb, eq-eqb}
 use Rattle.line_fields.proofs.sort_at.Statement.{statement}
 use Rattle.line_fields.proofs.sort_at.Tie as tie
 

@@ -1,12 +1,8 @@
 -- The lines of one point: none, or its periods and then its total.
-use Prim.Native.Nat.{_+_, _-_, _*_}
-use mathlib.Core.Path.{_≡_}
-use native.Mathlib.Omega.{arith}
-use borrow.Author.Tests.{not-true, not-false}
+use Rattle.basics.proofs.Basics.{_≡_, _-_, _+_, _*_, arith, not-true, not-false, needs}
 use Rattle.line_text.proofs.Within.{within, within-none, within-more, within-wider}
 use Rattle.line_answers.proofs.LineTexts.{total-short}
 use Rattle.line_listing.specs.Pinned.Listing.{pointLines}
-use borrow.Author.Needs.{needs}
 use Rattle.line_listing.proofs.put_point.Statement.{statement}
 use Rattle.line_listing.proofs.put_point.Tie as tie
 

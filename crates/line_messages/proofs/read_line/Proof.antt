@@ -1,11 +1,8 @@
 -- `line_messages::read_line` meets its contract, step by step.
-use mathlib.Core.Path.{sym, _∙_}
-use borrow.Author.Tests.{lt-leb, not-true, not-false}
-use lib.Seq.{length-take-le}
+use Rattle.basics.proofs.Basics.{sym, _∙_, length-take-le, lt-leb, not-true, not-false, needs}
 use Rattle.line_fields.proofs.KnownStays.{first-is-known}
 use Rattle.line_messages.specs.Pinned.Reading.{readLine}
 use Rattle.line_messages.proofs.LineTexts.{line-bad, line-more, line-all}
-use borrow.Author.Needs.{needs}
 use Rattle.line_messages.proofs.read_line.Statement.{statement}
 use Rattle.line_messages.proofs.read_line.Tie as tie
 

@@ -1,8 +1,7 @@
 -- `line_values::date_at` meets its contract: the year, the month, the day, and then the calendar.
-use mathlib.Core.Path.{sym, ap, _∙_}
+use Rattle.basics.proofs.Basics.{sym, _∙_, ap, needs}
 use Rattle.dates.specs.declared.{DayAnswer.DayAnswer}
 use Rattle.line_values.proofs.Steps.{dayFound, date-steps}
-use borrow.Author.Needs.{needs}
 use Rattle.line_values.proofs.date_at.Statement.{statement}
 use Rattle.line_values.proofs.date_at.Tie as tie
 

@@ -1,10 +1,6 @@
 -- `line_values::fixed_at` meets its contract: what is read from the first digit is what is read from here on.
-use Prim.Native.Nat.{_≤_, _<_, _+_, _-_, _^_}
-use mathlib.Core.Path.{_≡_}
-use native.Mathlib.Omega.{arith}
-use lib.ListN.{length, drop, length-drop}
+use Rattle.basics.proofs.Basics.{_≡_, _≤_, _-_, _+_, _<_, _^_, arith, length, drop, length-drop, needs}
 use Rattle.line_values.proofs.Steps.{below-digit, above-digit, in-digit, fixedAt, fixed-step, fixed-few, fixed-end, fixed-small, fixed-grows}
-use borrow.Author.Needs.{needs}
 use Rattle.line_values.proofs.fixed_at.Statement.{statement}
 use Rattle.line_values.proofs.fixed_at.Tie as tie
 

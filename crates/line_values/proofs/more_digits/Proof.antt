@@ -1,11 +1,6 @@
 -- `line_values::more_digits` meets its contract: what is read from the first digit is what is read from here on.
-use Prim.Native.Nat.{_<_, _-_, _^_}
-use mathlib.Core.Path.{_≡_, refl}
-use native.Mathlib.Omega.{arith}
-use lib.ListN.{length}
-use borrow.Author.Tests.{le-ltb, lt-ltb}
+use Rattle.basics.proofs.Basics.{_≡_, refl, _-_, _<_, _^_, arith, length, lt-ltb, le-ltb, needs}
 use Rattle.line_values.proofs.Steps.{moreAt, cons-at, below-digit, above-digit, in-digit, more-end, more-step}
-use borrow.Author.Needs.{needs}
 use Rattle.line_values.proofs.more_digits.Statement.{statement}
 use Rattle.line_values.proofs.more_digits.Tie as tie
 

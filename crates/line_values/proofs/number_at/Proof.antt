@@ -1,9 +1,7 @@
 -- `line_values::number_at` meets its contract: the first byte decides.
-use lib.ListN.{drop-of-length-le}
-use borrow.Author.Tests.{eq-eqb, ne-eqb}
+use Rattle.basics.proofs.Basics.{drop-of-length-le, ne-eqb, eq-eqb, needs}
 use Rattle.line_values.specs.Pinned.Numbers.{numberOf}
 use Rattle.line_values.proofs.Steps.{cons-at, below-digit, above-digit, in-digit, number-step}
-use borrow.Author.Needs.{needs}
 use Rattle.line_values.proofs.number_at.Statement.{statement}
 use Rattle.line_values.proofs.number_at.Tie as tie
 

@@ -1,12 +1,7 @@
 -- `line_values::same` meets its contract: what is left to compare says whether the words are the same.
-use Prim.Native.Nat.{_≤_, _-_}
-use mathlib.Core.Path.{_≡_, refl}
-use native.Mathlib.Omega.{arith}
-use lib.ListN.{length, drop}
-use borrow.Author.Tests.{eq-eqb, ne-eqb}
+use Rattle.basics.proofs.Basics.{_≡_, refl, _≤_, _-_, arith, length, drop, ne-eqb, eq-eqb, needs}
 use Rattle.line_values.specs.Pinned.Words.{isSame}
 use Rattle.line_values.proofs.Steps.{other-length, same-step, same-end}
-use borrow.Author.Needs.{needs}
 use Rattle.line_values.proofs.same.Statement.{statement}
 use Rattle.line_values.proofs.same.Tie as tie
 

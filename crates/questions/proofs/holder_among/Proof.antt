@@ -1,10 +1,7 @@
 -- The periods are looked at from the newest down: what is left to look at decides.
-use mathlib.Core.Path.{_≡_, refl, sym, _∙_}
-use Prim.Native.Nat.{_≤_}
-use native.Mathlib.Omega.{arith}
+use Rattle.basics.proofs.Basics.{_≡_, refl, sym, _∙_, _≤_, arith, needs}
 use Rattle.questions.specs.Pinned.Questions.{holderAmong}
 use Rattle.questions.proofs.Walks.{among-found, among-passed, among-none}
-use borrow.Author.Needs.{needs}
 use Rattle.questions.proofs.holder_among.Statement.{statement}
 use Rattle.questions.proofs.holder_among.Tie as tie
 

@@ -1,9 +1,7 @@
 -- The holder question: off its range, or the walk over the point's periods.
-use mathlib.Core.Path.{sym, _∙_}
-use borrow.Author.Tests.{lt-ltb, le-ltb}
+use Rattle.basics.proofs.Basics.{sym, _∙_, lt-ltb, le-ltb, needs}
 use Rattle.questions.specs.Pinned.Questions.{holderAnswer}
 use Rattle.questions.proofs.Asked.{asked-in}
-use borrow.Author.Needs.{needs}
 use Rattle.questions.proofs.holder_of.Statement.{statement}
 use Rattle.questions.proofs.holder_of.Tie as tie
 

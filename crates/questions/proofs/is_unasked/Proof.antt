@@ -1,7 +1,6 @@
 -- No point, or one that is not enrolled.
-use native.Mathlib.Omega.{arith}
+use Rattle.basics.proofs.Basics.{arith, needs}
 use Rattle.questions.proofs.Asked.{told-in}
-use borrow.Author.Needs.{needs}
 use Rattle.questions.proofs.is_unasked.Statement.{statement}
 use Rattle.questions.proofs.is_unasked.Tie as tie
 

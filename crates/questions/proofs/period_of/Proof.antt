@@ -1,9 +1,7 @@
 -- The period question: off its range, or the n-th slot.
-use mathlib.Core.Path.{sym, _∙_}
-use native.Mathlib.Omega.{arith}
+use Rattle.basics.proofs.Basics.{sym, _∙_, arith, needs}
 use Rattle.questions.specs.Pinned.Questions.{periodAnswer}
 use Rattle.questions.proofs.Asked.{asked-in, told, told-in}
-use borrow.Author.Needs.{needs}
 use Rattle.questions.proofs.period_of.Statement.{statement}
 use Rattle.questions.proofs.period_of.Tie as tie
 

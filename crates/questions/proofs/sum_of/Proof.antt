@@ -1,10 +1,7 @@
 -- The volumes passed so far, added up.
-use mathlib.Core.Path.{_≡_, sym}
-use Prim.Native.Nat.{_≤_, _-_}
-use native.Mathlib.Omega.{arith}
+use Rattle.basics.proofs.Basics.{_≡_, sym, _≤_, _-_, arith, needs}
 use Rattle.questions.specs.Pinned.Questions.{sumOf}
 use Rattle.questions.proofs.Walks.{sum-next, sum-none}
-use borrow.Author.Needs.{needs}
 use Rattle.questions.proofs.sum_of.Statement.{statement}
 use Rattle.questions.proofs.sum_of.Tie as tie
 

@@ -1,8 +1,6 @@
 -- The last line's answer stands within the buffer, and where all is taken no line is under way.
-use mathlib.Core.Path.{sym}
-use lib.Seq.{length-take-le}
+use Rattle.basics.proofs.Basics.{sym, length-take-le, needs}
 use Rattle.input_pieces.proofs.Within.{fed-within}
-use borrow.Author.Needs.{needs}
 use Rattle.standard_input.proofs.Leads.{broken-off, taken-whole}
 use Rattle.standard_input.proofs.finished.Statement.{statement}
 use Rattle.standard_input.proofs.finished.Tie as tie

@@ -1,13 +1,8 @@
 -- What is still to be taken stands within what was read, what was read within its buffer, and the answers within theirs.
-use Prim.Native.Nat.{_≤_}
-use mathlib.Core.Path.{_≡_, sym}
-use lib.ListN.{length}
-use lib.Seq.{length-take-le}
-use native.Mathlib.Omega.{arith}
+use Rattle.basics.proofs.Basics.{_≡_, sym, _≤_, arith, length, length-take-le, needs}
 use Rattle.input_pieces.proofs.Within.{fed-within}
 use Rattle.input_whole.proofs.Taken.{part-taken}
 use Rattle.standard_input.proofs.Leads.{Leads, leads-first, leads-on, leads-last, broken-off}
-use borrow.Author.Needs.{needs}
 use Rattle.standard_input.proofs.read_all.Statement.{statement}
 use Rattle.standard_input.proofs.read_all.Tie as tie
 

@@ -1,9 +1,8 @@
 -- `number::date_on` meets its contract: year, month and what is left are the date counted on to the day.
-use native.Mathlib.Omega.{arith}
+use Rattle.basics.proofs.Basics.{arith, needs}
 use Rattle.dates.specs.Numbers.{yearStart}
 use Rattle.dates.proofs.Counting.{placed, placed-day}
 use Rattle.dates.proofs.Months.{length-bounds}
-use borrow.Author.Needs.{needs}
 use Rattle.dates.proofs.number.date_on.Statement.{statement}
 use Rattle.dates.proofs.number.date_on.Tie as tie
 

@@ -1,6 +1,5 @@
 -- `year::leap_row` meets its contract, test by test.
-use borrow.Author.Tests.{eq-eqb, ne-eqb}
-use native.Mathlib.Omega.{arith}
+use Rattle.basics.proofs.Basics.{arith, ne-eqb, eq-eqb}
 use Rattle.dates.specs.Dates.{leapRow}
 use Rattle.dates.proofs.year.leap_row.Statement.{statement}
 use Rattle.dates.proofs.year.leap_row.Tie as tie

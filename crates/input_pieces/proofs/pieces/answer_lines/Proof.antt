@@ -1,10 +1,6 @@
 -- The lines in turn.
-use Prim.Native.Nat.{_-_, _≤_}
-use mathlib.Core.Path.{sym, _∙_}
+use Rattle.basics.proofs.Basics.{sym, _∙_, _≤_, _-_, arith, length, drop, length-drop, take-all, needs}
 use mathlib.Core.Logic.{⊎-elim}
-use lib.ListN.{length, drop, length-drop}
-use lib.Seq.{take-all}
-use native.Mathlib.Omega.{arith}
 use Rattle.line_fields.specs.Between.Known.{IsKnown}
 use Rattle.line_fields.proofs.KnownStays.{first-is-known}
 use Rattle.line_next.proofs.NextLines.{next-right}
@@ -16,7 +12,6 @@ use Rattle.input_pieces.specs.Pinned.Session.{registerIn}
 use Rattle.input_pieces.proofs.Turns.{Going, going-start, ends, line-done}
 use Rattle.input_pieces.proofs.Leaves.{Heard, Next, state, d, saidHere, place-within, supplier-within, heard-as}
 use Rattle.input_pieces.proofs.Leaves.{daily-next, refused-next, whole-next, slot-next, back-next, sign-next, pass-next}
-use borrow.Author.Needs.{needs}
 use Rattle.input_pieces.proofs.pieces.answer_lines.Statement.{statement}
 use Rattle.input_pieces.proofs.pieces.answer_lines.Tie as tie
 

@@ -1,11 +1,7 @@
-use borrow.Author.Needs.{needs}
+use Rattle.basics.proofs.Basics.{_≡_, sym, min, arith, length-take-le, take-all, needs}
 use Rattle.input_lines.specs.Between.Begun.{keptBytes}
 use Rattle.input_pieces.proofs.pieces.read_first.Statement.{statement}
 use Rattle.input_pieces.proofs.pieces.read_first.Tie as tie
-use Prim.Native.Nat.{min}
-use mathlib.Core.Path.{_≡_, sym}
-use lib.Seq.{length-take-le, take-all}
-use native.Mathlib.Omega.{arith}
 
 returns : tie.Need-returns
 returns c = let n = c .before .before .before .args .n in let e : min n keptBytes ≡ n = omega (arith, c .before .before .if1 .taken) in

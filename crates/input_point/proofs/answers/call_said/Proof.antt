@@ -1,7 +1,7 @@
 -- The answer, call by call.
 use Rattle.rules.specs.Rejections.{blankView}
 use Rattle.input_point.specs.Between.Answers.{callSaid}
-use borrow.Author.Needs.{needs}
+use Rattle.basics.proofs.Basics.{needs}
 use Rattle.input_point.proofs.answers.call_said.Statement.{statement}
 use Rattle.input_point.proofs.answers.call_said.Tie as tie
 

@@ -1,9 +1,8 @@
 -- Only a reading is one.
-use mathlib.Core.List.{[], _∷_}
+use Rattle.basics.proofs.Basics.{[], _∷_, needs}
 use types.Run.{miss}
 use Rattle.input_point.specs.Between.Daily.{dailyAt}
 use Rattle.input_point.proofs.DailyRules.{isReading, isOther, which}
-use borrow.Author.Needs.{needs}
 use Rattle.input_point.proofs.daily.daily_at.Statement.{statement}
 use Rattle.input_point.proofs.daily.daily_at.Tie as tie
 

@@ -1,14 +1,10 @@
 -- Only a call at a point, on the register's own day, before anything falls due.
-use mathlib.Core.Path.{_≡_, refl}
-use mathlib.Core.List.{[], _∷_}
-use Prim.Native.Nat.{ℕ, _<_}
-use native.Mathlib.Omega.{arith}
-use borrow.Author.Tests.{not-true, not-false, eq-eqb, ne-eqb, lt-ltb, le-ltb}
+use Rattle.basics.proofs.Basics.{_≡_, refl, [], _∷_, ℕ, _<_, arith, lt-ltb, le-ltb, ne-eqb, eq-eqb, not-true, not-false}
+use Rattle.basics.proofs.Basics.{needs}
 use types.Run.{miss}
 use Rattle.rules.specs.declared.{Action.Action, Fields.Fields, Period.Period, PointAction.PointAction}
 use Rattle.input_point.specs.declared.{daily.Daily.Daily}
 use Rattle.input_point.specs.Between.Daily.{dailyIn, dailyOf}
-use borrow.Author.Needs.{needs}
 use Rattle.input_point.proofs.daily.daily_of.Statement.{statement}
 use Rattle.input_point.proofs.daily.daily_of.Tie as tie
 

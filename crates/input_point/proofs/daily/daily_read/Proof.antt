@@ -1,10 +1,5 @@
 -- A reading of the register's own day, by its rows and the newest period.
-use mathlib.Core.Path.{_≡_, refl, sym, ap, _∙_}
-use mathlib.Core.Bool.{Bool}
-use mathlib.Core.List.{List}
-use Prim.Native.Nat.{ℕ}
-use native.Mathlib.Omega.{arith}
-use borrow.Author.Tests.{not-true, not-false}
+use Rattle.basics.proofs.Basics.{_≡_, refl, sym, _∙_, ap, Bool, List, ℕ, arith, not-true, not-false, needs}
 use Rattle.rules.specs.declared.{Answer.Answer, Fields.Fields, Period.Period, PointAction.PointAction, Settings.Settings}
 use Rattle.rules.specs.declared.{Span.Span, View.View}
 use Rattle.rules.specs.Answers.{isAccepted}
@@ -15,7 +10,6 @@ use Rattle.point_answers.specs.Between.{answerAt}
 use Rattle.input_point.specs.declared.{daily.Daily.Daily}
 use Rattle.input_point.specs.Between.Daily.{readingSaid, dailyRead}
 use Rattle.input_point.proofs.DailyRules.{daily-fits}
-use borrow.Author.Needs.{needs}
 use Rattle.input_point.proofs.daily.daily_read.Statement.{statement}
 use Rattle.input_point.proofs.daily.daily_read.Tie as tie
 

@@ -1,6 +1,6 @@
 -- What is seen after what fell due.
 use Rattle.input_quiet.specs.Between.Quiet.{happenedSeen}
-use borrow.Author.Needs.{needs}
+use Rattle.basics.proofs.Basics.{needs}
 use Rattle.input_quiet.proofs.seen.happen_seen.Statement.{statement}
 use Rattle.input_quiet.proofs.seen.happen_seen.Tie as tie
 

@@ -1,7 +1,6 @@
 -- Two events at the most, on another day than the register's that lies in the calendar.
-use mathlib.Core.Path.{sym}
+use Rattle.basics.proofs.Basics.{sym, needs}
 use Rattle.input_quiet.proofs.SeenOn.{seen-day, seen-late, seen-up}
-use borrow.Author.Needs.{needs}
 use Rattle.input_quiet.proofs.seen.view_on.Statement.{statement}
 use Rattle.input_quiet.proofs.seen.view_on.Tie as tie
 

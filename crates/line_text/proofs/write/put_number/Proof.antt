@@ -1,14 +1,9 @@
 -- `line_text::write::put_number` meets its contract: the digits that stand already, and those left, are the number's.
-use Prim.Native.Nat.{ℕ, _≤_, _<_, _+_}
-use mathlib.Core.Path.{refl, ap, _∙_}
-use mathlib.Core.List.{[]}
-use native.Mathlib.Omega.{arith}
-use lib.ListN.{length, length-set}
+use Rattle.basics.proofs.Basics.{refl, _∙_, ap, [], _≤_, ℕ, _+_, _<_, arith, length, length-set, needs}
 use Rattle.line_text.specs.Decimal.{decimal}
 use Rattle.line_text.proofs.Spelling.{count-some}
 use Rattle.line_text.proofs.DigitSteps.{Left, left-some, left-step, left-done}
 use Rattle.line_text.proofs.Appends.{appended, not-appended}
-use borrow.Author.Needs.{needs}
 use Rattle.line_text.proofs.write.put_number.Statement.{statement}
 use Rattle.line_text.proofs.write.put_number.Tie as tie
 

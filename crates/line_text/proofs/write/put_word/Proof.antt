@@ -1,12 +1,7 @@
 -- `line_text::write::put_word` meets its contract: the bytes copied so far stand behind the position.
-use Prim.Native.Nat.{_≤_, _+_, _-_}
-use mathlib.Core.Path.{_≡_, refl, _∙_}
-use native.Mathlib.Omega.{arith}
-use native.Mathlib.Numerals.{add-one}
-use lib.ListN.{length, length-set}
-use lib.Seq.{paste, paste-zero, paste-suc}
+use Rattle.basics.proofs.Basics.{_≡_, refl, _∙_, _≤_, _-_, _+_, add-one, arith, length, length-set, paste, paste-zero}
+use Rattle.basics.proofs.Basics.{paste-suc, needs}
 use Rattle.line_text.proofs.Appends.{appended, not-appended, word-pasted}
-use borrow.Author.Needs.{needs}
 use Rattle.line_text.proofs.write.put_word.Statement.{statement}
 use Rattle.line_text.proofs.write.put_word.Tie as tie
 

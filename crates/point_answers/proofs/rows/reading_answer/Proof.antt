@@ -1,11 +1,8 @@
 -- The rows of a reading, in order: 22, 20 and 21, then the others.
-use mathlib.Core.Path.{_≡_, sym, _∙_}
-use mathlib.Core.Bool.{true}
-use borrow.Author.Tests.{lt-ltb, le-ltb}
+use Rattle.basics.proofs.Basics.{_≡_, sym, _∙_, true, lt-ltb, le-ltb, needs}
 use Rattle.rules.specs.Effects.{effectOf}
 use Rattle.rules.specs.Rejections.{notMark, isPast, firstOf, rowsAt}
 use Rattle.point_answers.specs.Between.{answerAt}
-use borrow.Author.Needs.{needs}
 use Rattle.point_answers.proofs.rows.reading_answer.Statement.{statement}
 use Rattle.point_answers.proofs.rows.reading_answer.Tie as tie
 

@@ -1,6 +1,6 @@
 -- Catching up: two events.
 use Rattle.point_effects.specs.Between.{caughtUp}
-use borrow.Author.Needs.{needs}
+use Rattle.basics.proofs.Basics.{needs}
 use Rattle.point_effects.proofs.events.catch_up.Statement.{statement}
 use Rattle.point_effects.proofs.events.catch_up.Tie as tie
 

@@ -1,8 +1,7 @@
 -- What falls due first: the request, unless it lies ahead or the deadline comes before it.
-use borrow.Author.Tests.{le-leb, lt-leb}
+use Rattle.basics.proofs.Basics.{le-leb, lt-leb, needs}
 use Rattle.rules.specs.Pinned.Register.{dueBy}
 use Rattle.point_effects.specs.Between.{dueIn}
-use borrow.Author.Needs.{needs}
 use Rattle.point_effects.proofs.events.due_by.Statement.{statement}
 use Rattle.point_effects.proofs.events.due_by.Tie as tie
 

@@ -1,7 +1,6 @@
 -- The point after what fell due.
-use mathlib.Core.Path.{_∙_}
+use Rattle.basics.proofs.Basics.{_∙_, needs}
 use Rattle.rules.specs.Pinned.Register.{happened}
-use borrow.Author.Needs.{needs}
 use Rattle.point_effects.proofs.events.happen.Statement.{statement}
 use Rattle.point_effects.proofs.events.happen.Tie as tie
 

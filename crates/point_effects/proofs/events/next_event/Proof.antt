@@ -1,6 +1,6 @@
 -- The next event is what is due first, happened.
 use Rattle.point_effects.specs.Between.{nextIn}
-use borrow.Author.Needs.{needs}
+use Rattle.basics.proofs.Basics.{needs}
 use Rattle.point_effects.proofs.events.next_event.Statement.{statement}
 use Rattle.point_effects.proofs.events.next_event.Tie as tie
 

@@ -70,7 +70,8 @@ not-blank y n = absurd (true≢false (sym y ∙ n))
 
 -- An effect that reads no meter.
 pub unread : (t : ℕ) (v : View) → v .fields .reading .day ≤ t → Wheels (v .fields .meter) → (e : Effect) (j : List ℕ)
-    → fieldsOf e .reading ≡ v .fields .reading → fieldsOf e .meter ≡ v .fields .meter → Ahead t (fieldsOf e .supply) → Keeps (v .fields) (names e) (fieldsOf e) → Enrols t (v .fields) (names e) (fieldsOf e) j
+    → fieldsOf e .reading ≡ v .fields .reading → fieldsOf e .meter ≡ v .fields .meter → Ahead t (fieldsOf e .supply)
+    → Keeps (v .fields) (names e) (fieldsOf e) → Enrols t (v .fields) (names e) (fieldsOf e) j
     → marksAfter v e + due (fieldsOf e .supply) ≤ 24
     → (fieldsOf e .enrolled ≡ false → (marksAfter v e ≡ 0) × (fieldsOf e .supply ≡ unsupplied)) → Good t v e [] j
 unfolding registered

@@ -1,5 +1,5 @@
-// A daily reading: on the register's own day, before anything falls due, accepted, and all its days in the point's newest
-// period. It stores a reading and a volume, and nothing else.
+// A daily reading: on the register's own day, before anything falls due, accepted, and all its days in the point's
+// newest period. It stores a reading and a volume, and nothing else.
 use crate::deeds::lies_in;
 use line_messages::Message;
 use point_answers::reading_answer;

@@ -12,7 +12,8 @@ ghost use mathlib.Core.Path.{_≡_};
 ghost use mathlib.Core.Bool.{_&&_};
 ghost use Prim.Native.Nat.{min};
 ghost use lib.Dec.{eqb, ltb};
-ghost use Rattle.input_point.specs.Between.Deeds.{keptDeed, namingDeed, readingDeed, effectDeed, ruledDeed, callDeed};
+ghost use Rattle.input_point.specs.Between.Deeds.{keptDeed, namingDeed, readingDeed, effectDeed, ruledDeed};
+ghost use Rattle.input_point.specs.Between.Deeds.{callDeed};
 ghost use Rattle.input_point.specs.Between.Deeds.{deedOf, liesIn};
 
 // What a call stores at the point that it names: its fields, the number of its periods, and one slot.

@@ -14,8 +14,8 @@ use Rattle.line_fields.proofs.FieldSteps.{fields-are}
 use Rattle.line_fields.proofs.FieldTexts.{FieldsAre, fields-only}
 use Rattle.line_fields.proofs.KnownStays.{known-stays}
 use Rattle.line_kinds.specs.declared.{Kind.Kind}
-use Rattle.line_kinds.specs.Kinds.{word, shapeOf}
-use Rattle.line_kinds.specs.Pinned.Naming.{kinds, kindIn, kindNamed}
+use Rattle.line_kinds.specs.Kinds.{kinds, word, shapeOf}
+use Rattle.line_kinds.specs.Pinned.Naming.{kindIn, kindNamed}
 use Rattle.line_kinds.proofs.KindTable.{sound}
 use Rattle.line_kinds.proofs.Naming.{NamedBy, named, unnamed, found}
 use Rattle.input_lines.specs.Between.Feeds.{untilFeed}

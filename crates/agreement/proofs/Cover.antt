@@ -2,16 +2,9 @@
 -- each volume is the sum of its days, and each day lies in one period, with the cell's holder.
 --
 -- The slots are oldest first and the tally newest first: a law here speaks of the tally reversed onto later periods l.
-use mathlib.Core.Path.{_≡_, refl, _∙_, ap, ap₂}
-use mathlib.Core.Bool.{true, false}
-use mathlib.Core.List.{List, [], _∷_, map, reverse, reverseAux}
-use mathlib.Core.Option.{Option, some}
-use Prim.Native.Nat.{ℕ, suc, _+_, _-_, _≤_, _<_}
-use native.Mathlib.Omega.{arith}
-use native.Mathlib.Nat.{add-zero, sub-self}
-use native.Mathlib.Decide.{ℕ-discrete}
-use lib.ListN.{take}
-use borrow.Author.Tests.{eq-eqb, ne-eqb, le-leb, lt-leb, lt-ltb, le-ltb}
+use Rattle.basics.proofs.Basics.{_≡_, refl, _∙_, ap, ap₂, true, false, some, Option, List, [], _∷_, map, reverseAux}
+use Rattle.basics.proofs.Basics.{reverse, _≤_, ℕ, _-_, _+_, _<_, suc, add-zero, sub-self, ℕ-discrete, arith, take}
+use Rattle.basics.proofs.Basics.{lt-ltb, le-leb, le-ltb, lt-leb, ne-eqb, eq-eqb}
 use Rattle.rules.specs.declared.{Period.Period, Point.Point}
 use Rattle.rules.specs.DayBook.{Cell, cell}
 use Rattle.rules.specs.Periods.{periodsOf, startsOf, volumesOf, markedDays, holderOn, isBeforeNext, covering, sumDays}

@@ -1,11 +1,6 @@
 -- The periods of a point by themselves: firm ones stay firm through an effect that is good.
-use mathlib.Core.Path.{_≡_, refl, sym, _∙_, ap}
-use mathlib.Core.Bool.{Bool, true, false, cond}
-use mathlib.Core.List.{List, []}
-use Prim.Native.Nat.{ℕ, suc, _+_, _*_, _≤_, _<_}
-use native.Mathlib.Omega.{arith}
-use native.Mathlib.Nat.{le-trans}
-use lib.ListN.{length}
+use Rattle.basics.proofs.Basics.{_≡_, refl, sym, _∙_, ap, true, false, Bool, cond, List, [], _≤_, ℕ, _+_, _<_, suc, _*_}
+use Rattle.basics.proofs.Basics.{le-trans, arith, length}
 use Rattle.dates.specs.Dates.{lastDay}
 use Rattle.rules.specs.declared.{Fields.Fields, History.History, Period.Period, Point.Point, Span.Span, Effect.Effect}
 use Rattle.rules.specs.Effects.{fieldsOf, names, spansIn}
@@ -14,7 +9,7 @@ use Rattle.rules.specs.Rejections.{due}
 use Rattle.rules.specs.Pinned.Register.{used, startsOn, named, entered, bookedAll, view}
 use Rattle.agreement.specs.Sound.{perDay}
 use Rattle.agreement.proofs.Shares.{All, all-map}
-use Rattle.agreement.proofs.Tally.{begin, beganOn, bookTotals, sumVolumes, oldest, Desc, oldest-begin, sum-begin, sum-bookTotals}
+use Rattle.agreement.proofs.Tally.{begin, beganOn, bookTotals, sumVolumes, oldest, Desc, oldest-begin, sum-begin, sum-bookTotals, desc-up}
 use Rattle.agreement.proofs.Tally.{oldest-bookTotals, desc-bookTotals, began-bookTotals, length-bookTotals, desc-begin, length-begin}
 use Rattle.agreement.proofs.Slots.{listed, Sized, used-count, length-listed, starts-listed, named-listed, named-sized}
 use Rattle.agreement.proofs.Slots.{bookedAll-listed, bookedAll-sized}
@@ -32,6 +27,10 @@ pub record Firm (t : ℕ) (f : Fields) (h : History) : Type 0 where
   pub most : sumVolumes (listed h) ≤ perDay * f .reading .day
   pub none : f .enrolled ≡ false → listed h ≡ []
   pub begun : f .enrolled ≡ true → Begun (listed h) (f .reading .day)
+
+pub firm-later : {t : ℕ} {f : Fields} {h : History} → Firm t f h → Firm (suc t) f h
+firm-later {t} {f} {h} k =
+    record { sized = k .sized; falling = desc-up (listed h) (omega arith) (k .falling); most = k .most; none = k .none; begun = k .begun }
 
 module _ (t : ℕ) (g : Point) (h : Firm t (g .fields) (g .history)) (e : Effect) (j : List ℕ) (k : Good t (view t g) e (spansIn e) j)
     (cal : t ≤ lastDay) where
@@ -83,9 +82,6 @@ module _ (t : ℕ) (g : Point) (h : Firm t (g .fields) (g .history)) (e : Effect
   books-falling : Desc (suc t) (listed H)
   books-falling = rw books (desc-bookTotals sp ps (suc t) (h .falling))
 
-  abbrev seen : ℕ
-  seen = g .history .count
-
   -- a holder is kept, or named
   firm-keep : Enrols t (g .fields) false (fieldsOf e) j → Firm t (fieldsOf e) H
   firm-keep en = record {
@@ -105,29 +101,21 @@ module _ (t : ℕ) (g : Point) (h : Firm t (g .fields) (g .history)) (e : Effect
     pub room : H .count + cond (startsOn t H) 0 1 ≤ 24
     room = rw (books-began, books-count) (omega (arith, used-count (g .history) (h .sized), fit))
 
-    begins : listed (named t s H) ≡ begin t s (listed H)
+    pub begins : listed (named t s H) ≡ begin t s (listed H)
     begins = named-listed t s H books-sized room
 
-    enrolled-after : (b : Bool) → Names t b (fieldsOf e) j → fieldsOf e .enrolled ≡ true
+    pub enrolled-after : (b : Bool) → Names t b (fieldsOf e) j → fieldsOf e .enrolled ≡ true
     enrolled-after true m = m .0
     enrolled-after false m = m .0
 
-    first : (q : List Period) → q ≡ [] → (x : ℕ) → oldest (begin t s q) x ≡ t
-    unfolding oldest
-    first q z x = rw z
+    pub oldest-named : (x : ℕ) → oldest (listed (named t s H)) x ≡ oldest (listed H) t
+    oldest-named x = rw begins (oldest-begin t s (listed H) x)
 
     since : (b : Bool) → g .fields .enrolled ≡ b → Names t b (fieldsOf e) j → Begun (listed (named t s H)) (fieldsOf e .reading .day)
+    unfolding oldest
     since true y m = let o = h .begun y in
-        record {
-          start = o .start;
-          is = λ x. ap (λ (q : List Period). oldest q x) begins ∙ oldest-begin t s (listed H) x ∙ books-oldest t ∙ o .is t;
-          read = le-trans (o .read) (k .lo);
-        }
-    since false z m = record {
-      start = t;
-      is = λ x. ap (λ (q : List Period). oldest q x) begins ∙ first (listed H) (books-none z) x;
-      read = omega (arith, m .2);
-    }
+        record { start = o .start; is = λ x. oldest-named x ∙ books-oldest t ∙ o .is t; read = le-trans (o .read) (k .lo) }
+    since false z m = record { start = t; is = λ x. oldest-named x ∙ rw (books-none z); read = omega (arith, m .2) }
 
     firm-name : Firm t (fieldsOf e) (named t s H)
     firm-name = record {
@@ -138,7 +126,7 @@ module _ (t : ℕ) (g : Point) (h : Firm t (g .fields) (g .history)) (e : Effect
       begun = λ y. since (g .fields .enrolled) refl en;
     }
 
-    count-name : named t s H .count ≡ seen + cond (startsOn t (g .history)) 0 1
+    count-name : named t s H .count ≡ g .history .count + cond (startsOn t (g .history)) 0 1
     count-name = sym (length-listed (named t s H)) ∙ ap length begins ∙ length-begin t s (listed H)
         ∙ rw (length-listed H, ← (starts-listed t H books-sized), books-began, books-count)
 

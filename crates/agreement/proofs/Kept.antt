@@ -1,13 +1,9 @@
 -- Every accepted call leaves a fine point behind (`Good`), whichever point one looks at.
-use mathlib.Core.Path.{_≡_, refl, sym, _∙_, ap, subst}
-use mathlib.Core.Bool.{Bool, true, false, cond, not, _&&_, _||_, false≢true}
-use mathlib.Core.List.{List, [], _∷_}
-use Prim.Native.Nat.{ℕ, zero, suc, _+_, _-_, _*_, _≤_, _<_, min, max}
-use native.Mathlib.Omega.{arith}
-use native.Mathlib.Nat.{pow-le-pow-right, mul-le-mul-right, le-trans}
-use lib.Dec.{eqb, leb, ltb}
+use Rattle.basics.proofs.Basics.{_≡_, refl, sym, _∙_, ap, subst, true, false, Bool, cond, _&&_, false≢true, _||_, not}
+use Rattle.basics.proofs.Basics.{List, [], _∷_, _≤_, ℕ, _-_, _+_, _<_, suc, zero, _*_, min, max, le-trans}
+use Rattle.basics.proofs.Basics.{mul-le-mul-right, pow-le-pow-right, arith, eqb, ltb, leb, ltb-false, eqb-true}
+use Rattle.basics.proofs.Basics.{ltb-true, not-false, leb-false, eqb-false}
 use lib.Pow.{pow-add}
-use borrow.Author.Tests.{eqb-true, eqb-false, leb-false, ltb-true, ltb-false, not-false}
 use Rattle.rules.specs.declared.{Fields.Fields, Settings.Settings, Supply.Supply, SupplyKind.SupplyKind}
 use Rattle.rules.specs.declared.{Pending.Pending, Meter.Meter, Action.Action, PointAction.PointAction}
 use Rattle.rules.specs.declared.{Answer.Answer, Effect.Effect}
@@ -18,11 +14,12 @@ use Rattle.rules.specs.Answers.{isAccepted}
 use Rattle.rules.specs.declared.{View.View}
 use Rattle.rules.specs.Rejections.{Row, firstOf, due, pendingDue, marksAfter, isFull, isBy, touches, anyPoint}
 use Rattle.rules.specs.Rejections.{outside, notPoint, notMark, notWheels, notEnrolled, outOfTime, indexDisagrees}
-use Rattle.rules.specs.Rejections.{lastResortNear, rowsAt, rows, answerTo, accepted}
-use Rattle.rules.proofs.Views.{dated, dated-also}
+use Rattle.rules.specs.Rejections.{lastResortNear, rowsAt, rows, shown, answerTo, accepted}
+use Rattle.rules.proofs.Views.{shown-in, dated, dated-also}
 use Rattle.rules.proofs.Accept.{pass, neither}
 use Rattle.agreement.specs.Sound.{perDay, PendingAhead}
-use Rattle.agreement.proofs.Good.{Wheels, Fine, Names, Good, marks-most, not-blank, unread, unchanged, naming}
+use Rattle.agreement.proofs.Slots.{cond-holds}
+use Rattle.agreement.proofs.Good.{Wheels, Fine, Names, Good, marks-most, not-blank, unread, unchanged, naming, enrolled-by}
 
 pass-near : (S : Settings) (t : ℕ) (k : SupplyKind) (rs : List Row) (a : Answer) → isAccepted (firstOf (lastResortNear S t k ∷ rs) a) ≡ true
     → isAccepted (firstOf rs a) ≡ true
@@ -62,19 +59,11 @@ span-most f d x z m i = let c = neither (leb (fullTurn (f .meter)) x || (eqb z 0
 
 pending-dropped : (t s : ℕ) (q : Pending) → PendingAhead t q → PendingAhead t (dropped s q)
 pending-dropped t s Pending.Nothing h = tt
-pending-dropped t s (Pending.Request q e) h = go (eqb q s)
-  where
-    go : (b : Bool) → PendingAhead t (cond b Pending.Nothing (Pending.Request q e))
-    go true = tt
-    go false = h
+pending-dropped t s (Pending.Request q e) h = cond-holds (PendingAhead t) (eqb q s) tt h
 
 due-dropped : (s : ℕ) (q : Pending) → pendingDue (dropped s q) ≤ pendingDue q
 due-dropped s Pending.Nothing = omega arith
-due-dropped s (Pending.Request q e) = go (eqb q s)
-  where
-    go : (b : Bool) → pendingDue (cond b Pending.Nothing (Pending.Request q e)) ≤ 1
-    go true = omega arith
-    go false = omega arith
+due-dropped s (Pending.Request q e) = cond-holds (λ (x : Pending). pendingDue x ≤ 1) (eqb q s) (omega arith) (omega arith)
 
 -- The enrolments of an effect on day t.
 abbrev pub enrolledBy : ℕ → Effect → List ℕ
@@ -90,8 +79,8 @@ module _ (S : Settings) (A : 0 < S .a) (B : 0 < S .b) (day : ℕ) (u : List Bool
     asks : v .fields .enrolled ≡ true → (q : Pending) → PendingAhead t q → (e : Effect) → fieldsOf e ≡ withPending (v .fields) q
         → names e ≡ false → v .marks + due (withPending (v .fields) q .supply) ≤ 24 → Good t v e [] []
     asks y q a e fs n f =
-        unread t v h e [] (rw fs refl) (rw fs refl) (rw fs (record { kind = h .ahead .kind; pending = a })) (rw (fs, n) refl) (rw (fs, n) (refl, refl))
-        (rw (fs, n) f) (rw fs (not-blank y))
+        unread t v (h .past) (h .wheels) e [] (rw fs refl) (rw fs refl) (rw fs (record { kind = h .ahead .kind; pending = a })) (rw (fs, n) refl)
+        (rw (fs, n) (refl, refl)) (rw (fs, n) f) (rw fs (not-blank y))
 
     -- a reading on day d
     reads : v .fields .enrolled ≡ true → (d x z : ℕ) (g : Fields) → g .reading .day ≡ d → g .enrolled ≡ v .fields .enrolled
@@ -136,11 +125,11 @@ module _ (S : Settings) (A : 0 < S .a) (B : 0 < S .b) (day : ℕ) (u : List Bool
         }
     at-good p (PointAction.IntoService s k) _ ok =
         let b = pass _ _ _ _ (pass _ _ _ _ (dated day t _ _ (pass _ _ _ _ ok .1) .rest) .1) in
-        naming t v h (is-enrolled p v (b .0)) _ refl refl refl (record { kind = tt; pending = h .ahead .pending })
+        naming t v (h .past) (h .wheels) (is-enrolled p v (b .0)) _ refl refl refl (record { kind = tt; pending = h .ahead .pending })
         (not-full (effectOf S t (PointAction.IntoService s k) (v .fields)) (pass _ _ _ _ (pass _ _ _ _ (b .1) .1) .0))
     at-good p (PointAction.DefaultSupply k) _ ok =
         let b = pass _ _ _ _ (dated-also day t _ _ _ (pass _ _ _ _ ok .1) .1 .rest) in
-        naming t v h (is-enrolled p v (b .0)) _ refl refl refl (record { kind = omega arith; pending = h .ahead .pending })
+        naming t v (h .past) (h .wheels) (is-enrolled p v (b .0)) _ refl refl refl (record { kind = omega arith; pending = h .ahead .pending })
         (not-full (effectOf S t (PointAction.DefaultSupply k) (v .fields)) (pass _ _ _ _ (pass _ _ _ _ (b .1) .1) .0))
     at-good p (PointAction.Request s k r) _ ok =
         let b = pass _ _ _ _ (pass _ _ _ _ (dated-also day t _ _ _ (pass _ _ _ _ ok .1) .1 .rest) .1) in
@@ -160,39 +149,35 @@ module _ (S : Settings) (A : 0 < S .a) (B : 0 < S .b) (day : ℕ) (u : List Bool
         (ltb-false 8 b (neither (ltb b 1) (ltb 8 b) (w .0) .1), ltb-false 3 a (neither (ltb a 0) (ltb 3 a) (w .1) .1))
         (l .0) (n .0) (i .0)
     at-good p PointAction.OutOfService _ ok = let b = pass _ _ _ _ (dated day t _ _ ok .rest) in
-        naming t v h (is-enrolled p v (b .0)) _ refl refl refl (record { kind = tt; pending = tt })
+        naming t v (h .past) (h .wheels) (is-enrolled p v (b .0)) _ refl refl refl (record { kind = tt; pending = tt })
         (not-full (effectOf S t PointAction.OutOfService (v .fields)) (pass _ _ _ _ (pass _ _ _ _ (b .1) .1) .0))
     at-good p (PointAction.Suspend m) _ ok = unchanged t v h _ refl refl refl refl
 
     -- a failure, at any point
-    holder-enrolled : (s : ℕ) → 0 < s → v .fields .supply .holder ≡ s → v .fields .enrolled ≡ true
-    holder-enrolled s lo e = go (v .fields .enrolled) refl
-      where
-        go : (b : Bool) → v .fields .enrolled ≡ b → v .fields .enrolled ≡ true
-        go true z = z
-        go false z = let k : v .fields .supply .holder ≡ 0 = ap (λ (x : Supply). x .holder) (h .blank z .1) in absurd (omega arith)
+    module _ (s : ℕ) (lo : 0 < s) where
+      abbrev left : Pending
+      left = dropped s (v .fields .supply .pending)
 
-    failed-good : (s : ℕ) → 0 < s → (touches s (v .fields) && isFull v (failed S t s (v .fields))) ≡ false
-        → Good t v (failed S t s (v .fields)) (spansIn (failed S t s (v .fields))) (enrolledBy t (failed S t s (v .fields)))
-    unfolding failed
-    failed-good s lo f = go (eqb (v .fields .supply .holder) s) refl f
-      where
-        go : (b : Bool) → eqb (v .fields .supply .holder) s ≡ b
-            → ((b || isBy s (v .fields .supply .pending)) && isFull v (cond b
-            (Effect.Name (withSupply (v .fields) (supply (S .resort) (SupplyKind.LastResort (t + S .b)) (dropped s (v .fields .supply .pending)))))
-            (Effect.Keep (withPending (v .fields) (dropped s (v .fields .supply .pending)))))) ≡ false → let e = cond b
-            (Effect.Name (withSupply (v .fields) (supply (S .resort) (SupplyKind.LastResort (t + S .b)) (dropped s (v .fields .supply .pending)))))
-            (Effect.Keep (withPending (v .fields) (dropped s (v .fields .supply .pending)))) in
-            Good t v e (spansIn e) (enrolledBy t e)
-        go true e k = naming t v h (holder-enrolled s lo (eqb-true _ _ e))
-            (withSupply (v .fields) (supply (S .resort) (SupplyKind.LastResort (t + S .b)) (dropped s (v .fields .supply .pending)))) refl refl refl
-            (record { kind = omega arith; pending = pending-dropped t s (v .fields .supply .pending) (h .ahead .pending) })
-            (not-full (Effect.Name (withSupply (v .fields) (supply (S .resort) (SupplyKind.LastResort (t + S .b)) (dropped s (v .fields .supply .pending))))) k)
-        go false e k =
-            unread t v h (Effect.Keep (withPending (v .fields) (dropped s (v .fields .supply .pending)))) [] refl refl
-            (record { kind = h .ahead .kind; pending = pending-dropped t s (v .fields .supply .pending) (h .ahead .pending) }) refl (refl, refl)
-            (omega (arith, h .fit, due-dropped s (v .fields .supply .pending)))
-            (λ z. (h .blank z .0, ap (λ (x : Supply). supply (x .holder) (x .kind) (dropped s (x .pending))) (h .blank z .1)))
+      abbrev taken : Fields
+      taken = withSupply (v .fields) (supply (S .resort) (SupplyKind.LastResort (t + S .b)) left)
+
+      failed-good : (touches s (v .fields) && isFull v (failed S t s (v .fields))) ≡ false
+          → Good t v (failed S t s (v .fields)) (spansIn (failed S t s (v .fields))) (enrolledBy t (failed S t s (v .fields)))
+      unfolding failed
+      failed-good f = go (eqb (v .fields .supply .holder) s) refl f
+        where
+          ahead : PendingAhead t left
+          ahead = pending-dropped t s (v .fields .supply .pending) (h .ahead .pending)
+
+          go : (b : Bool) → eqb (v .fields .supply .holder) s ≡ b → let e = cond b (Effect.Name taken) (Effect.Keep (withPending (v .fields) left)) in
+              ((b || isBy s (v .fields .supply .pending)) && isFull v e) ≡ false → Good t v e (spansIn e) (enrolledBy t e)
+          go true e k = let y = enrolled-by t v h (λ q. let w : v .fields .supply .holder ≡ 0 = ap (λ (x : Supply). x .holder) q in
+              omega (arith, eqb-true (v .fields .supply .holder) s e)) in
+              naming t v (h .past) (h .wheels) y taken refl refl refl (record { kind = omega arith; pending = ahead }) (not-full (Effect.Name taken) k)
+          go false e k =
+              unread t v (h .past) (h .wheels) (Effect.Keep (withPending (v .fields) left)) [] refl refl
+              (record { kind = h .ahead .kind; pending = ahead }) refl (refl, refl) (omega (arith, h .fit, due-dropped s (v .fields .supply .pending)))
+              (λ z. (h .blank z .0, ap (λ (x : Supply). supply (x .holder) (x .kind) (dropped s (x .pending))) (h .blank z .1)))
 
   any-none : (n p : ℕ) (f : ℕ → Bool) → anyPoint p n f ≡ false → (q : ℕ) → p ≤ q → q < p + n → f q ≡ false
   unfolding anyPoint
@@ -204,17 +189,24 @@ module _ (S : Settings) (A : 0 < S .a) (B : 0 < S .b) (day : ℕ) (u : List Bool
       go true e w ih = rw (← (eqb-true p q e)) (w .0)
       go false e w ih = let z : p ≡ q → ⊥ = eqb-false p q e in ih (w .1) q (omega arith) (omega arith)
 
-  pub call-good : (v : ℕ → View) (p : ℕ) → 1 ≤ p → p ≤ 32 → Fine t (v p) → (c : Action) → isAccepted (answerTo S day u t c v) ≡ true
+  seen-good : (v : ℕ → View) (p : ℕ) → 1 ≤ p → p ≤ 32 → Fine t (v p) → (c : Action) → isAccepted (answerTo S day u t c v) ≡ true
       → Good t (v p) (effect S t c p (v p .fields)) (spansIn (effect S t c p (v p .fields))) (enrolledBy t (effect S t c p (v p .fields)))
   unfolding effect rows answerTo
-  call-good v p lo hi h (Action.Contract s) ok = unchanged t (v p) h (v p .fields) refl refl refl refl
-  call-good v p lo hi h (Action.Failure s) ok = let k = pass _ _ _ _ ok in
+  seen-good v p lo hi h (Action.Contract s) ok = unchanged t (v p) h (v p .fields) refl refl refl refl
+  seen-good v p lo hi h (Action.Failure s) ok = let k = pass _ _ _ _ ok in
       let l = pass _ _ _ _ (pass _ _ _ _ (dated-also day t _ _ _ (k .1) .1 .rest) .1) in
       failed-good (v p) h s (ltb-false s 1 (neither (ltb s 1) (ltb 99 s) (k .0) .0))
       (any-none 32 1 (λ q. touches s (v q .fields) && isFull (v q) (failed S t s (v q .fields))) (pass _ _ _ _ (l .1) .0) p lo (omega arith))
-  call-good v p lo hi h (Action.At q a) ok = go (eqb p q) refl
+  seen-good v p lo hi h (Action.At q a) ok = go (eqb p q) refl
     where
       go : (b : Bool) → eqb p q ≡ b → let e = cond b (effectOf S t a (v p .fields)) (Effect.Keep (v p .fields)) in Good t (v p) e (spansIn e) (enrolledBy t e)
       go true e = at-good (v p) h q a (accepted S t (Action.At q a) v) (rw (eqb-true p q e) ok)
       go false e = unchanged t (v p) h (v p .fields) refl refl refl refl
-  call-good v p lo hi h Action.Day ok = unchanged t (v p) h (v p .fields) refl refl refl refl
+  seen-good v p lo hi h Action.Day ok = unchanged t (v p) h (v p .fields) refl refl refl refl
+
+  -- An accepted call at point p, which shows v p.
+  pub call-good : (v : ℕ → View) (p : ℕ) → 1 ≤ p → p ≤ 32 → Fine t (v p) → (c : Action) → isAccepted (answerTo S day u t c (shown v)) ≡ true
+      → let e = effect S t c p (v p .fields) in Good t (v p) e (spansIn e) (enrolledBy t e)
+  call-good v p lo hi h c ok = let q = shown-in v p lo hi in
+      subst (λ (x : View). let e = effect S t c p (x .fields) in Good t x e (spansIn e) (enrolledBy t e)) q
+      (seen-good (shown v) p lo hi (rw q h) c ok)

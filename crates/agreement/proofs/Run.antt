@@ -1,12 +1,7 @@
 -- The whole list: from a newly opened register on, the register stays beside the day book.
-use mathlib.Core.Path.{_≡_, refl, sym, _∙_, ap₂, subst₂, fun-ext}
-use mathlib.Core.Bool.{Bool, true, false, cond, false≢true}
-use mathlib.Core.List.{List, [], _∷_, _++_, append-nil, append-assoc}
-use Prim.Native.Nat.{ℕ, _-_, _<_}
-use native.Mathlib.Omega.{arith}
-use lib.Dec.{ltb}
-use lib.ListN.{getD-replicate}
-use borrow.Author.Tests.{ltb-false}
+use Rattle.basics.proofs.Basics.{_≡_, refl, sym, _∙_, ap₂, fun-ext, subst₂, true, false, Bool, cond, false≢true, List}
+use Rattle.basics.proofs.Basics.{[], _∷_, _++_, append-assoc, append-nil, ℕ, _-_, _<_, arith, ltb, getD-replicate}
+use Rattle.basics.proofs.Basics.{ltb-false}
 use Rattle.rules.specs.declared.{Register.Register, Span.Span, Opening.Opening, Call.Call, Answer.Answer}
 use Rattle.rules.specs.Volumes.{volume, registered}
 use Rattle.rules.specs.Answers.{isAccepted}
@@ -23,14 +18,14 @@ use Rattle.agreement.proofs.Days.{gone-on}
 use Rattle.agreement.proofs.Step.{Agree, says-agree, readNow, enrolledNow, call-agree}
 
 -- An accepted opening has A and B at least 1.
-pub lasting : (o : Opening) → isAccepted (openingAnswer o) ≡ true → (0 < o .a) × (0 < o .b)
+lasting : (o : Opening) → isAccepted (openingAnswer o) ≡ true → (0 < o .a) × (0 < o .b)
 unfolding openingAnswer
 lasting o ok = let a = pass _ _ _ _ (pass _ _ _ _ ok .1) in let b = pass _ _ _ _ (a .1) in (
   ltb-false (o .a) 1 (neither (ltb (o .a) 1) (ltb 400 (o .a)) (a .0) .0),
   ltb-false (o .b) 1 (neither (ltb (o .b) 1) (ltb 400 (o .b)) (b .0) .0),
 )
 
-opened-agree : (o : Opening) → isAccepted (openingAnswer o) ≡ true → Agree (λ p. []) (λ p. []) (DayBook.opened o) (Register.opened o)
+pub opened-agree : (o : Opening) → isAccepted (openingAnswer o) ≡ true → Agree (λ p. []) (λ p. []) (DayBook.opened o) (Register.opened o)
 unfolding DayBook.opened Register.opened tally recent volume registered sumVolumes
 opened-agree o ok =
     record {
@@ -42,14 +37,20 @@ opened-agree o ok =
       points = λ p lo hi. rw (getD-replicate 32 (p - 1) blankPoint noPoint (omega arith)) (record {
         point = record {
           same = refl;
-          sized = record { slots = refl; some = omega arith };
+          firm = record {
+            sized = record { slots = refl; some = omega arith };
+            falling = tt;
+            most = omega arith;
+            none = λ z. refl;
+            begun = λ y. absurd (false≢true y);
+          };
           live = (refl, tt);
           told = refl;
           still = λ d le. refl;
           sum = refl;
-          most = omega arith;
           held = (refl, tt);
-          born = record { outside = λ z. (refl, refl); inside = λ y. absurd (false≢true y) };
+          outside = λ z. refl;
+          inside = λ y. absurd (false≢true y);
         };
         fine = record {
           past = omega arith;

@@ -1,13 +1,9 @@
 -- A reading's day volumes are the steps of what it has given so far: nothing up to its first day, all of V × U from
 -- its last day on. And how the volumes of a list of readings add up.
-use mathlib.Core.Path.{_≡_, refl}
-use mathlib.Core.List.{List, [], _∷_, _++_}
-use Prim.Native.Nat.{ℕ, suc, _+_, _-_, _*_, _/_, _≤_, _<_, min}
-use native.Mathlib.Omega.{arith}
-use native.Mathlib.Decide.{decLe, decLt}
-use native.Mathlib.Nat.{le-div-iff-mul-le, div-mul-le-self, mul-le-mul-left, mul-le-mul-right, mul-div-left, mul-comm}
-use native.Mathlib.Nat.{mul-sub, mul-zero, zero-mul, zero-div, le-trans}
-use borrow.Author.Tests.{lt-ltb, le-ltb, le-leb, lt-leb}
+use Rattle.basics.proofs.Basics.{_≡_, refl, List, [], _∷_, _++_, _≤_, ℕ, _-_, _+_, _<_, suc, _*_, min, _/_, le-trans}
+use Rattle.basics.proofs.Basics.{mul-le-mul-right, mul-le-mul-left, mul-div-left, mul-comm, mul-zero, zero-mul}
+use Rattle.basics.proofs.Basics.{zero-div, le-div-iff-mul-le, div-mul-le-self, mul-sub, decLe, decLt, arith, lt-ltb}
+use Rattle.basics.proofs.Basics.{le-leb, le-ltb, lt-leb}
 use Rattle.rules.specs.declared.{Span.Span}
 use Rattle.rules.specs.Volumes.{upTo, share, given, dayVolume, volume, registered}
 

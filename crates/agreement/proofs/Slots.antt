@@ -1,24 +1,17 @@
 -- The 24 slots of a point, read newest first: naming a holder and booking a reading do to them what Tally's functions
 -- do to the list. The count stays within the slots, no volume wraps, and booking may stop at the period that holds the
 -- reading's first day.
-use mathlib.Core.Path.{_≡_, refl, sym, _∙_, ap, ap₂}
-use mathlib.Core.Bool.{Bool, true, false, cond, _&&_, false≢true}
-use mathlib.Core.List.{List, [], _∷_, _++_, reverse, reverseAux, append-nil}
-use Prim.Native.Nat.{ℕ, zero, suc, _+_, _-_, _*_, _^_, _≤_, _<_}
-use native.Mathlib.Omega.{arith}
-use native.Mathlib.Decide.{decLe}
-use native.Mathlib.Numerals.{add-one}
-use native.Mathlib.Nat.{mod-eq-of-lt}
-use lib.Dec.{eqb, leb, ltb}
-use lib.ListN.{length, getD, set, take, length-set}
-use lib.Seq.{getD-set-same, getD-set-other, set-comm, take-suc, append-snoc}
-use borrow.Author.Tests.{lt-ltb, le-leb, lt-leb}
+use Rattle.basics.proofs.Basics.{_≡_, refl, sym, _∙_, ap, ap₂, true, false, Bool, cond, _&&_, false≢true, List, [], _∷_}
+use Rattle.basics.proofs.Basics.{_++_, append-nil, reverseAux, reverse, _≤_, ℕ, _-_, _+_, _<_, suc, zero, _*_, _^_}
+use Rattle.basics.proofs.Basics.{mod-eq-of-lt, add-one, decLe, arith, eqb, ltb, leb, length, take, getD, set}
+use Rattle.basics.proofs.Basics.{length-set, take-suc, getD-set-same, getD-set-other, append-snoc, set-comm, lt-ltb}
+use Rattle.basics.proofs.Basics.{le-leb, lt-leb}
 use Rattle.rules.specs.declared.{Period.Period, History.History, Span.Span}
 use Rattle.rules.specs.Volumes.{given, registered}
 use Rattle.rules.specs.Pinned.Register.{period, noPeriod, used, startsOn, replaced, appended, named, bookedPeriod}
 use Rattle.rules.specs.Pinned.Register.{bookedSlots, booked, bookedAll}
 use Rattle.agreement.proofs.Shares.{All, given-before, given-after, given-le}
-use Rattle.agreement.proofs.Tally.{begin, beganOn, bookTotal, bookTotals, sumVolumes, Desc, desc-bookTotal}
+use Rattle.agreement.proofs.Tally.{begin, beganOn, begin-new, bookTotal, bookTotals, sumVolumes, Desc, desc-bookTotal}
 use Rattle.agreement.proofs.Tally.{sum-reading}
 
 -- The first n slots, the newest first.
@@ -87,10 +80,6 @@ unfolding recent
 begin-again t s zero ps b le = absurd (false≢true b)
 begin-again t s (suc n) ps b le = let k : suc n - 1 ≡ n = omega arith in rw (k, b) (recent-push n ps _ le)
 
-begin-new : (t s : ℕ) (ps : List Period) → beganOn t ps ≡ false → begin t s ps ≡ period t s 0 ∷ ps
-begin-new t s [] b = refl
-begin-new t s (p ∷ ps) b = rw b
-
 module _ (t s : ℕ) (h : History) (z : Sized h) where
   named-both : (b : Bool) → startsOn t h ≡ b → h .count + cond b 0 1 ≤ 24
       → (listed (named t s h) ≡ begin t s (listed h)) × Sized (named t s h)
@@ -113,7 +102,7 @@ module _ (t s : ℕ) (h : History) (z : Sized h) where
 
 -- Booking a reading
 
-cond-holds : {A : Type 0} (P : A → Type 0) (b : Bool) {x y : A} → P x → P y → P (cond b x y)
+pub cond-holds : {A : Type 0} (P : A → Type 0) (b : Bool) {x y : A} → P x → P y → P (cond b x y)
 cond-holds P true p q = p
 cond-holds P false p q = q
 

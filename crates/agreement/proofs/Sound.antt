@@ -1,45 +1,36 @@
 -- An opening gives a sound register, and every call keeps it sound.
-use mathlib.Core.Path.{_≡_, refl, sym, _∙_, ap, subst, subst₂}
-use mathlib.Core.Bool.{Bool, true, false, cond, false≢true}
-use mathlib.Core.List.{List, [], map}
-use Prim.Native.Nat.{ℕ, zero, suc, _+_, _-_, _≤_, _<_}
-use native.Mathlib.Omega.{arith}
-use lib.Dec.{eqb}
-use lib.ListN.{length, getD, getD-replicate}
-use borrow.Author.Tests.{eqb-true, ltb-false}
+use Rattle.basics.proofs.Basics.{_≡_, refl, sym, _∙_, ap, subst, subst₂, true, false, Bool, cond, List, [], _≤_, ℕ, _<_}
+use Rattle.basics.proofs.Basics.{suc, zero, arith, length, getD, ltb-false}
 use Rattle.dates.specs.Dates.{lastDay}
 use Rattle.rules.specs.declared.{Opening.Opening, Period.Period, Point.Point, Register.Register, Settings.Settings}
-use Rattle.rules.specs.declared.{Effect.Effect, View.View, Call.Call}
-use Rattle.rules.specs.Effects.{spansIn, event, effect}
+use Rattle.rules.specs.declared.{Effect.Effect, Fields.Fields, Span.Span, View.View, Call.Call}
+use Rattle.rules.specs.Effects.{spansIn, event}
 use Rattle.rules.specs.Answers.{isAccepted}
 use Rattle.rules.specs.Rejections.{answerTo, shown, answer, openingAnswer}
 use Rattle.rules.specs.Pinned.Register
-use Rattle.rules.specs.Pinned.Register.{noPeriod, noPoint, blankPoint, catchUp, entered, view, register, pointAt, advanced, says, done, applied}
-use Rattle.rules.specs.Periods.{total}
+use Rattle.rules.specs.Pinned.Register.{noPeriod, entered, view, register, pointAt, advanced, says, done, applied}
 use Rattle.rules.proofs.Accept.{pass}
-use Rattle.rules.proofs.Views.{passed, shown-in}
+use Rattle.rules.proofs.Views.{passed}
 use Rattle.agreement.specs.Sound.{Rising, SoundPoint, Sound, SoundRegisters}
-use Rattle.agreement.proofs.Tally.{oldest, Desc, desc-up}
-use Rattle.agreement.proofs.Slots.{recent, listed, Sized, used-count}
+use Rattle.agreement.proofs.Tally.{oldest, Desc}
+use Rattle.agreement.proofs.Slots.{recent, Sized, used-count}
 use Rattle.agreement.proofs.Cover.{total-read}
-use Rattle.agreement.proofs.Good.{Fine, Good, event-good, event-unread}
-use Rattle.agreement.proofs.Jump.{onDay, daily, daily-catchUp}
-use Rattle.agreement.proofs.Days.{point-map}
-use Rattle.agreement.proofs.Kept.{enrolledBy, call-good}
-use Rattle.agreement.proofs.Firm.{Firm, firm-after, fine-entered}
+use Rattle.agreement.proofs.Good.{Fine, Good, event-good}
+use Rattle.agreement.proofs.Jump.{onDay}
+use Rattle.agreement.proofs.Days.{up-kept}
+use Rattle.agreement.proofs.Kept.{call-good}
+use Rattle.agreement.proofs.Firm.{Firm, firm-later, firm-after, fine-entered}
 use Rattle.agreement.proofs.Step.{did, done-count, done-points, done-rest, advanced-rest}
-use Rattle.agreement.proofs.Run.{lasting}
+use Rattle.agreement.proofs.Run.{opened-agree}
+use Rattle.agreement.proofs.Tied.{Tied, views-agree}
+use Rattle.rules.specs.DayBook
+use Rattle.rules.specs.DayBook.{Page}
 
 -- Starts that rise in the slots fall in their list.
-rising-falls : (n e : ℕ) (ps : List Period) → Rising e n ps → Desc e (recent n ps)
+rising-falls : (n e : ℕ) (ps : List Period) → Rising e n ps ≡ Desc e (recent n ps)
 unfolding recent
-rising-falls zero e ps r = tt
-rising-falls (suc n) e ps r = (r .0, rising-falls n (getD ps n noPeriod .start) ps (r .1))
-
-falls-rising : (n e : ℕ) (ps : List Period) → Desc e (recent n ps) → Rising e n ps
-unfolding recent
-falls-rising zero e ps r = tt
-falls-rising (suc n) e ps r = (r .0, falls-rising n (getD ps n noPeriod .start) ps (r .1))
+rising-falls zero e ps = refl
+rising-falls (suc n) e ps = rw (rising-falls n (getD ps n noPeriod .start) ps)
 
 oldest-first : (n : ℕ) (ps : List Period) → 0 < n → (x : ℕ) → oldest (recent n ps) x ≡ getD ps 0 noPeriod .start
 unfolding recent oldest
@@ -62,7 +53,7 @@ sound-hale t g h = let z : Sized (g .history) = record { slots = h .slots; some 
     record {
       firm = record {
         sized = z;
-        falling = rising-falls _ _ _ (h .rising);
+        falling = rw (rising-falls _ _ _) at (h .rising);
         most = rw (total-read g z) at (h .volume);
         none = λ n. recent-none _ _ (h .blank n .0);
         begun = λ y. record { start = _; is = oldest-first _ _ (h .begun y .0); read = h .begun y .1 };
@@ -85,7 +76,7 @@ hale-sound : (t : ℕ) (g : Point) → Hale t g → SoundPoint t g
 hale-sound t g h = let u = used-count (g .history) (h .firm .sized) in
     record {
       slots = h .firm .sized .slots;
-      rising = falls-rising _ _ _ (h .firm .falling);
+      rising = rw (rising-falls _ _ _) (h .firm .falling);
       room = omega (arith, u, h .fine .fit);
       ahead = h .fine .ahead;
       read = h .fine .past;
@@ -105,46 +96,13 @@ effect-hale t g h e j k cal =
 module _ (S : Settings) (B : 0 < S .b) where
   day-hale : (t : ℕ) (g : Point) → Hale t g → suc t ≤ lastDay → Hale (suc t) (onDay S (suc t) g)
   day-hale t g h cal = let e : Effect = event S (suc t) (g .fields) in
-      let q : spansIn e ≡ [] = event-unread S (suc t) (g .fields) in let f = h .firm in
-      let before : Firm (suc t) (g .fields) (g .history) = record {
-        sized = f .sized;
-        falling = desc-up (listed (g .history)) (omega arith) (f .falling);
-        most = f .most;
-        none = f .none;
-        begun = f .begun;
-      } in let seen : Fine t (view (suc t) g) = record {
-        past = h .fine .past;
-        wheels = h .fine .wheels;
-        ahead = h .fine .ahead;
-        fit = h .fine .fit;
-        blank = h .fine .blank;
-      } in let k : Good (suc t) (view (suc t) g) e (spansIn e) [] = rw q (event-good S B t (view (suc t) g) seen) in
+      let before = firm-later (h .firm) in let k = event-good S B t (view (suc t) g) (h .fine) .1 in
       record { firm = firm-after (suc t) g before e [] k cal; fine = fine-entered (suc t) g before e [] k cal }
 
-  days-hale : (k t : ℕ) (g : Point) → Hale t g → t + k ≤ lastDay → Hale (t + k) (daily S k t g)
-  unfolding daily
-  days-hale zero t g h cal = let z : t + 0 ≡ t = omega arith in rw z h
-  days-hale (suc k) t g h cal = let z : t + suc k ≡ suc t + k = omega arith in
-      rw z (days-hale k (suc t) (onDay S (suc t) g) (day-hale t g h (omega arith)) (omega arith))
-
-  caught-hale : (d t : ℕ) (g : Point) → Hale d g → d ≤ t → t ≤ lastDay → Hale t (catchUp S t g)
-  caught-hale d t g h on cal = let z : d + (t - d) ≡ t = omega arith in
-      subst (λ (x : ℕ). Hale x (catchUp S x g)) z
-      (rw (daily-catchUp S B (t - d) d g (h .fine .ahead)) at (days-hale (t - d) d g h (omega arith)))
-
-module _ (r : Register) (h : Sound r) (t : ℕ) (on : r .day ≤ t) (cal : t ≤ lastDay) (p : ℕ) (lo : 1 ≤ p) (hi : p ≤ 32) where
-  up-hale : Hale t (pointAt p (advanced t r .points))
-  unfolding advanced
-  up-hale = go (eqb (r .day) t) refl
-    where
-      was : Hale (r .day) (pointAt p (r .points))
-      was = sound-hale (r .day) (pointAt p (r .points)) (h .points p lo hi)
-
-      go : (x : Bool) → eqb (r .day) t ≡ x
-          → Hale t (pointAt p (cond x r (register (r .settings) t (r .contracts) (map (catchUp (r .settings) t) (r .points))) .points))
-      go true e = subst (λ (d : ℕ). Hale d (pointAt p (r .points))) (eqb-true (r .day) t e) was
-      go false e = rw (point-map (catchUp (r .settings) t) (r .points) p lo (omega (arith, h .count)))
-          (caught-hale (r .settings) (h .lasting .1) (r .day) t (pointAt p (r .points)) was on cal)
+up-hale : (r : Register) → Sound r → (t : ℕ) → r .day ≤ t → t ≤ lastDay → (p : ℕ) → 1 ≤ p → p ≤ 32 → Hale t (pointAt p (advanced t r .points))
+up-hale r h t on cal p lo hi =
+    up-kept (r .settings) (h .lasting .1) Hale (λ x g i. i .fine .ahead) (day-hale (r .settings) (h .lasting .1)) r refl t p on cal lo
+    (omega (arith, h .count)) (sound-hale (r .day) (pointAt p (r .points)) (h .points p lo hi))
 
 module _ (r : Register) (c : Call) (h : Sound r) where
   abbrev t : ℕ
@@ -158,12 +116,9 @@ module _ (r : Register) (c : Call) (h : Sound r) where
     w = passed (r .settings) (r .day) (r .contracts) t (c .action) (shown v) ok
 
     acted-hale : (p : ℕ) → 1 ≤ p → p ≤ 32 → Hale t (did (r .settings) t (c .action) p (pointAt p (advanced t r .points)))
-    acted-hale p lo hi = let i = up-hale r h t (w .1) (w .0) p lo hi in let q : shown v p ≡ v p = shown-in v p lo hi in
-        let f : View → Effect = λ (x : View). effect (r .settings) t (c .action) p (x .fields) in
-        effect-hale t (pointAt p (advanced t r .points)) i (f (v p)) (enrolledBy t (f (v p)))
-        (subst (λ (x : View). Good t x (f x) (spansIn (f x)) (enrolledBy t (f x))) q
-        (call-good (r .settings) (h .lasting .0) (h .lasting .1) (r .day) (r .contracts) t (shown v) p lo hi (rw q (i .fine)) (c .action) ok))
-        (w .0)
+    acted-hale p lo hi = let i = up-hale r h t (w .1) (w .0) p lo hi in
+        effect-hale t (pointAt p (advanced t r .points)) i _ _
+        (call-good (r .settings) (h .lasting .0) (h .lasting .1) (r .day) (r .contracts) t v p lo hi (i .fine) (c .action) ok) (w .0)
 
     accepted-sound : Sound (done t (c .action) (advanced t r))
     accepted-sound = let a = advanced-rest t r in let m : length (advanced t r .points) ≡ 32 = a .3 ∙ h .count in
@@ -187,26 +142,22 @@ module _ (r : Register) (c : Call) (h : Sound r) where
       go true ok = accepted-sound ok
       go false z = h
 
--- A newly opened register has no period and nothing due.
+-- What stands beside a page is hale.
+tied-hale : (t : ℕ) (l : List Span) (n : List ℕ) (g : Page) (r : Point) → Tied t l n g r → Hale t r
+tied-hale t l n g r h = record {
+  firm = subst (λ (f : Fields). Firm t f (r .history)) (h .point .same) (h .point .firm);
+  fine = subst (Fine t) (views-agree t l n g r (h .point)) (h .fine);
+}
+
 opened-sound : (o : Opening) → isAccepted (openingAnswer o) ≡ true → Sound (Register.opened o)
-unfolding Register.opened openingAnswer total
-opened-sound o ok =
+unfolding Register.opened openingAnswer DayBook.opened
+opened-sound o ok = let h = opened-agree o ok in
     let d = pass _ _ _ _ (pass _ _ _ _ (pass _ _ _ _ (pass _ _ _ _ (pass _ _ _ _ (pass _ _ _ _ (pass _ _ _ _ ok .1) .1) .1) .1) .1) .1) in
     record {
-      lasting = lasting o ok;
+      lasting = h .lasting;
       calendar = ltb-false lastDay (o .day) (d .0);
-      count = refl;
-      points = λ p lo hi. rw (getD-replicate 32 (p - 1) blankPoint noPoint (omega arith)) (record {
-        slots = refl;
-        rising = tt;
-        room = omega arith;
-        ahead = record { kind = tt; pending = tt };
-        read = omega arith;
-        wheels = (omega arith, omega arith);
-        volume = omega arith;
-        blank = λ n. (refl, refl);
-        begun = λ y. absurd (false≢true y);
-      });
+      count = h .count;
+      points = λ p lo hi. hale-sound _ _ (tied-hale _ _ _ _ _ (h .points p lo hi));
     }
 
 pub sound-registers : SoundRegisters

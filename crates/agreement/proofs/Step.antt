@@ -1,17 +1,12 @@
 -- One call on both sides: the same answer, and the register stays beside the day book.
-use mathlib.Core.Path.{_≡_, refl, sym, _∙_, ap, subst}
-use mathlib.Core.Bool.{Bool, true, false, cond}
-use mathlib.Core.List.{List, [], _++_, append-nil, map}
-use Prim.Native.Nat.{ℕ, _-_, _≤_, _<_}
-use native.Mathlib.Omega.{arith}
-use lib.Dec.{eqb, ltb}
-use lib.ListN.{length, set, length-set, length-map}
-use lib.Seq.{getD-set-same, getD-set-other}
-use borrow.Author.Tests.{eqb-true, eqb-false, ltb-false}
+use Rattle.basics.proofs.Basics.{_≡_, refl, sym, _∙_, ap, subst, true, false, Bool, cond, List, [], _++_, append-nil}
+use Rattle.basics.proofs.Basics.{map, _≤_, ℕ, _-_, _<_, arith, eqb, ltb, length, set, length-set, length-map}
+use Rattle.basics.proofs.Basics.{getD-set-same, getD-set-other, ltb-false, eqb-true, eqb-false}
+use mathlib.Core.Logic.{inl, inr}
 use Rattle.dates.specs.Dates.{lastDay}
 use Rattle.rules.specs.declared.{Fields.Fields, Point.Point, Register.Register, Settings.Settings, Span.Span}
 use Rattle.rules.specs.declared.{Call.Call, Action.Action, Effect.Effect}
-use Rattle.rules.specs.Effects.{spansIn, effectOf, effect}
+use Rattle.rules.specs.Effects.{spansIn, effectOf, effect, signed}
 use Rattle.rules.specs.Answers.{isAccepted}
 use Rattle.rules.specs.declared.{View.View}
 use Rattle.rules.specs.Rejections.{answerTo, shown, answer}
@@ -19,9 +14,8 @@ use Rattle.rules.specs.Pinned.Register
 use Rattle.rules.specs.Pinned.Register.{entered, catchUp, view, register, pointAt, noPoint, advanced, acted, failedPoint}
 use Rattle.rules.specs.Pinned.Register.{done, applied}
 use Rattle.rules.specs.DayBook
-use Rattle.rules.specs.DayBook.{Book, Page, upToDay, look, signed, written, next, does}
-use Rattle.agreement.proofs.Good.{Good}
-use Rattle.rules.proofs.Views.{shown-in, answer-ext, answer-off, answer-back, passed, accepted-point}
+use Rattle.rules.specs.DayBook.{Book, Page, upToDay, look, written, next, does}
+use Rattle.rules.proofs.Views.{answer-ext, answer-off, passed, accepted-point}
 use Rattle.agreement.proofs.Kept.{enrolledBy, call-good}
 use Rattle.agreement.proofs.Tied.{Tied, views-agree, effect-tied}
 use Rattle.agreement.proofs.Days.{gone-on, point-map, caught}
@@ -107,8 +101,8 @@ module _ (c : Call) (l : ℕ → List Span) (n : ℕ → List ℕ) (b : Book) (r
       go : (x y : Bool) → ltb lastDay t ≡ x → ltb t (b .day) ≡ y
           → answer (b .settings) (b .day) (b .contracts) c (λ p. look (upToDay t b .page p))
           ≡ answer (b .settings) (b .day) (b .contracts) c (λ p. view t (pointAt p (advanced t r .points)))
-      go true y a d = answer-off (b .settings) (b .day) (b .contracts) t _ _ (c .action) a
-      go false true a d = answer-back (b .settings) (b .day) (b .contracts) t _ _ (c .action) d
+      go true y a d = answer-off (b .settings) (b .day) (b .contracts) t _ _ (c .action) (inl a)
+      go false true a d = answer-off (b .settings) (b .day) (b .contracts) t _ _ (c .action) (inr d)
       go false false a d = answer-ext (b .settings) (b .day) (b .contracts) c _ _
           (λ p lo hi. views-agree t (l p) (n p) _ _ (now (ltb-false t (b .day) d) (ltb-false lastDay t a) p lo hi .point))
 
@@ -135,11 +129,8 @@ module _ (c : Call) (l : ℕ → List Span) (n : ℕ → List ℕ) (b : Book) (r
 
     turned : Tied t (l p ++ spansIn e) (n p ++ enrolledBy t e) (written e (page .cells)) (did (b .settings) t (c .action) p (point p))
     turned = let w = passed (b .settings) (b .day) (b .contracts) t (c .action) (shown v) ok in
-        let i = now (w .1) (w .0) p lo hi in let q : shown v p ≡ v p = shown-in v p lo hi in
-        let k : Good t (v p) e (spansIn e) (enrolledBy t e)
-        = subst
-        (λ (x : View). let f = effect (b .settings) t (c .action) p (x .fields) in Good t x f (spansIn f) (enrolledBy t f)) q
-        (call-good (b .settings) (h .lasting .0) (h .lasting .1) (b .day) (b .contracts) t (shown v) p lo hi (rw q (i .fine)) (c .action) ok) in
+        let i = now (w .1) (w .0) p lo hi in
+        let k = call-good (b .settings) (h .lasting .0) (h .lasting .1) (b .day) (b .contracts) t v p lo hi (i .fine) (c .action) ok in
         subst (λ (x : Fields). Tied t (l p ++ spansIn e) (n p ++ enrolledBy t e) (written e (page .cells))
         (entered t (effect (b .settings) t (c .action) p x) (point p .history)))
         (i .point .same) (effect-tied t (l p) (n p) page (point p) (i .point) e (enrolledBy t e) k (w .0))

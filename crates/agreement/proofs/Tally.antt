@@ -1,14 +1,8 @@
 -- The periods as a function of the day book's cells and the day volumes, here newest first: what naming a holder, a new
 -- day and booking a reading do to it. Then the sum of the volumes, the oldest start and the order of the starts.
-use mathlib.Core.Path.{_≡_, refl, sym, _∙_, ap, fun-ext}
-use mathlib.Core.Bool.{Bool, true, false, cond}
-use mathlib.Core.List.{List, [], _∷_}
-use Prim.Native.Nat.{ℕ, zero, suc, _+_, _-_, _*_, _≤_, _<_}
-use native.Mathlib.Omega.{arith}
-use native.Mathlib.Nat.{le-trans, zero-add, suc-add}
-use lib.Dec.{eqb}
-use lib.ListN.{length}
-use borrow.Author.Tests.{eq-eqb, ne-eqb, eqb-true, eqb-false}
+use Rattle.basics.proofs.Basics.{_≡_, refl, _∙_, ap, fun-ext, true, false, Bool, cond, List, [], _∷_, _≤_, ℕ, _-_, _+_}
+use Rattle.basics.proofs.Basics.{_<_, suc, zero, _*_, le-trans, zero-add, suc-add, arith, eqb, length, ne-eqb, eq-eqb}
+use Rattle.basics.proofs.Basics.{eqb-true, eqb-false}
 use Rattle.rules.specs.declared.{Period.Period, Span.Span}
 use Rattle.rules.specs.Volumes.{given, dayVolume, volume, registered}
 use Rattle.rules.specs.Pinned.Register.{period}
@@ -23,6 +17,10 @@ begin t h (p ∷ ps) = cond (eqb (p .start) t) (period t h (p .volume) ∷ ps) (
 abbrev pub beganOn : ℕ → List Period → Bool
 beganOn t [] = false
 beganOn t (p ∷ ps) = eqb (p .start) t
+
+pub begin-new : (t h : ℕ) (ps : List Period) → beganOn t ps ≡ false → begin t h ps ≡ period t h 0 ∷ ps
+begin-new t h [] b = refl
+begin-new t h (p ∷ ps) b = rw b
 
 -- Book a running total that is c d before day d: each period gets the rise from its start to its end; the newest ends
 -- before day e.
@@ -75,13 +73,6 @@ module _ (vol : ℕ → ℕ) where
   tally-length (cell d h false ∷ cs) a = tally-length cs (a + vol d)
 
   -- no period of earlier cells begins on day t
-  begin-later : (t h : ℕ) (cs : List Cell) (e a : ℕ) → e ≤ t → Runs e cs
-      → begin t h (tally vol cs a) ≡ period t h 0 ∷ tally vol cs a
-  unfolding tally
-  begin-later t h [] e a le r = refl
-  begin-later t h (cell d k true ∷ cs) e a le r = rw (ne-eqb d t (omega arith))
-  begin-later t h (cell d k false ∷ cs) e a le r = begin-later t h cs d (a + vol d) (omega arith) (r .1)
-
   began-later : (t : ℕ) (cs : List Cell) (e a : ℕ) → e ≤ t → Runs e cs → beganOn t (tally vol cs a) ≡ false
   unfolding tally
   began-later t [] e a le r = refl
@@ -99,7 +90,7 @@ module _ (vol : ℕ → ℕ) where
   unfolding tally
   begin-tally t h (cell d k true ∷ cs) z r = let q : d ≡ t = omega arith in rw (eq-eqb d t q, q)
   begin-tally t h (cell d k false ∷ cs) z r = let q : d ≡ t = omega arith in
-      let v : 0 + vol d ≡ 0 = rw q (omega arith) in rw (v, q) (begin-later t h cs d 0 (omega arith) (r .1))
+      let v : 0 + vol d ≡ 0 = rw q (omega arith) in rw (v, q) (begin-new t h (tally vol cs 0) (began-later t cs d 0 (omega arith) (r .1)))
 
   -- the unmarked cell of a day with no volume changes nothing
   pub dawn : (t h : ℕ) (cs : List Cell) → vol t ≡ 0 → tally vol (cell t h false ∷ cs) 0 ≡ tally vol cs 0
@@ -163,25 +154,24 @@ unfolding oldest
 oldest-le t [] r = omega arith
 oldest-le t (p ∷ ps) r = le-trans (oldest-le (p .start) ps (desc-up ps (omega arith) (r .1))) (omega arith)
 
+-- What holds of the newest period replaced, or of a new one before it, holds of what begins.
+begin-holds : (P : List Period → Type 0) (t h : ℕ) (ps : List Period)
+    → ((p : Period) (qs : List Period) → ps ≡ p ∷ qs → p .start ≡ t → P (period t h (p .volume) ∷ qs))
+    → (beganOn t ps ≡ false → P (period t h 0 ∷ ps)) → P (begin t h ps)
+begin-holds P t h [] k n = n refl
+begin-holds P t h (p ∷ ps) k n = go (eqb (p .start) t) refl
+  where
+    go : (b : Bool) → eqb (p .start) t ≡ b → P (cond b (period t h (p .volume) ∷ ps) (period t h 0 ∷ p ∷ ps))
+    go true q = k p ps refl (eqb-true (p .start) t q)
+    go false q = n q
+
 pub oldest-begin : (t h : ℕ) (ps : List Period) (e : ℕ) → oldest (begin t h ps) e ≡ oldest ps t
 unfolding oldest
-oldest-begin t h [] e = refl
-oldest-begin t h (p ∷ ps) e = go (eqb (p .start) t) refl
-  where
-    go : (b : Bool) → eqb (p .start) t ≡ b
-        → oldest (cond b (period t h (p .volume) ∷ ps) (period t h 0 ∷ p ∷ ps)) e ≡ oldest ps (p .start)
-    go true q = ap (oldest ps) (sym (eqb-true (p .start) t q))
-    go false q = refl
+oldest-begin t h ps e = begin-holds (λ (q : List Period). oldest q e ≡ oldest ps t) t h ps (λ p qs i j. rw (i, j)) (λ n. refl)
 
 pub sum-begin : (t h : ℕ) (ps : List Period) → sumVolumes (begin t h ps) ≡ sumVolumes ps
 unfolding sumVolumes
-sum-begin t h [] = refl
-sum-begin t h (p ∷ ps) = go (eqb (p .start) t)
-  where
-    go : (b : Bool)
-        → sumVolumes (cond b (period t h (p .volume) ∷ ps) (period t h 0 ∷ p ∷ ps)) ≡ p .volume + sumVolumes ps
-    go true = refl
-    go false = omega arith
+sum-begin t h ps = begin-holds (λ (q : List Period). sumVolumes q ≡ sumVolumes ps) t h ps (λ p qs i j. rw i) (λ n. omega arith)
 
 module _ (c : ℕ → ℕ) where
   pub desc-bookTotal : (ps : List Period) (e end : ℕ) → Desc e ps → Desc e (bookTotal c end ps)
@@ -247,18 +237,13 @@ unfolding bookTotals
 length-bookTotals [] ps e = refl
 length-bookTotals (s ∷ l) ps e = length-bookTotals l (bookTotal (given s) e ps) e ∙ length-bookTotal (given s) ps e
 
+begun-before : (t : ℕ) (ps : List Period) → beganOn t ps ≡ false → Desc (suc t) ps → Desc t ps
+begun-before t [] n r = tt
+begun-before t (p ∷ ps) n r = let z : p .start ≡ t → ⊥ = eqb-false (p .start) t n in (omega (arith, r .0), r .1)
+
 pub desc-begin : (t h : ℕ) (ps : List Period) → Desc (suc t) ps → Desc (suc t) (begin t h ps)
-desc-begin t h [] r = (omega arith, tt)
-desc-begin t h (p ∷ ps) r = go (eqb (p .start) t) refl
-  where
-    go : (b : Bool) → eqb (p .start) t ≡ b → Desc (suc t) (cond b (period t h (p .volume) ∷ ps) (period t h 0 ∷ p ∷ ps))
-    go true q = (omega arith, rw (eqb-true (p .start) t q) at (r .1))
-    go false q = let n : p .start ≡ t → ⊥ = eqb-false (p .start) t q in (omega arith, (omega (arith, r .0), r .1))
+desc-begin t h ps r = begin-holds (Desc (suc t)) t h ps (λ p qs i j. (omega arith, rw (i, j) at r .1)) (λ n. (omega arith, begun-before t ps n r))
 
 pub length-begin : (t h : ℕ) (ps : List Period) → length (begin t h ps) ≡ length ps + cond (beganOn t ps) 0 1
-length-begin t h [] = refl
-length-begin t h (p ∷ ps) = go (eqb (p .start) t)
-  where
-    go : (b : Bool) → length (cond b (period t h (p .volume) ∷ ps) (period t h 0 ∷ p ∷ ps)) ≡ suc (length ps) + cond b 0 1
-    go true = omega arith
-    go false = omega arith
+length-begin t h ps = begin-holds (λ (q : List Period). length q ≡ length ps + cond (beganOn t ps) 0 1) t h ps
+    (λ p qs i j. rw (i, eq-eqb (p .start) t j) (omega arith)) (λ n. rw n (omega arith))

@@ -1,5 +1,5 @@
--- Sound registers: what holds of every register that calls reach. An accepted opening gives a sound one, and every call,
--- accepted or refused, keeps it sound. proofs/Sound.antt proves it. Definitions only.
+-- Sound registers: what holds of every register that calls reach. An accepted opening gives a sound one, and every
+-- call, accepted or refused, keeps it sound. proofs/Sound.antt proves it. Definitions only.
 use mathlib.Core.Path.{_≡_}
 use mathlib.Core.Bool.{true, false}
 use mathlib.Core.List.{List}

@@ -12,12 +12,17 @@ use ask_words::put_usage;
 use input_desk::Desk;
 use input_pieces::desk_of;
 use libc::STDERR_FILENO;
+use libc::STDOUT_FILENO;
 use rules::Register;
 use standard_input::End;
 use standard_input::read_all;
 
 pub(crate) fn write_out(text: &[u8]) -> bool {
-    standard_input::write_out(text, b"ask: writing the answer")
+    let is_written = io::write_all(STDOUT_FILENO, text);
+    if !is_written {
+        os::fail(b"ask: writing the answer");
+    }
+    is_written
 }
 
 // What the words behind the program's name ask for. A word of more than 16 bytes is none that there is.

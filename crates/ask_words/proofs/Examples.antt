@@ -1,5 +1,5 @@
 -- The examples, each by computing.
-use mathlib.Core.Path.{refl}
+use Rattle.basics.proofs.Basics.{refl}
 use Rattle.dates.specs.Dates.{leapRow, monthLength}
 use Rattle.dates.specs.Numbers.{monthStart, yearStart, dayNumber, isReal, dayAnswer}
 use Rattle.line_values.specs.Pinned.Words.{isSame}

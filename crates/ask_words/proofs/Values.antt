@@ -1,10 +1,5 @@
 -- A word has a value where it is read to its end.
-use Prim.Native.Nat.{ℕ, _+_, _-_, _≤_, _<_}
-use mathlib.Core.Path.{_≡_, refl}
-use mathlib.Core.List.{List, [], _∷_}
-use native.Mathlib.Omega.{arith}
-use lib.ListN.{length}
-use borrow.Author.Tests.{lt-ltb, le-ltb}
+use Rattle.basics.proofs.Basics.{_≡_, refl, List, [], _∷_, _≤_, ℕ, _-_, _+_, _<_, arith, length, lt-ltb, le-ltb}
 use Rattle.line_values.specs.declared.Found.the-variants as field
 use Rattle.line_values.specs.Pinned.Numbers.{Parsed, number, bad}
 use Rattle.line_values.specs.Between.Places.{foundAt}

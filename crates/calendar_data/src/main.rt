@@ -16,11 +16,18 @@ fn main() {
     tally::report(b"dates to days and back: ", dates);
 }
 
-fn easter_sundays() {
-    let path = b"easter.txt";
+// A file to be read; one that cannot be is named on standard error.
+fn opened(path: &[u8]) -> i32 {
     let fd = os::open_read(path);
     if fd < 0 {
         os::fail(path);
+    }
+    fd
+}
+
+fn easter_sundays() {
+    let fd = opened(b"easter.txt");
+    if fd < 0 {
         return;
     }
     let mut list = io::large_buffer();
@@ -31,10 +38,8 @@ fn easter_sundays() {
 }
 
 fn holidays() {
-    let path = b"luxembourg-holidays.txt";
-    let fd = os::open_read(path);
+    let fd = opened(b"luxembourg-holidays.txt");
     if fd < 0 {
-        os::fail(path);
         return;
     }
     let mut list = io::large_buffer();

@@ -1,15 +1,11 @@
 -- Counting dates on from 1 January 2000 comes to the sums of month lengths, and every number is such a sum.
-use mathlib.Core.Path.{_≡_, refl, _∙_, ap, sym}
-use mathlib.Core.Logic.{_⊎_, inl, inr}
-use Prim.Native.Nat.{ℕ, zero, suc, _+_, _-_, _≤_, _<_}
-use native.Mathlib.Nat.{add-zero, add-suc, add-assoc, eq-or-lt-of-le}
-use native.Mathlib.Omega.{arith}
-use native.Mathlib.Numerals.{add-one}
-use borrow.Author.Tests.{lt-ltb, le-ltb}
+use Rattle.basics.proofs.Basics.{_≡_, refl, sym, _∙_, ap, _≤_, ℕ, _-_, _+_, _<_, suc, zero, add-zero, add-assoc}
+use Rattle.basics.proofs.Basics.{add-suc, add-one, arith, lt-ltb, le-ltb}
 use Rattle.dates.specs.declared.{Date.Date}
 use Rattle.dates.specs.Dates.{leapRow, monthLength, date, next, dateOf}
 use Rattle.dates.specs.Numbers.{monthStart, yearStart}
-use Rattle.dates.proofs.Months.{row-is, length-bounds}
+use Rattle.dates.proofs.Months.{row-is, length-bounds, InMonth, guess, guess-in}
+use Rattle.dates.proofs.Years.{year-of, year-step}
 
 -- the date with year, month and day counted from 0, the days of its month, and its number
 abbrev pub dateFrom0 : ℕ → ℕ → ℕ → Date
@@ -70,53 +66,26 @@ years (suc k) = let p : suc (lengthIn k 11 - 1) ≡ lengthIn k 11 = omega (arith
 pub counted : (k m d : ℕ) → m < 12 → d < lengthIn k m → dateOf (numberFrom0 k m d) ≡ dateFrom0 k m d
 counted k m d h g = days _ k m (months _ k (years k) m h) d g
 
--- each number is that of a date
+-- each day of the calendar is the number of a date
 pub record Split (n : ℕ) : Type 0 where
   pub k : ℕ
   pub m : ℕ
   pub d : ℕ
+  pub year : k < 200
   pub month : m < 12
   pub day : d < lengthIn k m
   pub total : numberFrom0 k m d ≡ n
 
-year-total : (n k m d : ℕ) → m ≡ 11 → suc d ≡ lengthIn k m → numberFrom0 k m d ≡ n → numberFrom0 (suc k) 0 0 ≡ suc n
-unfolding yearStart monthStart
-year-total n k m d q e t = omega (arith, rw q at t, rw q at e)
-
-split-next : (n : ℕ) → (s : Split n) → (suc (s .d) ≡ lengthIn (s .k) (s .m)) ⊎ (suc (s .d) < lengthIn (s .k) (s .m)) →
-    (suc (s .m) ≡ 12) ⊎ (suc (s .m) < 12) → Split (suc n)
-unfolding monthStart yearStart
-split-next n s (inr l) w =
-    record { k = s .k; m = s .m; d = suc (s .d); month = s .month; day = l; total = omega (arith, s .total) }
-split-next n s (inl e) (inr l) =
-    record {
-      k = s .k;
-      m = suc (s .m);
-      d = 0;
-      month = l;
-      day = month-some (s .k) (suc (s .m)) l;
-      total = omega (arith, s .total, e);
-    }
-split-next n s (inl e) (inl l) =
-    record {
-      k = suc (s .k);
-      m = 0;
-      d = 0;
-      month = omega arith;
-      day = month-some (suc (s .k)) 0 (omega arith);
-      total = year-total _ _ _ _ (omega arith) e (s .total);
-    }
-
-pub split : (n : ℕ) → Split n
-unfolding monthStart yearStart
-split zero = record { k = 0; m = 0; d = 0; month = omega arith; day = month-some 0 0 (omega arith); total = refl }
-split (suc n) = split-next n (split n) (eq-or-lt-of-le (split n .day)) (eq-or-lt-of-le (split n .month))
+pub split : (n : ℕ) → n ≤ 73048 → Split n
+unfolding monthStart
+split n h = let (k, year, from, to) = year-of n h in let row = leapRow (2000 + k) in let r = n - yearStart k in
+    let m = guess-in row r (row-is (2000 + k)) (omega (arith, year-step k)) in
+    record { k = k; m = guess row r; d = r - monthStart row (guess row r); year = year; month = m .0; day = omega arith; total = omega arith }
 
 -- A number n whose year k begins at s and whose month m begins t days later, as the code finds them: what is left is
 -- the day of the month, and the three are the date of n.
 module _ (n k s row m t : ℕ) (row-of : row ≡ leapRow (2000 + k)) (year-at : s ≡ yearStart k)
-    (month-at : t ≡ monthStart row m) (h : m < 12) (year-from : yearStart k ≤ n)
-    (month-from : monthStart row m ≤ n - s) (month-to : n - s < monthStart row (suc m)) where
+    (month-at : t ≡ monthStart row m) (year-from : yearStart k ≤ n) (month : InMonth row (n - s) m) where
   pub placed-day : n - s - t < monthLength row m
   unfolding monthStart
   placed-day = omega arith
@@ -124,4 +93,4 @@ module _ (n k s row m t : ℕ) (row-of : row ≡ leapRow (2000 + k)) (year-at : 
   pub placed : date (2000 + k) (m + 1) (n - s - t + 1) ≡ dateOf n
   placed = let g : n - s - t < lengthIn k m = rw (← row-of) placed-day in
       let e : numberFrom0 k m (n - s - t) ≡ n = rw (← row-of) (omega arith) in
-      rw (add-one, add-one) (sym (counted k m (n - s - t) h g) ∙ ap dateOf e)
+      rw (add-one, add-one) (sym (counted k m (n - s - t) (month .0) g) ∙ ap dateOf e)

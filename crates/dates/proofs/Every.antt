@@ -1,15 +1,16 @@
 -- A test that antt computes at each number below a bound, and what it says of each of them.
-use mathlib.Core.Path.{_≡_, sym, subst}
-use mathlib.Core.Bool.{Bool, true, _&&_, and-eq-true-iff}
+use Rattle.basics.proofs.Basics.{_≡_, sym, subst, true, Bool, _&&_, and-eq-true-iff, ℕ, _<_, suc, zero, not-suc-le-zero}
+use Rattle.basics.proofs.Basics.{le-of-suc-le-suc, eq-or-lt-of-le}
 use mathlib.Core.Logic.{⊎-elim}
-use Prim.Native.Nat.{ℕ, zero, suc, _<_}
-use native.Mathlib.Nat.{eq-or-lt-of-le, le-of-suc-le-suc, not-suc-le-zero}
 
 pub and-left : (a b : Bool) → (a && b) ≡ true → a ≡ true
 and-left a b t = and-eq-true-iff a b .0 t .0
 
 pub and-right : (a b : Bool) → (a && b) ≡ true → b ≡ true
 and-right a b t = and-eq-true-iff a b .0 t .1
+
+pub and-both : (a b : Bool) → a ≡ true → b ≡ true → (a && b) ≡ true
+and-both a b s t = and-eq-true-iff a b .1 (s, t)
 
 -- the test holds at each number below n
 abbrev pub every : (ℕ → Bool) → ℕ → Bool

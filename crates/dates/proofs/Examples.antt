@@ -1,7 +1,5 @@
 -- The dated examples of days and dates, computed from the definitions.
-use mathlib.Core.Path.{_≡_, refl}
-use Prim.Native.Nat.{ℕ, min}
-use borrow.Author.Tests.{le-leb}
+use Rattle.basics.proofs.Basics.{_≡_, refl, ℕ, min, le-leb}
 use Rattle.dates.specs.declared.{DayAnswer.DayAnswer}
 use Rattle.dates.specs.Dates.{lastDay, weekday, leapRow, monthLength, date, next, dateOf}
 use Rattle.dates.specs.Numbers.{monthStart, yearStart, dayNumber, isReal, dayAnswer, dateAnswer}

@@ -1,17 +1,12 @@
 -- Days and dates are one to one over the whole calendar: the statement `OneToOne`, proved.
-use mathlib.Core.Path.{_≡_, _∙_, ap, sym}
-use mathlib.Core.Bool.{true}
-use Prim.Native.Nat.{ℕ, suc, _+_, _-_, _≤_, _<_}
-use native.Mathlib.Nat.{lt-of-not-le}
-use native.Mathlib.Omega.{arith}
-use borrow.Author.Tests.{le-leb, lt-leb}
+use Rattle.basics.proofs.Basics.{_≡_, sym, _∙_, ap, true, _≤_, ℕ, _-_, _+_, _<_, suc, arith, le-leb, lt-leb}
 use Rattle.dates.specs.declared.{DayAnswer.DayAnswer}
 use Rattle.dates.specs.Dates.{lastDay, leapRow, date, dateOf}
 use Rattle.dates.specs.Numbers.{isReal, dayNumber, dayAnswer, dateAnswer}
 use Rattle.dates.specs.OneToOne.{OneToOne}
 use Rattle.dates.proofs.Months.{row-is, month-in-year}
-use Rattle.dates.proofs.Years.{year-is, year-step, year-past}
-use Rattle.dates.proofs.Counting.{dateFrom0, lengthIn, numberFrom0, counted, split}
+use Rattle.dates.proofs.Years.{year-is, year-step}
+use Rattle.dates.proofs.Counting.{dateFrom0, lengthIn, numberFrom0, counted, Split, split}
 use Rattle.dates.proofs.Real.{Real, real-is, is-real, real-day, day-real}
 
 -- the number of a date, counted from 0
@@ -25,28 +20,27 @@ number-in : (k m d : ℕ) → k < 200 → m < 12 → d < lengthIn k m → number
 number-in k m d hk hm hd = let month = month-in-year (leapRow (2000 + k)) m (row-is (2000 + k)) hm in
     let year = year-is (suc k) (omega arith) in omega (arith, year-step k)
 
-year-in : (k m d : ℕ) → numberFrom0 k m d ≤ lastDay → k < 200
-year-in k m d h = lt-of-not-le (λ past. omega (arith, year-past k past))
-
 -- the date of a day of the calendar, counted from 0, is real
 module _ (n : ℕ) (h : n ≤ lastDay) where
-  date-split : dateOf n ≡ dateFrom0 (split n .k) (split n .m) (split n .d)
-  date-split = sym (ap dateOf (split n .total)) ∙ counted _ _ _ (split n .month) (split n .day)
+  abbrev s : Split n
+  s = split n h
 
-  split-real : Real (2000 + split n .k) (suc (split n .m)) (suc (split n .d))
-  split-real = let month-back : suc (split n .m) - 1 ≡ split n .m = omega arith in
-      let year = year-in (split n .k) (split n .m) (split n .d) (omega (arith, split n .total)) in
+  date-split : dateOf n ≡ dateFrom0 (s .k) (s .m) (s .d)
+  date-split = sym (ap dateOf (s .total)) ∙ counted _ _ _ (s .month) (s .day)
+
+  split-real : Real (2000 + s .k) (suc (s .m)) (suc (s .d))
+  split-real = let month-back : suc (s .m) - 1 ≡ s .m = omega arith in let year = s .year in let month = s .month in
       record {
         from-2000 = omega arith;
         to-2199 = omega arith;
         month-from-1 = omega arith;
-        month-to-12 = split n .month;
+        month-to-12 = omega arith;
         day-from-1 = omega arith;
-        day-to-last = rw month-back (split n .day);
+        day-to-last = rw month-back (s .day);
       }
 
-  split-number : dayNumber (2000 + split n .k) (suc (split n .m)) (suc (split n .d)) ≡ n
-  split-number = number-from-0 (split n .k) (split n .m) (split n .d) ∙ split n .total
+  split-number : dayNumber (2000 + s .k) (suc (s .m)) (suc (s .d)) ≡ n
+  split-number = number-from-0 (s .k) (s .m) (s .d) ∙ s .total
 
   its-date-is-real : isReal (dateOf n .year) (dateOf n .month) (dateOf n .day) ≡ true
   its-date-is-real = rw date-split (is-real _ _ _ split-real)
@@ -59,12 +53,6 @@ module _ (y m d : ℕ) (r : Real y m d) where
   year-back : 2000 + (y - 2000) ≡ y
   year-back = omega arith
 
-  month-back : suc (m - 1) ≡ m
-  month-back = omega arith
-
-  day-back : suc (d - 1) ≡ d
-  day-back = omega arith
-
   real-number : dayNumber y m d ≡ numberFrom0 (y - 2000) (m - 1) (d - 1)
   unfolding dayNumber
   real-number = rw year-back
@@ -76,13 +64,12 @@ module _ (y m d : ℕ) (r : Real y m d) where
   real-in = rw real-number (number-in (y - 2000) (m - 1) (d - 1) (omega arith) (omega arith) real-length)
 
   real-counted : dateOf (dayNumber y m d) ≡ date y m d
-  real-counted = ap dateOf real-number ∙ counted (y - 2000) (m - 1) (d - 1) (omega arith) real-length ∙
-      rw (year-back, month-back, day-back)
+  real-counted = let month-back : suc (m - 1) ≡ m = omega arith in let day-back : suc (d - 1) ≡ d = omega arith in
+      rw real-number (counted (y - 2000) (m - 1) (d - 1) (omega arith) real-length ∙ rw (year-back, month-back, day-back))
 
-module _ (y m d n : ℕ) where
-  has-date : dayAnswer y m d ≡ DayAnswer.Day n → (n ≤ lastDay) × (dateOf n ≡ date y m d)
-  has-date e = let r = day-real y m d n e in let same : dayNumber y m d ≡ n = cc (real-day y m d r) in
-      rw (← same) (real-in y m d r, real-counted y m d r)
+has-date : (y m d n : ℕ) → dayAnswer y m d ≡ DayAnswer.Day n → (n ≤ lastDay) × (dateOf n ≡ date y m d)
+has-date y m d n e = let r = day-real y m d n e in let same : dayNumber y m d ≡ n = cc (real-day y m d r) in
+    rw (← same) (real-in y m d r, real-counted y m d r)
 
 pub one-to-one : OneToOne
 unfolding dayAnswer dateAnswer

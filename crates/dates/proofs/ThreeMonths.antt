@@ -1,8 +1,5 @@
 -- The code's parts of three months after a day, counted from 0, against the definition's.
-use mathlib.Core.Path.{_≡_}
-use Prim.Native.Nat.{ℕ, _+_, _-_, _≤_, _<_, min}
-use native.Mathlib.Omega.{arith}
-use borrow.Author.Tests.{le-leb, lt-leb}
+use Rattle.basics.proofs.Basics.{_≡_, _≤_, ℕ, _-_, _+_, _<_, min, arith, le-leb, lt-leb}
 use Rattle.dates.specs.declared.{Date.Date}
 use Rattle.dates.specs.Dates.{lastDay, leapRow, monthLength, dateOf, InRange}
 use Rattle.dates.specs.Numbers.{dayNumber}

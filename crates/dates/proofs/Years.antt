@@ -1,29 +1,17 @@
 -- The first day of a year, as the code reckons it, is the sum of the years before it: one step, tested for 200 years.
-use mathlib.Core.Path.{_≡_, refl}
-use mathlib.Core.Bool.{Bool, true}
-use Prim.Native.Nat.{ℕ, zero, suc, _+_, _-_, _*_, _/_, _≤_, _<_}
-use native.Mathlib.Nat.{add-suc}
-use native.Mathlib.Omega.{arith}
-use borrow.Author.Tests.{eqb-true}
-use lib.Dec.{eqb}
+use Rattle.basics.proofs.Basics.{_≡_, refl, _≤_, ℕ, _-_, _+_, _<_, suc, zero, _*_, _/_, arith, eqb, ltb, ltb-false}
+use Rattle.basics.proofs.Basics.{eqb-true, ltb-true, cases}
 use Rattle.dates.specs.Dates.{leapRow, monthLength}
 use Rattle.dates.specs.Numbers.{monthStart, yearStart}
-use Rattle.dates.proofs.Every.{every, every-below}
+use Rattle.dates.proofs.Every.{every-below}
 
 -- a leap day for each fourth year before it, less that of 2100
 abbrev pub yearFormula : ℕ → ℕ
 yearFormula k = 365 * k + (k + 3) / 4 - k / 101
 
-isStep : ℕ → Bool
-isStep k = eqb (yearFormula k + monthStart (leapRow (2000 + k)) 12) (yearFormula (suc k))
-
-steps-are : every isStep 200 ≡ true
-unfolding isStep monthStart monthLength leapRow
-steps-are = refl
-
 step-is : (k : ℕ) → k < 200 → yearFormula k + monthStart (leapRow (2000 + k)) 12 ≡ yearFormula (suc k)
-unfolding isStep
-step-is k h = eqb-true _ _ (every-below isStep 200 steps-are k h)
+step-is k h = eqb-true _ _ (every-below (λ k. eqb (yearFormula k + monthStart (leapRow (2000 + k)) 12) (yearFormula (suc k))) 200
+    (unfold monthStart monthLength leapRow in refl) k h)
 
 pub year-is : (k : ℕ) → k < 201 → yearStart k ≡ yearFormula k
 unfolding yearStart
@@ -35,10 +23,9 @@ pub year-step : (k : ℕ) → yearStart (suc k) ≡ yearStart k + monthStart (le
 unfolding yearStart
 year-step k = refl
 
--- the years from 2200 on begin past the calendar
-years-from-2200 : (j : ℕ) → 73049 ≤ yearStart (200 + j)
-years-from-2200 zero = omega (arith, year-is 200 (omega arith))
-years-from-2200 (suc j) = rw add-suc (omega (arith, years-from-2200 j, year-step (200 + j)))
-
-pub year-past : (k : ℕ) → 200 ≤ k → 73049 ≤ yearStart k
-year-past k h = let e : 200 + (k - 200) ≡ k = omega arith in rw e at (years-from-2200 (k - 200))
+-- the year of a day of the calendar is a 366th of it, or the year after
+pub year-of : (n : ℕ) → n ≤ 73048 → (k : ℕ) × (k < 200) × (yearStart k ≤ n) × (n < yearStart (suc k))
+year-of n h = let a = year-is (n / 366) (omega arith) in let b = year-is (suc (n / 366)) (omega arith) in cases (ltb n (yearStart (suc (n / 366))))
+    (λ e. let q = ltb-true n (yearStart (suc (n / 366))) e in (n / 366, omega arith, omega arith, omega arith))
+    (λ e. let q = ltb-false n (yearStart (suc (n / 366))) e in let k : suc (n / 366) < 200 = omega arith in
+    let c = year-is (suc (suc (n / 366))) (omega arith) in (suc (n / 366), k, omega arith, omega arith))

@@ -1,11 +1,6 @@
 -- Counting working days: a walk day by day, a count that ends past the calendar, and the days between two days.
-use mathlib.Core.Path.{_≡_, refl, _∙_}
-use mathlib.Core.Bool.{false, cond}
-use Prim.Native.Nat.{ℕ, zero, suc, _+_, _-_, _≤_, _<_}
-use native.Mathlib.Nat.{zero-add, add-zero, add-suc, suc-add, add-assoc}
-use native.Mathlib.Numerals.{add-one}
-use native.Mathlib.Omega.{arith}
-use borrow.Author.Tests.{lt-leb}
+use Rattle.basics.proofs.Basics.{_≡_, refl, _∙_, false, cond, _≤_, ℕ, _-_, _+_, _<_, suc, zero, add-zero, zero-add}
+use Rattle.basics.proofs.Basics.{add-assoc, add-suc, suc-add, add-one, arith, lt-leb}
 use Rattle.holidays.specs.Working.{isWorking, workingFrom, workingBetween, workingDays}
 
 -- one more day of a walk

@@ -1,14 +1,7 @@
 -- The table of Easter Sundays follows the Gregorian computus in every year: one test that antt computes over the whole
 -- table, and one law that makes it the rule. Then the code's Easter Sunday from 22 March, and that it is a Sunday.
-use mathlib.Core.Path.{_≡_, refl, sym}
-use mathlib.Core.Bool.{Bool, true, _&&_}
-use mathlib.Core.List.{List, [], _∷_}
-use Prim.Native.Nat.{ℕ, _+_, _-_, _≤_, _<_}
-use native.Mathlib.Nat.{add-assoc}
-use native.Mathlib.Omega.{arith}
-use borrow.Author.Tests.{ltb-true, eqb-true}
-use lib.Dec.{ltb, eqb}
-use lib.ListN.{getD}
+use Rattle.basics.proofs.Basics.{_≡_, refl, sym, true, Bool, _&&_, List, [], _∷_, _≤_, ℕ, _-_, _+_, _<_, add-assoc}
+use Rattle.basics.proofs.Basics.{arith, eqb, ltb, getD, eqb-true, ltb-true, needs}
 use Rattle.dates.specs.declared.{DayAnswer.DayAnswer}
 use Rattle.dates.specs.Dates.{leapRow, monthLength, weekday, lastDay}
 use Rattle.dates.specs.Numbers.{monthStart, isReal, dayNumber, dayAnswer}
@@ -30,20 +23,8 @@ abbrev yearDay : ℕ → ℕ → ℕ → ℕ
 yearDay y m d = monthStart (leapRow y) (m - 1) + (d - 1)
 
 -- the entry x of year y: 22 March and x days on is the computus' date
-isEaster : ℕ → ℕ → Bool
-isEaster y x = isReal y (month y) (day y) && (eqb (yearDay y 3 22 + x) (yearDay y (month y) (day y)) && ltb x 35)
-
-easter-offset : (y x : ℕ) → isEaster y x ≡ true → IsOffset y x
-unfolding isEaster dayNumber
-easter-offset y x t = let rest = eqb (yearDay y 3 22 + x) (yearDay y (month y) (day y)) && ltb x 35 in
-    let u = and-right (isReal y (month y) (day y)) rest t in
-    let sum : yearDay y 3 22 + x ≡ yearDay y (month y) (day y) =
-    eqb-true _ _ (and-left (eqb (yearDay y 3 22 + x) (yearDay y (month y) (day y))) (ltb x 35) u) in
-    record {
-      is-real = and-left (isReal y (month y) (day y)) rest t;
-      is-days-on = omega arith;
-      is-small = ltb-true _ _ (and-right (eqb (yearDay y 3 22 + x) (yearDay y (month y) (day y))) (ltb x 35) u);
-    }
+abbrev isEaster : ℕ → ℕ → Bool
+isEaster y x = isReal y (month y) (day y) && eqb (yearDay y 3 22 + x) (yearDay y (month y) (day y)) && ltb x 35
 
 -- the code's table, a decade to a line from 2000 on
 abbrev offsets : List ℕ
@@ -68,30 +49,21 @@ offsets = 32 ∷ 24 ∷ 9 ∷ 29 ∷ 20 ∷ 5 ∷ 25 ∷ 17 ∷ 1 ∷ 21 ∷
     25 ∷ 10 ∷ 30 ∷ 22 ∷ 6 ∷ 26 ∷ 18 ∷ 3 ∷ 22 ∷ 14 ∷
     34 ∷ 19 ∷ 10 ∷ 30 ∷ 15 ∷ 7 ∷ 26 ∷ 18 ∷ 3 ∷ 23 ∷ []
 
--- the test of the entry of 2000 + k
-follows : ℕ → Bool
-follows k = isEaster (2000 + k) (getD offsets k 0)
-
-all-follow : every follows 200 ≡ true
-unfolding follows isEaster easterSunday isReal monthStart monthLength leapRow
+-- every entry follows the computus
+all-follow : every (λ k. isEaster (2000 + k) (getD offsets k 0)) 200 ≡ true
+unfolding easterSunday isReal monthStart monthLength leapRow
 all-follow = refl
 
--- every entry follows the computus
 pub table-follows : (k : ℕ) → k < 200 → IsOffset (2000 + k) (getD offsets k 0)
-unfolding follows
-table-follows k h = easter-offset (2000 + k) (getD offsets k 0) (every-below follows 200 all-follow k h)
+unfolding dayNumber
+table-follows k h = let y = 2000 + k in let x = getD offsets k 0 in
+    let t = every-below (λ k. isEaster (2000 + k) (getD offsets k 0)) 200 all-follow k h in
+    let sum : yearDay y 3 22 + x ≡ yearDay y (month y) (day y) = search (eqb-true, and-left, and-right) in
+    record { is-real = search (and-left, and-right); is-days-on = omega arith; is-small = search (ltb-true, and-left, and-right) }
 
 -- 22 March is a real date of every year of the calendar
 march-22-real : (y : ℕ) → 2000 ≤ y → y ≤ 2199 → Real y 3 22
-march-22-real y a b = let long = length-bounds (leapRow y) 2 (row-is y) (omega arith) in
-    record {
-      from-2000 = a;
-      to-2199 = b;
-      month-from-1 = omega arith;
-      month-to-12 = omega arith;
-      day-from-1 = omega arith;
-      day-to-last = omega arith;
-    }
+march-22-real y a b = let long = length-bounds (leapRow y) 2 (row-is y) (omega arith) in search needs
 
 module _ (y : ℕ) where
   -- a year without a 22 March has no Easter
@@ -118,18 +90,15 @@ module _ (y : ℕ) where
         rw (same, o′ .is-days-on) (sym (real-day y (month y) (day y) r))
 
 -- Easter Sunday's weekday, by the formula for a year's first day
-isSunday : ℕ → Bool
+abbrev isSunday : ℕ → Bool
 isSunday k = eqb (weekday (yearFormula k + yearDay (2000 + k) (month (2000 + k)) (day (2000 + k)))) 6
 
-all-sundays : every isSunday 200 ≡ true
-unfolding isSunday weekday easterSunday monthStart monthLength leapRow
-all-sundays = refl
-
 sunday : (k : ℕ) → k < 200 → weekday (dayNumber (2000 + k) (month (2000 + k)) (day (2000 + k))) ≡ 6
-unfolding isSunday dayNumber
+unfolding dayNumber
 sunday k h = let back : 2000 + k - 2000 ≡ k = omega arith in
+    let all : every isSunday 200 ≡ true = unfold weekday easterSunday monthStart monthLength leapRow in refl in
     let sum = add-assoc (yearFormula k) (monthStart (leapRow (2000 + k)) (month (2000 + k) - 1)) (day (2000 + k) - 1) in
-    rw (back, year-is k (omega arith), sum) (eqb-true _ _ (every-below isSunday 200 all-sundays k h))
+    rw (back, year-is k (omega arith), sum) (eqb-true _ _ (every-below isSunday 200 all k h))
 
 pub easter-is-sunday : EasterIsSunday
 unfolding easterDay

@@ -1,10 +1,5 @@
 -- The dated examples of Easter, holidays and working days, computed from the definitions.
-use mathlib.Core.Path.{_≡_, refl}
-use mathlib.Core.Bool.{not, _&&_}
-use Prim.Native.Nat.{ℕ, _≤_}
-use native.Mathlib.Omega.{arith}
-use borrow.Author.Tests.{le-leb}
-use lib.Dec.{ltb}
+use Rattle.basics.proofs.Basics.{_≡_, refl, _&&_, not, _≤_, ℕ, arith, ltb, le-leb}
 use Rattle.dates.specs.declared.{DayAnswer.DayAnswer}
 use Rattle.dates.specs.Dates.{lastDay, weekday, leapRow, monthLength, date, next, dateOf}
 use Rattle.dates.specs.Numbers.{monthStart, yearStart, dayNumber, isReal, dayAnswer}

@@ -1,11 +1,5 @@
 -- A walk over a table of fixed holidays: what one more row says of a date.
-use mathlib.Core.Path.{_≡_}
-use mathlib.Core.Bool.{true, false}
-use mathlib.Core.List.{List}
-use Prim.Native.Nat.{ℕ, _+_, _<_}
-use native.Mathlib.Numerals.{add-one}
-use lib.ListN.{length, drop, getD}
-use lib.Seq.{drop-cons}
+use Rattle.basics.proofs.Basics.{_≡_, true, false, List, ℕ, _+_, _<_, add-one, length, drop, getD, drop-cons}
 use Rattle.dates.specs.declared.{Date.Date}
 use Rattle.holidays.specs.declared.{MonthDay.MonthDay}
 use Rattle.holidays.specs.Holidays.{fallsOn, anyFallsOn}

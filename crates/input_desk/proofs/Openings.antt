@@ -1,7 +1,6 @@
 -- The desk after an accepted message, and after a refused one.
-use mathlib.Core.Path.{_≡_, refl, sym, ap, _∙_}
-use mathlib.Core.Bool.{Bool, true, false, cond, not, _&&_, false≢true}
-use Rattle.rules.specs.declared.{Call.Call, Opening.Opening, Register.Register, Outcome.Outcome}
+use Rattle.basics.proofs.Basics.{_≡_, refl, sym, _∙_, true, false, Bool, cond, _&&_, false≢true, not}
+use Rattle.rules.specs.declared.{Opening.Opening, Outcome.Outcome}
 use Rattle.rules.specs.Answers.{isAccepted}
 use Rattle.rules.specs.Rejections.{openingAnswer}
 use Rattle.rules.specs.Pinned.Register.{says, advanced, done, opened, applied}
@@ -29,24 +28,12 @@ refused-after d (Message.Ask c) h = go (d .ready) refl h
     go false e k = refl
 refused-after d Message.Unreadable h = refl
 
--- an accepted message has opened the register, or has found it open
-pub opening-after : (d : Desk) (o : Opening) (r : Register) (x : Outcome) → x ≡ openedOver r o →
-    isAccepted (answerOf d (Message.Open o)) ≡ true → desk true (x .register) ≡ deskAfter d (Message.Open o)
-unfolding answerOf deskAfter openedOver
-opening-after d o r x e h = rw e (go (d .ready) h)
+-- what an opening does where no register is open
+pub opening-after : (d : Desk) (o : Opening) (x : Outcome) (b : Bool) → d .ready ≡ false → x ≡ openedOver (d .register) o →
+    b ≡ isAccepted (x .answer) → desk b (x .register) ≡ deskAfter d (Message.Open o)
+unfolding deskAfter openedOver
+opening-after d o x b h e k = rw (k, e) (go (isAccepted (openingAnswer o)))
   where
-    go : (b : Bool) → isAccepted (cond b unreadable (openingAnswer o)) ≡ true →
-        desk true (cond (isAccepted (openingAnswer o)) (opened o) r) ≡ cond (not b && isAccepted (openingAnswer o)) (desk true (opened o)) d
-    go true k = absurd (false≢true k)
-    go false k = rw k
-
-pub call-after : (d : Desk) (c : Call) (r : Register) → (isAccepted (says (d .register) c) ≡ true → r ≡ applied (d .register) c .register) →
-    isAccepted (answerOf d (Message.Ask c)) ≡ true → desk true r ≡ deskAfter d (Message.Ask c)
-unfolding answerOf deskAfter applied
-call-after d c r e h = go (d .ready) h
-  where
-    go : (b : Bool) → isAccepted (cond b (says (d .register) c) unreadable) ≡ true →
-        desk true r ≡ cond b
-        (desk true (cond (isAccepted (says (d .register) c)) (done (c .today) (c .action) (advanced (c .today) (d .register))) (d .register))) d
-    go true k = ap (desk true) (e k)
-    go false k = absurd (false≢true k)
+    go : (a : Bool) → desk a (cond a (opened o) (d .register)) ≡ cond (not (d .ready) && a) (desk true (opened o)) d
+    go true = rw h
+    go false = rw h

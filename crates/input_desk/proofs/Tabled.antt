@@ -1,11 +1,6 @@
 -- Every answer is one of document 01's table.
-use mathlib.Core.Path.{_≡_, refl}
-use mathlib.Core.Bool.{Bool, true, false, cond, _&&_, _||_, false≢true}
-use mathlib.Core.List.{List, [], _∷_}
-use Prim.Native.Nat.{ℕ, _<_}
-use native.Mathlib.Omega.{arith}
-use borrow.Author.Tests.{leb-true}
-use lib.Dec.{leb}
+use Rattle.basics.proofs.Basics.{_≡_, refl, true, false, Bool, cond, _&&_, false≢true, _||_, List, [], _∷_, ℕ, _<_}
+use Rattle.basics.proofs.Basics.{arith, leb, leb-true}
 use Rattle.rules.specs.declared.{Settings.Settings, SupplyKind.SupplyKind, Opening.Opening, Register.Register}
 use Rattle.rules.specs.declared.{Call.Call, View.View, Action.Action, PointAction.PointAction, Answer.Answer}
 use Rattle.rules.specs.Answers.{number}

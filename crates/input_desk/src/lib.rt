@@ -1,12 +1,11 @@
 // What a message is answered, and what it changes, before and after the register is opened (specs/Desk).
 use line_messages::Message;
+use point_checks::is_accepted;
 use register::apply;
 use register::open;
 use rules::Register;
 ghost use mathlib.Core.Path.{_≡_};
-ghost use mathlib.Core.Bool.{true};
-ghost use Rattle.rules.specs.Answers.{isAccepted};
-ghost use Rattle.input_desk.specs.Pinned.Desk.{answerOf, deskAfter};
+ghost use Rattle.input_desk.specs.Pinned.Desk.{deskAfter};
 
 // The register, once a set has opened it; before that the register is not looked at.
 pub struct Desk {
@@ -14,27 +13,35 @@ pub struct Desk {
     pub register: Register,
 }
 
-// The desk after an accepted message.
+// The desk after a message.
 pub fn after(d: Desk, m: Message) -> Desk
-    ensures { λ r. ⌜ (isAccepted (answerOf d m) ≡ true → r ≡ deskAfter d m) ⌝ }
+    ensures { λ r. ⌜ r ≡ deskAfter d m ⌝ }
 {
     let r = d.register;
     match m {
         Message::Open(o) => {
+            if d.ready {
+                return d;
+            }
             let x = open(r, o);
+            let answer = x.answer;
             let next = x.register;
+            let opened = is_accepted(answer);
             Desk {
-                ready: true,
+                ready: opened,
                 register: next,
             }
         }
         Message::Ask(c) => {
-            let x = apply(r, c);
-            let next = x.register;
-            Desk {
-                ready: true,
-                register: next,
+            if d.ready {
+                let x = apply(r, c);
+                let next = x.register;
+                return Desk {
+                    ready: true,
+                    register: next,
+                };
             }
+            d
         }
         Message::Unreadable => d,
     }

@@ -1,11 +1,7 @@
 -- Laws of what is kept of a line that has not ended.
-use Prim.Native.Nat.{ℕ, zero, suc, _+_, _-_, _≤_, min}
-use mathlib.Core.Path.{_≡_, refl, ap, _∙_}
-use mathlib.Core.List.{List, [], _∷_, _++_, append-assoc, append-nil}
-use native.Mathlib.Omega.{arith}
-use native.Mathlib.Decide.{decLe}
-use lib.ListN.{length, take, replicate, length-append, length-take}
-use lib.Seq.{take-all, take-append-add, take-append-seam, length-take-le}
+use Rattle.basics.proofs.Basics.{_≡_, refl, _∙_, ap, List, [], _∷_, _++_, append-assoc, append-nil, _≤_, ℕ, _-_, _+_}
+use Rattle.basics.proofs.Basics.{suc, zero, min, decLe, arith, length, take, length-append, replicate, length-take}
+use Rattle.basics.proofs.Basics.{length-take-le, take-all, take-append-seam, take-append-add}
 use Rattle.line_text.specs.Between.Appending.{Appended}
 use Rattle.line_text.proofs.Appends.{zeros-put}
 use Rattle.input_lines.specs.declared.{Begun.Begun}
@@ -25,12 +21,9 @@ capped-front x t = take-front keptBytes x t
 pub capped-more : (x : List ℕ) (b : ℕ) (t : List ℕ) → capped (capped (x ++ (b ∷ [])) ++ t) ≡ capped (x ++ (b ∷ t))
 capped-more x b t = capped-front (x ++ (b ∷ [])) t ∙ ap capped (append-assoc x (b ∷ []) t)
 
-pub capped-short : (l : List ℕ) → length l ≤ keptBytes → capped l ≡ l
-unfolding capped
-capped-short l h = take-all keptBytes l h
-
 pub capped-nil : (l : List ℕ) → length l ≤ keptBytes → capped (l ++ []) ≡ l
-capped-nil l h = ap capped (append-nil l) ∙ capped-short l h
+unfolding capped
+capped-nil l h = rw (append-nil l) (take-all keptBytes l h)
 
 pub capped-le : (l : List ℕ) → length (capped l) ≤ keptBytes
 unfolding capped
@@ -66,8 +59,8 @@ capped-append x more h = let s : keptBytes ≡ length x + (keptBytes - length x)
     ap (λ (l : List ℕ). x ++ l) (take-min (keptBytes - length x) more)
 
 -- the bytes held and as many of the new ones as fit
-pub begun-appended : (bytes more : List ℕ) (len held added : ℕ) (o₁ o₂ : List ℕ) (a b : ℕ) → length bytes ≡ keptBytes → held ≡ min len keptBytes →
-    added ≡ min (length more) (keptBytes - held) →
+pub begun-appended : (bytes more : List ℕ) (len held added : ℕ) (o₁ o₂ : List ℕ) (a b : ℕ) → length bytes ≡ keptBytes →
+    held ≡ min len keptBytes → added ≡ min (length more) (keptBytes - held) →
     Appended 0 (take held bytes) (replicate keptBytes 0) o₁ a → Appended a (take added more) o₁ o₂ b →
     record { len = b; bytes = o₂ } ≡ begunOf (capped (take (min len keptBytes) bytes ++ more))
 unfolding begunOf

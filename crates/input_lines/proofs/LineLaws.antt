@@ -1,12 +1,6 @@
 -- The lines of an input have no line feed, and with theirs they are the input again.
-use Prim.Native.Nat.{ℕ, suc}
-use mathlib.Core.Path.{_≡_, refl, _∙_}
-use mathlib.Core.Bool.{Bool, true, false, cond, not}
-use mathlib.Core.List.{List, [], _∷_, _++_, append-assoc}
-use native.Mathlib.Omega.{arith}
-use native.Mathlib.Nat.{not-suc-le-zero}
-use borrow.Author.Tests.{eqb-true}
-use lib.Dec.{eqb}
+use Rattle.basics.proofs.Basics.{_≡_, refl, _∙_, ap, true, false, Bool, cond, List, [], _∷_, _++_, append-assoc, ℕ}
+use Rattle.basics.proofs.Basics.{not-suc-le-zero, arith, eqb, eqb-true, cases}
 use Rattle.input_lines.specs.Lines.{feeds, unlines, endsWithin}
 use Rattle.input_lines.specs.Pinned.Lines.{lastLine, linesFrom, linesOf}
 use Rattle.input_lines.specs.Laws.{Clear, none, one, LinesAre}
@@ -30,23 +24,14 @@ last-back (b ∷ x) = refl
 back : (x l : List ℕ) → unlines (linesFrom x l) ≡ x ++ (l ++ ending (endsWithin (isSome x) l))
 unfolding linesFrom endsWithin unlines
 back x [] = last-back x
-back x (b ∷ l) = go (eqb b 10) refl (back [] l) (back (x ++ (b ∷ [])) l)
-  where
-    go : (t : Bool) → eqb b 10 ≡ t → unlines (linesFrom [] l) ≡ l ++ ending (endsWithin false l) →
-        unlines (linesFrom (x ++ (b ∷ [])) l) ≡ (x ++ (b ∷ [])) ++ (l ++ ending (endsWithin (isSome (x ++ (b ∷ []))) l)) →
-        unlines (cond t (x ∷ linesFrom [] l) (linesFrom (x ++ (b ∷ [])) l)) ≡ x ++ (b ∷ (l ++ ending (endsWithin (not t) l)))
-    go true e i j = rw (i, ← (eqb-true b 10 e))
-    go false e i j = j ∙ rw (some-snoc x b) (append-assoc x (b ∷ []) (l ++ ending (endsWithin true l)))
+back x (b ∷ l) = cases (eqb b 10) (λ e. rw e (ap (λ (r : List ℕ). x ++ (10 ∷ r)) (back [] l) ∙ rw (← eqb-true b 10 e)))
+    (λ e. rw (e, back (x ++ (b ∷ [])) l, some-snoc x b) (append-assoc x (b ∷ []) (l ++ ending (endsWithin true l))))
 
 feeds-snoc : (x : List ℕ) (b : ℕ) → feeds x ≡ 0 → eqb b 10 ≡ false → feeds (x ++ (b ∷ [])) ≡ 0
 unfolding feeds
 feeds-snoc [] b h e = rw e
-feeds-snoc (c ∷ x) b h e = go (eqb c 10) (feeds-snoc x b) h
-  where
-    go : (t : Bool) → (feeds x ≡ 0 → eqb b 10 ≡ false → feeds (x ++ (b ∷ [])) ≡ 0) → cond t (suc (feeds x)) (feeds x) ≡ 0 →
-        cond t (suc (feeds (x ++ (b ∷ [])))) (feeds (x ++ (b ∷ []))) ≡ 0
-    go true i h = absurd (not-suc-le-zero {n = feeds x} (omega arith))
-    go false i h = i h e
+feeds-snoc (c ∷ x) b h e = cases (eqb c 10) (λ f. absurd (let z = rw f at h in not-suc-le-zero {n = feeds x} (omega arith)))
+    (λ f. rw f (feeds-snoc x b (rw f at h) e))
 
 clear-last : (x : List ℕ) → feeds x ≡ 0 → Clear (lastLine x)
 clear-last [] h = none
@@ -55,12 +40,8 @@ clear-last (b ∷ x) h = one h none
 clear : (x l : List ℕ) → feeds x ≡ 0 → Clear (linesFrom x l)
 unfolding linesFrom feeds
 clear x [] h = clear-last x h
-clear x (b ∷ l) h = go (eqb b 10) refl (clear [] l refl) (λ k. clear (x ++ (b ∷ [])) l k)
-  where
-    go : (t : Bool) → eqb b 10 ≡ t → Clear (linesFrom [] l) → (feeds (x ++ (b ∷ [])) ≡ 0 → Clear (linesFrom (x ++ (b ∷ [])) l)) →
-        Clear (cond t (x ∷ linesFrom [] l) (linesFrom (x ++ (b ∷ [])) l))
-    go true e i j = one h i
-    go false e i j = j (feeds-snoc x b h e)
+clear x (b ∷ l) h = cases (eqb b 10) (λ e. rw e (one h (clear [] l refl)))
+    (λ e. rw e (clear (x ++ (b ∷ [])) l (feeds-snoc x b h e)))
 
 pub lines-are : (input : List ℕ) → LinesAre input
 unfolding linesOf feeds

@@ -1,12 +1,6 @@
 -- The first bytes of a line, as many as are kept, say what the line says: one that is longer than 96 bytes is unreadable.
-use Prim.Native.Nat.{ℕ, _<_}
-use mathlib.Core.Path.{_≡_, sym, ap, _∙_}
-use mathlib.Core.List.{List, _++_}
-use native.Mathlib.Omega.{arith}
-use native.Mathlib.Decide.{decLe}
-use borrow.Author.Tests.{lt-leb}
-use lib.ListN.{length, take, length-take}
-use lib.Seq.{take-all}
+use Rattle.basics.proofs.Basics.{_≡_, sym, _∙_, ap, List, _++_, ℕ, _<_, decLe, arith, length, take, length-take}
+use Rattle.basics.proofs.Basics.{take-all, lt-leb}
 use Rattle.line_text.specs.Longest.{longestLine}
 use Rattle.line_messages.specs.declared.{Message.Message, LineMessage.LineMessage}
 use Rattle.line_messages.specs.Between.Values.{lineMessage}

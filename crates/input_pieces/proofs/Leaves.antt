@@ -1,34 +1,29 @@
 -- What a line leaves behind: refused, stored in the tables, or done on the whole register.
-use mathlib.Core.Path.{_≡_, refl, sym, ap, _∙_}
-use mathlib.Core.Bool.{Bool, true, false}
-use mathlib.Core.List.{List}
-use Prim.Native.Nat.{ℕ, _+_, _-_, _*_, _≤_, _<_, min}
-use native.Mathlib.Omega.{arith}
-use native.Mathlib.Nat.{le-trans}
-use lib.ListN.{getD, set}
-use lib.Seq.{set-getD}
+use Rattle.basics.proofs.Basics.{_≡_, refl, sym, _∙_, ap, true, false, Bool, List, _≤_, ℕ, _-_, _+_, _<_, _*_, min}
+use Rattle.basics.proofs.Basics.{le-trans, arith, getD, set, set-getD}
 use Rattle.rules.specs.declared.{Answer.Answer, Fields.Fields, Period.Period, Register.Register, Settings.Settings, Span.Span}
 use Rattle.rules.specs.Answers.{isAccepted}
 use Rattle.rules.specs.Fields.{blank}
 use Rattle.rules.specs.declared.{Reading.Reading}
 use Rattle.rules.specs.Pinned.Register.{period, noPeriod}
-use Rattle.point_effects.specs.declared.{Ruling.Ruling}
 use Rattle.line_messages.specs.declared.{Message.Message}
 use Rattle.input_tables.specs.declared.{Tables.Tables}
-use Rattle.input_tables.specs.Between.Tables.{Sized, Apart}
+use Rattle.input_tables.specs.Between.Tables.{bookedAt, Sized, Apart}
 use Rattle.input_desk.specs.declared.{Desk.Desk}
 use Rattle.input_desk.specs.Pinned.Desk.{desk, answerOf, deskAfter}
 use Rattle.input_desk.proofs.Openings.{refused-after}
 use Rattle.input_quiet.specs.Between.Quiet.{dueDay, firstDue}
 use Rattle.input_quiet.proofs.Dues.{first-at, first-set}
-use Rattle.input_point.specs.declared.{answers.Said.Said, deeds.Deed.Deed, deeds.Entry.Entry}
+use Rattle.input_point.specs.declared.{answers.Said.Said, daily.Daily.Daily, deeds.Deed.Deed, deeds.Entry.Entry}
 use Rattle.input_point.specs.Between.Answers.{placeOf, saidBy, newestStart, failureAnswer, settled}
 use Rattle.input_point.proofs.Settled.{answer-settled}
 use Rattle.input_pieces.specs.Pinned.Session.{registerIn}
 use Rattle.input_pieces.proofs.Turns.{Turned}
 use Rattle.input_point.specs.Between.Deeds.{deedOf}
-use Rattle.input_point.specs.Between.Daily.{read, reads, Stores}
-use Rattle.input_point.proofs.Stored.{isWhole, bookedBack, storedIn, deed-stored, slot-sized, back-sized, Within, deed-within}
+use Rattle.input_point.specs.Between.Daily.{dailyOf}
+use Rattle.input_point.proofs.DailyRules.{read, reads, Stores, daily-stores}
+use Rattle.input_point.proofs.DeedsDone.{Within, deed-within}
+use Rattle.input_point.proofs.Stored.{isWhole, storedIn, deed-stored, slot-sized, back-sized}
 
 -- The answer a, and the tables after it.
 pub record Next (d : Desk) (m : Message) (a : Answer) (ready : Bool) (S : Settings) (day : ℕ) (u : List Bool) (fs : List Fields) (ns : List ℕ)
@@ -41,20 +36,20 @@ pub record Next (d : Desk) (m : Message) (a : Answer) (ready : Bool) (S : Settin
 deed-in : (quiet : ℕ) (m : Message) (y : Said) (n : ℕ) (q : Period) (x : Deed) → x ≡ deedOf quiet m y n q → Within x
 deed-in quiet m y n q x e = rw e (deed-within quiet m y n q)
 
-pub place-within : (quiet : ℕ) (m : Message) (y : Said) (n : ℕ) (q : Period) (x : Deed) (e : Entry) → x ≡ Deed.Slot e →
+pub place-within : (quiet : ℕ) (m : Message) (y : Said) (n : ℕ) (q : Period) {x : Deed} {e : Entry} → x ≡ Deed.Slot e →
     x ≡ deedOf quiet m y n q → e .place < 24
-place-within quiet m y n q x e h k = rw h at (deed-in quiet m y n q x k)
+place-within quiet m y n q {x} h k = rw h at (deed-in quiet m y n q x k)
 
-pub supplier-within : (quiet : ℕ) (m : Message) (y : Said) (n : ℕ) (q : Period) (x : Deed) (t s : ℕ) → x ≡ Deed.Sign t s →
+pub supplier-within : (quiet : ℕ) (m : Message) (y : Said) (n : ℕ) (q : Period) {x : Deed} {t s : ℕ} → x ≡ Deed.Sign t s →
     x ≡ deedOf quiet m y n q → s < 100
-supplier-within quiet m y n q x t s h k = rw h at (deed-in quiet m y n q x k)
+supplier-within quiet m y n q {x} h k = rw h at (deed-in quiet m y n q x k)
 
 -- What was said, and the answer.
 pub record Heard (d : Desk) (x : Said) (m : Message) (y : Said) (a : Answer) : Type 0 where
   pub said : y ≡ x
   pub answer : a ≡ answerOf d m
 
--- the tables before the line
+-- The tables before the line.
 pub record State : Type 0 where
   pub ready : Bool
   pub set : Settings
@@ -64,6 +59,10 @@ pub record State : Type 0 where
   pub counts : List ℕ
   pub slots : List Period
   pub quiet : ℕ
+
+abbrev pub state : Bool → Settings → ℕ → List Bool → List Fields → List ℕ → List Period → ℕ → State
+state b S day u fs ns ss q =
+    record { ready = b; set = S; day = day; contracts = u; fields = fs; counts = ns; slots = ss; quiet = q }
 
 module _ (z : State) where
   abbrev fs : List Fields
@@ -92,71 +91,68 @@ module _ (z : State) where
         let e : x ≡ saidBy (z .set) (z .day) (z .contracts) (z .ready) m (getD fs i blank) (getD ns i 0) (newestStart i (getD ns i 0) ss) = rw hk at h in
         answer-settled (z .set) (z .day) (z .contracts) fs ns ss sized (z .ready) m i hi ∙ ap (settled fails) (sym e)
 
-    pub known-heard : (x y : Said) (a b : Answer) → x ≡ saidHere m i k → x ≡ Said.Known b → y ≡ Said.Known b → a ≡ b → Heard d (saidHere m i k) m y a
-    known-heard x y a b h e v w = record { said = v ∙ sym e ∙ h; answer = w ∙ sym (answer-is x h ∙ ap (settled fails) e) }
+    pub heard-as : {x y v : Said} {a : Answer} → x ≡ saidHere m i k → x ≡ v → y ≡ v → a ≡ settled fails v → Heard d (saidHere m i k) m y a
+    heard-as {x} h e v w = record { said = v ∙ sym e ∙ h; answer = w ∙ sym (answer-is x h ∙ ap (settled fails) e) }
 
-    pub ruled-heard : (x y : Said) (a : Answer) (b : Ruling) → x ≡ saidHere m i k → x ≡ Said.Ruled b → y ≡ Said.Ruled b → a ≡ b .answer →
-        Heard d (saidHere m i k) m y a
-    ruled-heard x y a b h e v w = record { said = v ∙ sym e ∙ h; answer = w ∙ sym (answer-is x h ∙ ap (settled fails) e) }
-
-    pub failing-heard : (x y : Said) (a b : Answer) (t s : ℕ) → x ≡ saidHere m i k → x ≡ Said.Fails t s → y ≡ Said.Fails t s → b ≡ fails t s →
-        a ≡ b → Heard d (saidHere m i k) m y a
-    failing-heard x y a b t s h e v f w = record { said = v ∙ sym e ∙ h; answer = w ∙ f ∙ sym (answer-is x h ∙ ap (settled fails) e) }
-
-    module _ (a : Answer) (ha : a ≡ answerOf d m) where
+    module _ {y : Said} {a : Answer} (told : Heard d (saidHere m i k) m y a) where
       pub refused-next : isAccepted a ≡ false → Next d m a (z .ready) (z .set) (z .day) (z .contracts) fs ns ss (z .quiet)
-      refused-next h = record { turned = record { answer = ha; after = sym (refused-after d m (rw ha at h)) }; sized = sized; calm = calm }
+      refused-next h =
+          record { turned = record { answer = told .answer; after = sym (refused-after d m (rw (told .answer) at h)) }; sized = sized; calm = calm }
 
       module _ (ok : isAccepted a ≡ true) where
         -- the whole register, taken apart again
-        pub whole-next : (R : Register) → R ≡ registerIn (z .set) (z .day) (z .contracts) fs ns ss → (nd : Desk) →
-            (isAccepted (answerOf (desk (z .ready) R) m) ≡ true → nd ≡ deskAfter (desk (z .ready) R) m) → (t : Tables) → Apart (nd .register .points) t →
-            (quiet′ : ℕ) → quiet′ ≡ firstDue (t .fields) →
+        pub whole-next : {R : Register} → R ≡ registerIn (z .set) (z .day) (z .contracts) fs ns ss → {nd : Desk} →
+            nd ≡ deskAfter (desk (z .ready) R) m → {t : Tables} → Apart (nd .register .points) t → {quiet′ : ℕ} → quiet′ ≡ firstDue (t .fields) →
             Next d m a (nd .ready) (nd .register .settings) (nd .register .day) (nd .register .contracts) (t .fields) (t .counts) (t .slots) quiet′
-        whole-next R hR nd does t apart quiet′ hq = let e : nd ≡ deskAfter d m = rw hR at (does (rw (hR, ← ha) ok)) in
-            record { turned = record { answer = ha; after = rw (apart .points) e }; sized = apart .sized; calm = omega (arith, hq) }
+        whole-next hR does apart hq =
+            record { turned = record { answer = told .answer; after = rw (apart .points) (rw hR at does) }; sized = apart .sized; calm = omega (arith, hq) }
 
-        module _ (y : Said) (hy : y ≡ saidHere m i k) (x : Deed) (hx : x ≡ deedOf (z .quiet) m y (getD ns i 0) (getD ss (24 * i + k) noPeriod)) where
+        module _ {x : Deed} (hx : x ≡ deedOf (z .quiet) m y (getD ns i 0) (getD ss (24 * i + k) noPeriod)) where
           stored : isWhole x ≡ false → desk (z .ready) (storedIn (z .set) (z .day) (z .contracts) fs ns ss i x) ≡ deskAfter d m
           stored w =
-              let e : x ≡ deedOf (z .quiet) m (saidBy (z .set) (z .day) (z .contracts) (z .ready) m (getD fs i blank) (getD ns i 0) (newestStart i (getD ns i 0) ss))
-              (getD ns i 0) (getD ss (24 * i + (min (getD ns i 0) 24 - 1)) noPeriod) = rw (hy, hk) at hx in
-              sym (deed-stored (z .set) (z .day) (z .contracts) fs ns ss sized (z .quiet) calm i lt (z .ready) m hi (rw ha at ok) x e w)
+              let e : x ≡ deedOf (z .quiet) m
+              (saidBy (z .set) (z .day) (z .contracts) (z .ready) m (getD fs i blank) (getD ns i 0) (newestStart i (getD ns i 0) ss)) (getD ns i 0)
+              (getD ss (24 * i + (min (getD ns i 0) 24 - 1)) noPeriod) = rw (told .said, hk) at hx in
+              sym (deed-stored (z .set) (z .day) (z .contracts) fs ns ss sized (z .quiet) calm i lt (z .ready) m hi (rw (told .answer) at ok) x e w)
 
-          pub slot-next : (e : Entry) → x ≡ Deed.Slot e → (due quiet′ : ℕ) → due ≡ dueDay (e .fields .supply) → quiet′ ≡ min (z .quiet) due →
-              Next d m a (z .ready) (z .set) (e .today) (z .contracts) (set fs i (e .fields)) (set ns i (e .count)) (set ss (24 * i + e .place) (e .period)) quiet′
-          slot-next e h due quiet′ hd hq =
+          pub slot-next : {e : Entry} → x ≡ Deed.Slot e → {due quiet′ : ℕ} → due ≡ dueDay (e .fields .supply) → quiet′ ≡ min (z .quiet) due →
+              Next d m a (z .ready) (z .set) (e .today) (z .contracts) (set fs i (e .fields)) (set ns i (e .count))
+              (set ss (24 * i + e .place) (e .period)) quiet′
+          slot-next {e} h {quiet′ = quiet′} hd hq =
               record {
-                turned = record { answer = ha; after = rw h at (stored (rw h)) };
+                turned = record { answer = told .answer; after = rw h at (stored (rw h)) };
                 sized = slot-sized (z .set) (z .day) (z .contracts) fs ns ss sized i lt (e .fields) (e .count) (24 * i + e .place) (e .period);
                 calm = first-set fs i (e .fields) quiet′ (omega (arith, calm)) (omega arith);
               }
 
-          pub back-next : (t : ℕ) (s : Span) (g : Fields) → x ≡ Deed.Back t s g → (ss′ : List Period) → ss′ ≡ bookedBack s i ns ss →
-              (due quiet′ : ℕ) → due ≡ dueDay (g .supply) → quiet′ ≡ min (z .quiet) due → Next d m a (z .ready) (z .set) t (z .contracts) (set fs i g) ns ss′ quiet′
-          back-next t s g h ss′ hs due quiet′ hd hq =
+          pub back-next : {t : ℕ} {s : Span} {g : Fields} → x ≡ Deed.Back t s g → {ss′ : List Period} → ss′ ≡ bookedAt s i (getD ns i 0) ss →
+              {due quiet′ : ℕ} → due ≡ dueDay (g .supply) → quiet′ ≡ min (z .quiet) due →
+              Next d m a (z .ready) (z .set) t (z .contracts) (set fs i g) ns ss′ quiet′
+          back-next {t} {s} {g} h hs {quiet′ = quiet′} hd hq =
               record {
-                turned = record { answer = ha; after = rw hs (rw h at (stored (rw h))) };
+                turned = record { answer = told .answer; after = rw hs (rw h at (stored (rw h))) };
                 sized = rw hs (back-sized (z .set) (z .day) (z .contracts) fs ns ss sized i lt s g);
                 calm = first-set fs i g quiet′ (omega (arith, calm)) (omega arith);
               }
 
-          pub sign-next : (t s : ℕ) → x ≡ Deed.Sign t s → Next d m a (z .ready) (z .set) t (set (z .contracts) s true) fs ns ss (z .quiet)
-          sign-next t s h = record { turned = record { answer = ha; after = rw h at (stored (rw h)) }; sized = sized; calm = calm }
+          pub sign-next : {t s : ℕ} → x ≡ Deed.Sign t s → Next d m a (z .ready) (z .set) t (set (z .contracts) s true) fs ns ss (z .quiet)
+          sign-next h = record { turned = record { answer = told .answer; after = rw h at (stored (rw h)) }; sized = sized; calm = calm }
 
-          pub pass-next : (t : ℕ) → x ≡ Deed.Pass t → Next d m a (z .ready) (z .set) t (z .contracts) fs ns ss (z .quiet)
-          pass-next t h = record { turned = record { answer = ha; after = rw h at (stored (rw h)) }; sized = sized; calm = calm }
+          pub pass-next : {t : ℕ} → x ≡ Deed.Pass t → Next d m a (z .ready) (z .set) t (z .contracts) fs ns ss (z .quiet)
+          pass-next h = record { turned = record { answer = told .answer; after = rw h at (stored (rw h)) }; sized = sized; calm = calm }
 
     -- a daily reading, stored by itself
-    pub daily-next : (t : ℕ) (now : Reading) (v : ℕ)
-        → Stores (z .ready) (z .day) (z .quiet) m (getD ns i 0) (getD fs i blank) (getD ss (24 * i + k) noPeriod) t now v
+    pub daily-next : {t : ℕ} {now : Reading} {v : ℕ}
+        → Daily.Read t now v ≡ dailyOf (z .ready) (z .day) (z .quiet) m (getD ns i 0) (getD fs i blank) (getD ss (24 * i + k) noPeriod)
         → Next d m Answer.Accepted (z .ready) (z .set) t (z .contracts) (set fs i (read (getD fs i blank) now)) ns
         (set ss (24 * i + k) (period (getD ss (24 * i + k) noPeriod .start) (getD ss (24 * i + k) noPeriod .holder) v)) (z .quiet)
-    daily-next t now v h =
+    daily-next {t} {now} {v} e =
+        let h : Stores (z .ready) (z .day) (z .quiet) m (getD ns i 0) (getD fs i blank) (getD ss (24 * i + k) noPeriod) t now v =
+        rw (← e) at (daily-stores (z .day) (z .quiet) (getD ns i 0) (getD fs i blank) (getD ss (24 * i + k) noPeriod) (z .ready) m) in
         let y : Said = Said.Ruled (reads (h .span) (read (getD fs i blank) now)) in
         let hy : y ≡ saidHere m i k = sym (h .said (z .set) (z .contracts)) in
         let due : ℕ = dueDay (getD fs i blank .supply) in
-        let w = slot-next Answer.Accepted (sym (answer-is y hy)) refl y hy _ (sym (h .deed)) _ refl due (min (z .quiet) due) refl refl in
+        let w = slot-next (record { said = hy; answer = sym (answer-is y hy) }) refl (sym (h .deed)) refl {due = due} refl refl in
         record {
           turned = rw (← hk, set-getD ns i 0) at (w .turned);
           sized = rw (← hk, set-getD ns i 0) at (w .sized);

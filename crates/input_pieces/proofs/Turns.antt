@@ -1,12 +1,7 @@
 -- A line of a piece answered, on plain values: what is written so far, then the run from here, is the whole run.
-use Prim.Native.Nat.{ℕ, suc, _+_, _-_, _*_, _/_, _≤_, _<_}
-use mathlib.Core.Path.{_≡_, refl, sym, ap, _∙_}
-use mathlib.Core.Bool.{Bool}
-use mathlib.Core.List.{List, [], _++_, append-assoc, append-nil}
-use native.Mathlib.Omega.{arith}
-use native.Mathlib.Nat.{zero-add}
-use lib.ListN.{length, take, drop, length-drop, take-append-drop}
-use lib.Seq.{drop-drop, length-take-le}
+use Rattle.basics.proofs.Basics.{_≡_, refl, sym, _∙_, ap, Bool, List, [], _++_, append-assoc, append-nil, _≤_, ℕ, _-_}
+use Rattle.basics.proofs.Basics.{_+_, _<_, suc, _*_, _/_, zero-add, arith, length, drop, take, length-drop}
+use Rattle.basics.proofs.Basics.{take-append-drop, length-take-le, drop-drop}
 use Rattle.rules.specs.declared.{Answer.Answer, Fields.Fields, Period.Period, Settings.Settings}
 use Rattle.line_text.specs.Between.Appending.{put, Appended}
 use Rattle.line_text.proofs.Appends.{room-put, put-drop, appended-take, appended-length}
@@ -14,6 +9,8 @@ use Rattle.line_messages.specs.declared.{Message.Message, LineMessage.LineMessa
 use Rattle.line_messages.specs.Between.Values.{lineMessage}
 use Rattle.line_messages.specs.Lines.{kindOf}
 use Rattle.line_messages.specs.Pinned.Reading.{readLine}
+use Rattle.line_next.specs.declared.{NextLine.NextLine}
+use Rattle.line_next.specs.Between.NextLine.{IsNext}
 use Rattle.line_answers.specs.Answers.{answerLine, longestAnswer}
 use Rattle.line_answers.proofs.LineTexts.{answer-short}
 use Rattle.input_lines.specs.declared.{Begun.Begun}
@@ -28,7 +25,7 @@ use Rattle.input_desk.specs.declared.{Desk.Desk}
 use Rattle.input_desk.specs.Pinned.Desk.{desk, answerOf, deskAfter}
 use Rattle.input_desk.proofs.Tabled.{every-answer-tabled, tabled-small}
 use Rattle.input_pieces.specs.declared.{Session.Session, pieces.Answered.Answered}
-use Rattle.input_pieces.specs.Pinned.Session.{registerIn, deskOf, nextDesk, sayLine, runOf, RunTo}
+use Rattle.input_pieces.specs.Pinned.Session.{registerIn, deskOf, nextDesk, sayLine, runOf, WholeMessage, RunTo}
 use Rattle.input_pieces.specs.Between.Pieces.{answered}
 
 -- What holds at the loop's head.
@@ -97,7 +94,7 @@ module _ {piece out₀ : List ℕ} {d₀ : Desk} {part₀ out : List ℕ} {part 
       ≡ behind (take written out) (runOf d (kept part) l)
   joined = rw (step, append-assoc)
 
-  pub line-turn : Going piece out₀ d₀ part₀ out′ (emptied part) d′ (end + 1) written′
+  line-turn : Going piece out₀ d₀ part₀ out′ (emptied part) d′ (end + 1) written′
   line-turn =
       record {
         here = omega (arith, more);
@@ -151,14 +148,16 @@ pub taken-room : (piece out : List ℕ) (n : ℕ) → n ≡ fitting (length out 
 taken-room piece out n e = let k = fitting-feeds (length out / longestAnswer) piece in
     let f : feeds (take n piece) ≤ length out / longestAnswer = rw (← e) at k in omega (arith, f)
 
--- ---- the line that was read is the one up to the line feed
-
-pub line-read : (piece : List ℕ) (at end : ℕ) (m : LineMessage) → end ≡ at + untilFeed (drop at piece) →
-    m ≡ lineMessage (readLine (take (untilFeed (drop at piece)) (drop at piece))) →
-    m ≡ lineMessage (readLine (take (end - at) (drop at piece)))
-line-read piece at end m e h = let n : end - at ≡ untilFeed (drop at piece) = omega (arith, e) in
-    h ∙ ap (λ (k : ℕ). lineMessage (readLine (take k (drop at piece)))) (sym n)
-
 -- a message with its kind
-pub said-is : (r : LineMessage) (m : Message) → r ≡ lineMessage m → (r .message ≡ m) × (r .kind ≡ kindOf (r .message))
+said-is : (r : LineMessage) (m : Message) → r ≡ lineMessage m → (r .message ≡ m) × (r .kind ≡ kindOf (r .message))
 said-is r m e = rw e (refl, refl)
+
+-- the line that was read is the one up to the line feed; with the part before it, it says what r says
+pub line-done : {piece out₀ : List ℕ} {d₀ : Desk} {part₀ out : List ℕ} {part : Begun} {d : Desk} {at written : ℕ} →
+    Going piece out₀ d₀ part₀ out part d at written → {t : NextLine} → IsNext piece at t → t .end < length piece → {r : LineMessage} →
+    WholeMessage part (take (t .end - at) (drop at piece)) (t .read) r → {a : Answer} {d′ : Desk} → Turned d (r .message) a d′ →
+    {out′ : List ℕ} {written′ : ℕ} → Appended written (answerLine (r .kind) a) out out′ written′ →
+    Going piece out₀ d₀ part₀ out′ (emptied part) d′ (t .end + 1) written′
+line-done {piece} {at = at} g {t} right more {r} says turned w = let n : t .end - at ≡ untilFeed (drop at piece) = omega (arith, right .end) in
+    let s = said-is r _ (says (right .read ∙ ap (λ (k : ℕ). lineMessage (readLine (take k (drop at piece)))) (sym n))) in
+    line-turn g (t .end) (right .end) more (r .message) (s .0) turned (rw (← (s .1)) w)

@@ -1,9 +1,5 @@
 -- What is written stands within the buffer.
-use Prim.Native.Nat.{ℕ, _+_, _≤_}
-use mathlib.Core.Path.{_≡_, ap}
-use mathlib.Core.List.{List}
-use native.Mathlib.Omega.{arith}
-use lib.ListN.{length, drop, length-append}
+use Rattle.basics.proofs.Basics.{_≡_, ap, List, _≤_, ℕ, _+_, arith, length, drop, length-append}
 use Rattle.line_text.specs.Between.Appending.{put}
 use Rattle.input_pieces.specs.declared.{Session.Session, Fed.Fed}
 use Rattle.input_pieces.specs.Pinned.Session.{FedBy}

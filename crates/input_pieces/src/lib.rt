@@ -13,8 +13,8 @@ use rules::Settings;
 ghost use mathlib.Core.Path.{_≡_};
 ghost use Rattle.input_pieces.specs.Pinned.Session.{deskOf, FedBy};
 
-// The register, with its points in tables (slot k of the point at place i is slots[24 * i + k]), whether it is open, and
-// the start of the line that is under way.
+// The register, with its points in tables (slot k of the point at place i is slots[24 * i + k]), whether it is open,
+// and the start of the line that is under way.
 pub struct Session {
     pub ready: bool,
     pub settings: Settings,

@@ -114,7 +114,8 @@ fn at_end(
     rest: &[u8],
     written: usize,
 ) -> Answered
-    ensures { λ r. ⌜ r ≡ answered ready set day contracts fields counts slots (capped (kept part ++ now (rest .entry))) written ⌝ }
+    ensures { λ r. ⌜ r ≡
+        answered ready set day contracts fields counts slots (capped (kept part ++ now (rest .entry))) written ⌝ }
 {
     let session = Session {
         ready: ready,
@@ -147,7 +148,10 @@ pub(crate) fn answer_lines(
     out: &mut [u8],
 ) -> Answered
     requires { ⌜ longestAnswer * feeds (now piece) ≤ length (now out) ⌝ }
-    ensures { λ r. ⌜ AnsweredBy opened settings since signed points marks periods begun (now (piece .entry)) (now (out .entry)) (now (out .exit)) r ⌝ }
+    ensures { λ r. ⌜
+        AnsweredBy opened settings since signed points marks periods begun (now (piece .entry)) (now (out .entry))
+        (now (out .exit)) r
+        ⌝ }
 {
     let mut part = begun;
     let mut ready = opened;
@@ -165,18 +169,7 @@ pub(crate) fn answer_lines(
         let line = next_line(piece, at, known);
         let end = line.end;
         if piece.len() <= end {
-            return at_end(
-                ready,
-                set,
-                day,
-                contracts,
-                fields,
-                counts,
-                slots,
-                part,
-                &piece[at..],
-                written,
-            );
+            break;
         }
         let read = line.read;
         let whole = whole_message(part, read, &piece[at..end]);

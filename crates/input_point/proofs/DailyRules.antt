@@ -1,35 +1,43 @@
 -- A daily reading: what it is answered and what it stores.
-use mathlib.Core.Path.{_≡_, refl, ap}
-use mathlib.Core.Bool.{Bool, true, false, cond, _&&_}
-use mathlib.Core.List.{List, []}
-use Prim.Native.Nat.{ℕ, _-_, _<_, min}
-use lib.Dec.{leb, ltb}
-use borrow.Author.Tests.{lt-ltb, eq-eqb}
-use Rattle.rules.specs.declared.{Action.Action, Answer.Answer, Fields.Fields, Period.Period, PointAction.PointAction, Reading.Reading}
-use Rattle.rules.specs.declared.{Settings.Settings, Span.Span, View.View, Call.Call}
+use Rattle.basics.proofs.Basics.{_≡_, refl, _∙_, ap, true, false, Bool, cond, _&&_, List, [], ℕ, _-_, _<_, min, eqb}
+use Rattle.basics.proofs.Basics.{ltb, lt-ltb, eq-eqb, eqb-true, ltb-true}
+use Rattle.rules.specs.declared.{Action.Action, Answer.Answer, Effect.Effect, Fields.Fields, Period.Period, PointAction.PointAction}
+use Rattle.rules.specs.declared.{Reading.Reading, Settings.Settings, Span.Span, View.View, Call.Call}
 use Rattle.rules.specs.Answers.{isAccepted}
 use Rattle.rules.specs.Effects.{effectOf}
-use Rattle.rules.specs.Fields.{reading}
+use Rattle.rules.specs.Fields.{reading, withReading}
 use Rattle.rules.specs.Pinned.Register.{period, bookedPeriod}
 use Rattle.rules.specs.Rejections.{rowsAt}
 use Rattle.rules.specs.Volumes.{given, spanTo}
 use Rattle.point_volumes.specs.Between.{isFair, bookedNewest}
 use Rattle.point_answers.specs.Between.{answerAt}
 use Rattle.point_answers.proofs.Folded.{allRefuse, kept-first}
+use Rattle.point_effects.specs.declared.{Ruling.Ruling}
 use Rattle.point_effects.specs.Between.{rulingAt}
 use Rattle.point_effects.proofs.Accepted.{Readable, reading-fits}
 use Rattle.line_messages.specs.declared.{Message.Message}
 use Rattle.input_quiet.specs.Between.Quiet.{viewOn}
 use Rattle.input_point.specs.Between.Answers.{callSaid, saidBy}
-use Rattle.input_point.specs.Between.Deeds.{slot, readingDeed, effectDeed, ruledDeed, callDeed, deedOf}
-use Rattle.input_point.specs.Between.Daily.{read, reads, Rules, Stores, DailyAt, DailyOf}
+use Rattle.input_point.specs.Between.Deeds.{liesIn, slot, readingDeed, effectDeed, ruledDeed, callDeed, deedOf}
+use Rattle.input_point.specs.Between.Daily.{readingSaid, dailyRead, dailyAt, dailyIn, dailyOf}
 use Rattle.input_point.specs.declared.{answers.Said.Said, daily.Daily.Daily}
 
--- An accepted reading is answered with no day.
-plain : (S : Settings) (day : ℕ) (u : List Bool) (t p d x z : ℕ) (w : View)
-    → isAccepted (answerAt S day u t p (PointAction.Reading d x z) w) ≡ true → answerAt S day u t p (PointAction.Reading d x z) w ≡ Answer.Accepted
-unfolding answerAt rowsAt effectOf allRefuse
-plain S day u t p d x z w ok = kept-first _ Answer.Accepted refl ok
+-- The fields after it, and the ruling.
+abbrev pub read : Fields → Reading → Fields
+read f now = withReading f (f .meter) now
+
+abbrev pub reads : Span → Fields → Ruling
+reads s f = record { answer = Answer.Accepted; effect = Effect.Read s f }
+
+-- In the words of the loop: what is said, and what it stores.
+pub record Stores (ready : Bool) (day quiet : ℕ) (m : Message) (n : ℕ) (f : Fields) (q : Period) (t : ℕ) (now : Reading) (v : ℕ) : Type 0 where
+  pub span : Span
+  pub said : (S : Settings) (u : List Bool) → saidBy S day u ready m f n (q .start) ≡ Said.Ruled (reads span (read f now))
+  pub deed : deedOf quiet m (Said.Ruled (reads span (read f now))) n q ≡ slot t (read f now) n (min n 24 - 1) (period (q .start) (q .holder) v)
+
+abbrev pub DailyOf : Bool → ℕ → ℕ → Message → ℕ → Fields → Period → Daily → Type 0
+DailyOf ready day quiet m n f q (Daily.Read t now v) = Stores ready day quiet m n f q t now v
+DailyOf ready day quiet m n f q Daily.Other = Unit {0}
 
 booked-shape : (s : Span) (q : Period) → bookedNewest s q ≡ period (q .start) (q .holder) (bookedNewest s q .volume)
 unfolding bookedNewest bookedPeriod
@@ -39,48 +47,73 @@ booked-shape s q = go (isFair s)
     go true = refl
     go false = refl
 
-module _ (day p d x z : ℕ) (f : Fields) (a : Answer)
-    (ha : (S : Settings) (u : List Bool) (w : View) → w .fields ≡ f → a ≡ answerAt S day u day p (PointAction.Reading d x z) w)
-    (ok : isAccepted a ≡ true) where
-  abbrev S₀ : Settings
-  S₀ = record { w = 0; a = 0; b = 0; default = 0; resort = 0 }
-
-  abbrev w₀ : View
-  w₀ = record { fields = f; marks = 0; marked = false }
-
+module _ (day p d x z : ℕ) (f : Fields) (ok : isAccepted (readingSaid day p d x z f) ≡ true) where
   pub daily-fits : Readable f d x z
-  daily-fits =
-      reading-fits S₀ day f d x z
-      (record { day = day; contracts = []; point = p; view = w₀; same = refl; ok = rw (ha S₀ [] w₀ refl) at ok })
+  daily-fits = reading-fits _ day f d x z (record { day = day; contracts = []; point = p; view = _; same = refl; ok = ok })
 
+  -- It is answered with no day, whatever else the register holds.
   daily-ruling : (S : Settings) (u : List Bool) (w : View) → w .fields ≡ f
       → rulingAt S day u day p (PointAction.Reading d x z) w ≡ reads (spanTo f d x z) (read f (reading d x))
-  unfolding rulingAt effectOf
-  daily-ruling S u w e = let h = plain S day u day p d x z w (rw (ha S u w e) at ok) in rw (h, e)
+  unfolding rulingAt answerAt rowsAt effectOf allRefuse
+  daily-ruling S u w e = rw e (rw (kept-first _ Answer.Accepted refl ok))
 
-  pub daily-rules : (n : ℕ) (q : Period) (s : Span) (b : Period) → s ≡ spanTo f d x z → b ≡ bookedNewest s q
-      → (ltb 0 (min n 24) && leb (q .start) (f .reading .day)) ≡ true
-      → Rules day p (PointAction.Reading d x z) n f q day (reading d x) (b .volume)
-  unfolding readingDeed spanTo
-  daily-rules n q s b hs hb lies = record {
-    span = spanTo f d x z;
-    today = refl;
-    ruling = daily-ruling;
-    stores = rw (lies, hb, hs) (ap (slot day (read f (reading d x)) n (min n 24 - 1)) (booked-shape (spanTo f d x z) q));
-  }
+-- Only a reading is one.
+pub data Which (a : PointAction) : Type 0 where
+  isReading : (d x z : ℕ) → a ≡ PointAction.Reading d x z → Which a
+  isOther : ((day p n : ℕ) (f : Fields) (q : Period) → Daily.Other ≡ dailyAt day p a n f q) → Which a
 
--- On the register's own day, before anything falls due, that is what is said and stored.
-pub daily-stores : (day quiet p : ℕ) (a : PointAction) (c : Call) (m : Message) (n : ℕ) (f : Fields) (q : Period) (t : ℕ) (now : Reading) (v : ℕ)
-    → c .today ≡ day → day < quiet → c .action ≡ Action.At p a → m ≡ Message.Ask c → Rules day p a n f q t now v → Stores true day quiet m n f q t now v
-unfolding saidBy callSaid deedOf callDeed ruledDeed effectDeed viewOn
-daily-stores day quiet p a c m n f q t now v e lt h k r = record {
-  span = r .span;
-  said = λ S u. rw (k, h, e, eq-eqb day day refl) (ap Said.Ruled (r .ruling S u _ refl));
-  deed = rw (k, h, e, lt-ltb day quiet lt, r .today) (r .stores);
-}
+pub which : (a : PointAction) → Which a
+unfolding dailyAt
+which (PointAction.Reading d x z) = isReading d x z refl
+which (PointAction.Enrol b a x) = isOther (λ day p n f q. refl)
+which (PointAction.IntoService s k) = isOther (λ day p n f q. refl)
+which (PointAction.DefaultSupply k) = isOther (λ day p n f q. refl)
+which (PointAction.Request s k r) = isOther (λ day p n f q. refl)
+which (PointAction.Cancel s) = isOther (λ day p n f q. refl)
+which (PointAction.MeterChange x z b a y) = isOther (λ day p n f q. refl)
+which PointAction.OutOfService = isOther (λ day p n f q. refl)
+which (PointAction.Suspend m) = isOther (λ day p n f q. refl)
 
-pub daily-of : (ready : Bool) (day quiet p : ℕ) (a : PointAction) (c : Call) (m : Message) (n : ℕ) (f : Fields) (q : Period) (r : Daily)
-    → ready ≡ true → c .today ≡ day → day < quiet → c .action ≡ Action.At p a → m ≡ Message.Ask c → DailyAt day p a n f q r
-    → DailyOf ready day quiet m n f q r
-daily-of ready day quiet p a c m n f q (Daily.Read t now v) y e lt h k x = rw y (daily-stores day quiet p a c m n f q t now v e lt h k x)
-daily-of ready day quiet p a c m n f q Daily.Other y e lt h k x = tt
+module _ (day quiet : ℕ) (n : ℕ) (f : Fields) (q : Period) where
+  module _ (c : Call) (today : c .today ≡ day) (lt : day < quiet) where
+    abbrev Stored : Daily → Type 0
+    Stored r = DailyOf true day quiet (Message.Ask c) n f q r
+
+    read-stores : (p d x z : ℕ) → c .action ≡ Action.At p (PointAction.Reading d x z) → Stored (dailyRead day p d x z n f q)
+    unfolding dailyRead saidBy callSaid deedOf callDeed ruledDeed effectDeed readingDeed viewOn spanTo
+    read-stores p d x z h = go (isAccepted (readingSaid day p d x z f)) refl (liesIn n (q .start) (f .reading .day)) refl
+      where
+        go : (a : Bool) → isAccepted (readingSaid day p d x z f) ≡ a → (b : Bool) → liesIn n (q .start) (f .reading .day) ≡ b →
+            Stored (cond (a && b) (Daily.Read day (reading d x) (bookedNewest (spanTo f d x z) q .volume)) Daily.Other)
+        go true ok true lies = record {
+          span = spanTo f d x z;
+          said = λ S u. rw (h, today, eq-eqb day day refl) (ap Said.Ruled (daily-ruling day p d x z f ok S u _ refl));
+          deed = rw (h, today, lt-ltb day quiet lt, lies)
+              (ap (slot day (read f (reading d x)) n (min n 24 - 1)) (booked-shape (spanTo f d x z) q));
+        }
+        go true ok false lies = tt
+        go false ok b lies = tt
+
+    in-stores : (a : Action) → c .action ≡ a → Stored (dailyIn day a n f q)
+    unfolding dailyIn dailyAt
+    in-stores (Action.At p a) h = elim (which a) [
+      | isReading d x z e ↦ rw e (read-stores p d x z (h ∙ ap (Action.At p) e))
+      | isOther k ↦ rw (← (k day p n f q)) tt
+    ]
+    in-stores (Action.Contract s) h = tt
+    in-stores (Action.Failure s) h = tt
+    in-stores Action.Day h = tt
+
+  -- What a daily reading stores is what is said and done of it.
+  pub daily-stores : (ready : Bool) (m : Message) → DailyOf ready day quiet m n f q (dailyOf ready day quiet m n f q)
+  unfolding dailyOf
+  daily-stores ready (Message.Open o) = tt
+  daily-stores ready (Message.Ask c) = go ready (eqb (c .today) day) refl (ltb day quiet) refl
+    where
+      go : (b e : Bool) → eqb (c .today) day ≡ e → (l : Bool) → ltb day quiet ≡ l →
+          DailyOf b day quiet (Message.Ask c) n f q (cond (b && (e && l)) (dailyIn day (c .action) n f q) Daily.Other)
+      go true true k true l = in-stores c (eqb-true (c .today) day k) (ltb-true day quiet l) (c .action) refl
+      go true true k false l = tt
+      go true false k b l = tt
+      go false e k b l = tt
+  daily-stores ready Message.Unreadable = tt

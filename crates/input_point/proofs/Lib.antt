@@ -1,4 +1,5 @@
 pub mod Places
 pub mod Settled
+pub mod DeedsDone
 pub mod Stored
 pub mod DailyRules

@@ -1,10 +1,6 @@
 -- A number in range is a point's.
-use mathlib.Core.Path.{_≡_, refl}
-use mathlib.Core.Bool.{Bool, true, false, _||_, true≢false}
-use Prim.Native.Nat.{ℕ, _-_, _≤_, _<_}
-use native.Mathlib.Omega.{arith}
-use borrow.Author.Tests.{ltb-false}
-use lib.Dec.{ltb}
+use Rattle.basics.proofs.Basics.{_≡_, refl, true, false, Bool, cond, _||_, true≢false, _≤_, ℕ, _-_, _<_, arith, ltb}
+use Rattle.basics.proofs.Basics.{ltb-false}
 use Rattle.rules.specs.Rejections.{notPoint}
 
 pub point-in : (p : ℕ) → notPoint p ≡ false → (1 ≤ p) × (p ≤ 32)
@@ -17,3 +13,6 @@ point-in p e = go (ltb p 1) refl (ltb 32 p) refl e
 
 pub point-lt : (p : ℕ) → notPoint p ≡ false → p - 1 < 32
 point-lt p e = omega (arith, point-in p e .1)
+
+pub place-none : (p : ℕ) → notPoint p ≡ true → 0 ≡ cond (notPoint p) 0 (p - 1)
+place-none p e = rw e

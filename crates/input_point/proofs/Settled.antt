@@ -1,25 +1,21 @@
 -- The answer told from the tables is the desk's.
-use mathlib.Core.Path.{_≡_, refl, ap, _∙_}
-use mathlib.Core.Bool.{Bool, true, false, cond, not, _&&_, _||_, false≢true}
-use mathlib.Core.List.{List, [], _∷_, map}
-use Prim.Native.Nat.{ℕ, zero, suc, _+_, _-_, _*_, _≤_, _<_, min}
-use native.Mathlib.Omega.{arith}
-use native.Mathlib.Decide.{decLe}
-use borrow.Author.Tests.{le-leb, lt-ltb}
-use lib.Dec.{eqb, leb}
-use lib.ListN.{length, getD}
+use Rattle.basics.proofs.Basics.{_≡_, refl, _∙_, ap, true, false, Bool, cond, _&&_, false≢true, _||_, List, [], _∷_}
+use Rattle.basics.proofs.Basics.{map, _≤_, ℕ, _-_, _+_, _<_, suc, zero, _*_, min, decLe, arith, eqb, length, getD}
+use Rattle.basics.proofs.Basics.{lt-ltb}
+use mathlib.Core.Logic.{inl}
 use Rattle.dates.specs.Dates.{lastDay}
 use Rattle.rules.specs.declared.{Fields.Fields, Period.Period, Point.Point, Settings.Settings, Register.Register, View.View}
 use Rattle.rules.specs.declared.{Action.Action, PointAction.PointAction, Answer.Answer, Call.Call}
 use Rattle.rules.specs.Answers.{isAccepted}
 use Rattle.rules.specs.Fields.{blank}
 use Rattle.rules.specs.Rejections.{_⇒_, firstOf, notPoint, notSupplier, noContract, isPast, runsBack, shown, answerTo, answer}
-use Rattle.rules.specs.Rejections.{blankView, rowsAt, rows, accepted}
+use Rattle.rules.specs.Rejections.{blankView, rows, accepted}
 use Rattle.rules.specs.Pinned.Register.{noPoint, noPeriod, catchUp, view, register, pointAt, advanced, says, applied}
-use Rattle.rules.proofs.Views.{shown-in, answer-ext, answer-off, answer-at}
+use Rattle.rules.proofs.Views.{shown-in, answer-ext, answer-off, answer-none, answer-at}
 use Rattle.point_answers.specs.Between.{answerAt, after, failureRows}
 use Rattle.point_answers.proofs.Failures.{failure-answer}
-use Rattle.point_effects.specs.Between.{rulingAt}
+use Rattle.point_effects.specs.Between.{caughtUp, rulingAt}
+use Rattle.register.proofs.Advanced.{caughtUp-on}
 use Rattle.line_messages.specs.declared.{Message.Message}
 use Rattle.input_tables.specs.Between.Tables.{joined, rowAt, pointsOf, Sized}
 use Rattle.input_tables.proofs.Points.{row-length, row-get, points-get, points-length}
@@ -35,20 +31,6 @@ map-at : (f : Point → Point) (ps : List Point) (i : ℕ) → i < length ps →
 map-at f [] i h = absurd (omega arith)
 map-at f (g ∷ ps) zero h = refl
 map-at f (g ∷ ps) (suc i) h = map-at f ps i (omega arith)
-
--- A number that is no point's is refused whatever is shown of it.
-answer-none : (S : Settings) (day : ℕ) (u : List Bool) (t p : ℕ) (a : PointAction) (v w : ℕ → View) → notPoint p ≡ true →
-    answerTo S day u t (Action.At p a) v ≡ answerTo S day u t (Action.At p a) w
-unfolding answerTo firstOf rows rowsAt accepted
-answer-none S day u t p (PointAction.Enrol b a x) v w q = rw q
-answer-none S day u t p (PointAction.IntoService s k) v w q = rw q
-answer-none S day u t p (PointAction.DefaultSupply k) v w q = rw q
-answer-none S day u t p (PointAction.Request s k r) v w q = rw q
-answer-none S day u t p (PointAction.Cancel s) v w q = rw q
-answer-none S day u t p (PointAction.Reading d x z) v w q = rw q
-answer-none S day u t p (PointAction.MeterChange x z b a y) v w q = rw q
-answer-none S day u t p PointAction.OutOfService v w q = rw q
-answer-none S day u t p (PointAction.Suspend m) v w q = rw q
 
 -- Number 30, after the rows before it.
 failure-by : (fails : ℕ → ℕ → Answer) (t s : ℕ) (a : Answer) (x : Bool) → cond x (Answer.Refused 30) Answer.Accepted ≡ fails t s →
@@ -89,13 +71,12 @@ module _ (S : Settings) (day : ℕ) (u : List Bool) (fs : List Fields) (ns : Lis
   w t = shows S day t fs ns ss
 
   brought : (t i : ℕ) → t ≤ lastDay → i < 32 →
-      getD (advanced t r .points) i noPoint
-      ≡ cond (not (eqb day t) && leb t lastDay) (catchUp S t (getD (r .points) i noPoint)) (getD (r .points) i noPoint)
+      getD (advanced t r .points) i noPoint ≡ cond (eqb day t) (getD (r .points) i noPoint) (caughtUp S t (getD (r .points) i noPoint))
   unfolding advanced
-  brought t i h l = rw (le-leb t lastDay h) (go (eqb day t))
+  brought t i h l = rw (caughtUp-on S t h) (go (eqb day t))
     where
       go : (b : Bool) → getD (cond b r (register S t u (map (catchUp S t) (r .points))) .points) i noPoint
-          ≡ cond (not b && true) (catchUp S t (getD (r .points) i noPoint)) (getD (r .points) i noPoint)
+          ≡ cond b (getD (r .points) i noPoint) (catchUp S t (getD (r .points) i noPoint))
       go true = refl
       go false = map-at (catchUp S t) (r .points) i (omega (arith, points-length fs ns ss 32 (sized .fields) (sized .counts)))
 
@@ -112,24 +93,25 @@ module _ (S : Settings) (day : ℕ) (u : List Bool) (fs : List Fields) (ns : Lis
   unfolding says answer
   says-shown c = elim (decLe (c .today) lastDay) [
     | yes h ↦ answer-ext S day u c _ (w (c .today)) (λ p lo hi. seen-at (c .today) p h lo hi)
-    | no h ↦ answer-off S day u (c .today) _ (shown (w (c .today))) (c .action) (lt-ltb lastDay (c .today) (omega arith))
+    | no h ↦ answer-off S day u (c .today) _ (shown (w (c .today))) (c .action) (inl (lt-ltb lastDay (c .today) (omega arith)))
   ]
 
   -- what the tables have at the place of the point that a call names
+  abbrev here : ℕ → ℕ → View
+  here t i = viewOn S day t (seen (getD fs i blank) (min (getD ns i 0) 24) (newestStart i (getD ns i 0) ss))
+
   module _ (ready : Bool) where
     pub at-settled : (t p : ℕ) (a : PointAction) (i : ℕ) → i ≡ placeIn (Action.At p a) →
         answer S day u (record { today = t; action = Action.At p a }) (w t)
-        ≡ rulingAt S day u t p a (viewOn S day t (seen (getD fs i blank) (min (getD ns i 0) 24) (newestStart i (getD ns i 0) ss))) .answer
+        ≡ rulingAt S day u t p a (here t i) .answer
     unfolding answer rulingAt answerAt answerTo rows accepted
     at-settled t p a i e = go (notPoint p) refl e
       where
         go : (b : Bool) → notPoint p ≡ b → i ≡ cond b 0 (p - 1) →
-            answerTo S day u t (Action.At p a) (shown (w t))
-            ≡ rulingAt S day u t p a (viewOn S day t (seen (getD fs i blank) (min (getD ns i 0) 24) (newestStart i (getD ns i 0) ss))) .answer
-        go true q k = answer-none S day u t p a (shown (w t)) (λ x. viewOn S day t (seen (getD fs i blank) (min (getD ns i 0) 24) (newestStart i (getD ns i 0) ss))) q
+            answerTo S day u t (Action.At p a) (shown (w t)) ≡ rulingAt S day u t p a (here t i) .answer
+        go true q k = answer-none S day u t p a (shown (w t)) (λ x. here t i) q
         go false q k = let h = point-in p q in
-            answer-at S day u t p a (shown (w t)) (λ x. viewOn S day t (seen (getD fs i blank) (min (getD ns i 0) 24) (newestStart i (getD ns i 0) ss)))
-            (shown-in (w t) p (h .0) (h .1) ∙ rw k)
+            answer-at S day u t p a (shown (w t)) (λ x. here t i) (shown-in (w t) p (h .0) (h .1) ∙ rw k)
 
     plain : (t s : ℕ) → answerTo S day u t (Action.Contract s) (shown (w t)) ≡ answerTo S day u t (Action.Contract s) (λ p. blankView)
     unfolding answerTo rows accepted

@@ -1,5 +1,5 @@
-// A daily reading: on the register's own day, before anything falls due, accepted, and all its days in the point's newest
-// period. It stores a reading and a volume, and nothing else.
+// A daily reading: on the register's own day, before anything falls due, accepted, and all its days in the point's
+// newest period. It stores a reading and a volume, and nothing else.
 use crate::deeds::lies_in;
 use line_messages::Message;
 use point_answers::reading_answer;
@@ -11,7 +11,8 @@ use rules::Fields;
 use rules::Period;
 use rules::PointAction;
 use rules::Reading;
-ghost use Rattle.input_point.specs.Between.Daily.{DailyRead, DailyAt, DailyOf};
+ghost use mathlib.Core.Path.{_≡_};
+ghost use Rattle.input_point.specs.Between.Daily.{dailyRead, dailyAt, dailyOf};
 
 pub enum Daily {
     // The day, the last reading from then on, and the newest period's volume.
@@ -20,7 +21,7 @@ pub enum Daily {
 }
 
 fn daily_read(day: u32, p: u64, d: u64, x: u64, z: u64, n: usize, f: Fields, q: Period) -> Daily
-    ensures { λ r. ⌜ DailyRead day p d x z n f q r ⌝ }
+    ensures { λ r. ⌜ r ≡ dailyRead day p d x z n f q ⌝ }
 {
     let answer = reading_answer(day, day as u64, p, d, x, z, f);
     if !is_accepted(answer) {
@@ -40,7 +41,7 @@ fn daily_read(day: u32, p: u64, d: u64, x: u64, z: u64, n: usize, f: Fields, q: 
 }
 
 fn daily_at(day: u32, p: u64, a: PointAction, n: usize, f: Fields, q: Period) -> Daily
-    ensures { λ r. ⌜ DailyAt day p a n f q r ⌝ }
+    ensures { λ r. ⌜ r ≡ dailyAt day p a n f q ⌝ }
 {
     match a {
         PointAction::Reading {
@@ -63,7 +64,7 @@ pub fn daily_of(
     f: Fields,
     q: Period,
 ) -> Daily
-    ensures { λ r. ⌜ DailyOf ready day quiet m n f q r ⌝ }
+    ensures { λ r. ⌜ r ≡ dailyOf ready day quiet m n f q ⌝ }
 {
     match m {
         Message::Open(_) => Daily::Other,

@@ -11,9 +11,10 @@ use rules::Span;
 ghost use mathlib.Core.Path.{_≡_};
 ghost use mathlib.Core.Bool.{_&&_};
 ghost use Prim.Native.Nat.{min};
-ghost use lib.Dec.{eqb, leb, ltb};
-ghost use Rattle.input_point.specs.Between.Deeds.{keptDeed, namingDeed, readingDeed, effectDeed, ruledDeed, callDeed};
-ghost use Rattle.input_point.specs.Between.Deeds.{deedOf};
+ghost use lib.Dec.{eqb, ltb};
+ghost use Rattle.input_point.specs.Between.Deeds.{keptDeed, namingDeed, readingDeed, effectDeed, ruledDeed};
+ghost use Rattle.input_point.specs.Between.Deeds.{callDeed};
+ghost use Rattle.input_point.specs.Between.Deeds.{deedOf, liesIn};
 
 // What a call stores at the point that it names: its fields, the number of its periods, and one slot.
 pub struct Entry {
@@ -48,7 +49,7 @@ fn starts_on(n: usize, start: u32, day: u32) -> bool
 
 // The days from a day on all lie in the newest of n periods.
 pub(crate) fn lies_in(n: usize, start: u32, from: u32) -> bool
-    ensures { λ r. ⌜ r ≡ (ltb 0 (min n 24) && leb start from) ⌝ }
+    ensures { λ r. ⌜ r ≡ liesIn n start from ⌝ }
 {
     if n == 0 {
         return false;

@@ -1,34 +1,26 @@
 -- Before anything falls due, bringing points up to a day changes nothing.
-use mathlib.Core.Path.{_≡_, refl, sym, _∙_, ap, ap₂}
-use mathlib.Core.Bool.{Bool, true, false, cond}
-use mathlib.Core.List.{List, [], _∷_, map}
-use Prim.Native.Nat.{ℕ, zero, suc, _-_, _≤_, _<_, min}
-use native.Mathlib.Omega.{arith}
-use native.Mathlib.Nat.{not-suc-le-zero}
-use borrow.Author.Tests.{lt-leb, eqb-true}
-use lib.Dec.{eqb}
-use lib.ListN.{length, take, drop, getD, set}
-use lib.Seq.{drop-length}
+use Rattle.basics.proofs.Basics.{_≡_, refl, sym, _∙_, ap, ap₂, true, false, Bool, cond, List, [], _∷_, map, _≤_, ℕ, _-_}
+use Rattle.basics.proofs.Basics.{_<_, suc, zero, min, not-suc-le-zero, arith, eqb, length, drop, take, getD, set}
+use Rattle.basics.proofs.Basics.{drop-length, lt-leb, eqb-true}
 use Rattle.rules.specs.declared.{Fields.Fields, Point.Point, Settings.Settings, SupplyKind.SupplyKind}
-use Rattle.rules.specs.declared.{Pending.Pending, Period.Period}
-use Rattle.rules.specs.declared.Due.the-variants as event
+use Rattle.rules.specs.declared.{Due.Due, Pending.Pending, Period.Period}
 use Rattle.rules.specs.Fields.{blank}
 use Rattle.rules.specs.Pinned.Register.{expiryBy, dueBy, happened, nextEvent, catchUp, register, advanced}
 use Rattle.input_tables.specs.Between.Tables.{joined, pointsOf}
 use Rattle.input_quiet.specs.Between.Quiet.{never, kindEnds, requestFalls, dueDay, firstDue}
 
 module _ (S : Settings) (t : ℕ) where
-  nothing-ends : (k : SupplyKind) → t < kindEnds k → expiryBy S t k ≡ event.Nothing
+  nothing-ends : (k : SupplyKind) (q : Pending) → t < kindEnds k → expiryBy S t k q ≡ Due.Nothing
   unfolding expiryBy
-  nothing-ends SupplyKind.None h = refl
-  nothing-ends SupplyKind.Contract h = refl
-  nothing-ends (SupplyKind.Default d) h = rw (lt-leb d t h)
-  nothing-ends (SupplyKind.LastResort d) h = rw (lt-leb d t h)
+  nothing-ends SupplyKind.None q h = refl
+  nothing-ends SupplyKind.Contract q h = refl
+  nothing-ends (SupplyKind.Default d) q h = rw (lt-leb d t h)
+  nothing-ends (SupplyKind.LastResort d) q h = rw (lt-leb d t h)
 
-  nothing-due : (k : SupplyKind) (q : Pending) → t < kindEnds k → t < requestFalls q → dueBy S t k q ≡ event.Nothing
+  nothing-due : (k : SupplyKind) (q : Pending) → t < kindEnds k → t < requestFalls q → dueBy S t k q ≡ Due.Nothing
   unfolding dueBy
-  nothing-due k Pending.Nothing h j = nothing-ends k h
-  nothing-due k (Pending.Request s e) h j = rw (lt-leb e t j, nothing-ends k h)
+  nothing-due k Pending.Nothing h j = nothing-ends k _ h
+  nothing-due k (Pending.Request s e) h j = rw (lt-leb e t j, nothing-ends k (Pending.Request s e) h)
 
   quiet-event : (g : Point) → t < dueDay (g .fields .supply) → nextEvent S t g ≡ g
   unfolding nextEvent dueDay happened

@@ -1,12 +1,7 @@
 -- The view of a point brought up to a day is the view brought up.
-use mathlib.Core.Path.{_≡_, refl, sym, _∙_, ap}
-use mathlib.Core.Bool.{Bool, true, false, cond, not, _&&_}
-use Prim.Native.Nat.{ℕ, _+_, _-_, _≤_, _<_, min}
-use native.Mathlib.Omega.{arith}
-use borrow.Author.Tests.{ltb-true, eqb-true, eq-eqb, ne-eqb, le-leb, lt-leb}
-use lib.Dec.{eqb, leb, ltb}
-use lib.ListN.{length, set, length-set}
-use lib.Seq.{getD-set-same}
+use Rattle.basics.proofs.Basics.{_≡_, refl, sym, _∙_, ap, true, false, Bool, cond, _&&_, _≤_, ℕ, _-_, _+_, _<_, min}
+use Rattle.basics.proofs.Basics.{arith, eqb, ltb, length, set, length-set, getD-set-same, lt-leb, ne-eqb, eq-eqb}
+use Rattle.basics.proofs.Basics.{eqb-true, ltb-true}
 use Rattle.dates.specs.Dates.{lastDay}
 use Rattle.rules.specs.declared.{Fields.Fields, History.History, Period.Period, Point.Point, Settings.Settings, Due.Due, View.View}
 use Rattle.rules.specs.Pinned.Register.{
@@ -20,10 +15,9 @@ use Rattle.rules.specs.Pinned.Register.{
   appended,
   named,
   happened,
-  nextEvent,
-  catchUp,
   view,
 }
+use Rattle.point_effects.specs.Between.{dueIn, nextIn, caughtUp}
 use Rattle.input_quiet.specs.declared.{seen.Seen.Seen}
 use Rattle.input_quiet.specs.Between.Quiet.{seen, namedSeen, happenedSeen, nextSeen, viewIn, viewOn}
 
@@ -83,41 +77,28 @@ module _ (S : Settings) (t : ℕ) where
   happened-seen : (e : Due) (g : Point) → Whole (g .history) → seenOf (happened e g) ≡ happenedSeen e (seenOf g)
   unfolding happened happenedSeen
   happened-seen Due.Nothing g w = refl
-  happened-seen (Due.Switch d h k) g w = named-seen d h (g .history) w _ (g .fields)
-  happened-seen (Due.Fallback d h k) g w = named-seen d h (g .history) w _ (g .fields)
-  happened-seen (Due.End d h k) g w = named-seen d h (g .history) w _ (g .fields)
+  happened-seen (Due.Naming d s) g w = named-seen d (s .holder) (g .history) w _ (g .fields)
 
   happened-whole : (e : Due) (g : Point) → Whole (g .history) → Whole (happened e g .history)
   unfolding happened
   happened-whole Due.Nothing g w = w
-  happened-whole (Due.Switch d h k) g w = named-whole d h (g .history) w
-  happened-whole (Due.Fallback d h k) g w = named-whole d h (g .history) w
-  happened-whole (Due.End d h k) g w = named-whole d h (g .history) w
+  happened-whole (Due.Naming d s) g w = named-whole d (s .holder) (g .history) w
 
-  next-seen : (g : Point) → Whole (g .history) → seenOf (nextEvent S t g) ≡ nextSeen S t (seenOf g)
-  unfolding nextEvent nextSeen
+  next-seen : (g : Point) → Whole (g .history) → seenOf (nextIn S t g) ≡ nextSeen S t (seenOf g)
+  unfolding nextIn nextSeen
   next-seen g w = happened-seen _ g w
 
-  next-whole : (g : Point) → Whole (g .history) → Whole (nextEvent S t g .history)
-  unfolding nextEvent
-  next-whole g w = happened-whole _ g w
+  caught-seen : (g : Point) → Whole (g .history) → seenOf (caughtUp S t g) ≡ nextSeen S t (nextSeen S t (seenOf g))
+  unfolding caughtUp nextIn
+  caught-seen g w = next-seen (nextIn S t g) (happened-whole _ g w) ∙ ap (nextSeen S t) (next-seen g w)
 
-  caught-seen : (g : Point) → Whole (g .history) → seenOf (catchUp S t g) ≡ nextSeen S t (nextSeen S t (seenOf g))
-  unfolding catchUp
-  caught-seen g w = next-seen (nextEvent S t g) (next-whole g w) ∙ ap (nextSeen S t) (next-seen g w)
-
-  pub seen-on : (day : ℕ) (g : Point) → Whole (g .history) →
-      view t (cond (not (eqb day t) && leb t lastDay) (catchUp S t g) g) ≡ viewOn S day t (seenOf g)
+  pub seen-on : (day : ℕ) (g : Point) → Whole (g .history) → view t (cond (eqb day t) g (caughtUp S t g)) ≡ viewOn S day t (seenOf g)
   unfolding viewOn startsOn
-  seen-on day g w = go (not (eqb day t) && leb t lastDay)
+  seen-on day g w = rw (← (caught-seen g w)) (go (eqb day t))
     where
-      go : (b : Bool) → viewIn t (seenOf (cond b (catchUp S t g) g)) ≡ viewIn t (cond b (nextSeen S t (nextSeen S t (seenOf g))) (seenOf g))
-      go true = ap (viewIn t) (caught-seen g w)
+      go : (b : Bool) → viewIn t (seenOf (cond b g (caughtUp S t g))) ≡ viewIn t (cond b (seenOf g) (seenOf (caughtUp S t g)))
+      go true = refl
       go false = refl
-
-and-false : (b : Bool) → (b && false) ≡ false
-and-false true = refl
-and-false false = refl
 
 -- the view, from what is seen
 module _ (S : Settings) (day t : ℕ) (x : Seen) {v : View} where
@@ -125,11 +106,10 @@ module _ (S : Settings) (day t : ℕ) (x : Seen) {v : View} where
   unfolding viewOn
   seen-day e h = rw (eq-eqb day t e) h
 
-  pub seen-late : lastDay < t → v ≡ viewIn t x → v ≡ viewOn S day t x
-  unfolding viewOn
-  seen-late e h = rw (lt-leb t lastDay e, and-false (not (eqb day t))) h
+  pub seen-late : (day ≡ t → ⊥) → lastDay < t → v ≡ viewIn t x → v ≡ viewOn S day t x
+  unfolding viewOn nextSeen dueIn happenedSeen
+  seen-late n e h = rw (ne-eqb day t n, lt-leb t lastDay e) h
 
-  pub seen-up : (day ≡ t → ⊥) → t ≤ lastDay → {once twice : Seen} → once ≡ nextSeen S t x → twice ≡ nextSeen S t once → v ≡ viewIn t twice →
-      v ≡ viewOn S day t x
+  pub seen-up : (day ≡ t → ⊥) → {once twice : Seen} → once ≡ nextSeen S t x → twice ≡ nextSeen S t once → v ≡ viewIn t twice → v ≡ viewOn S day t x
   unfolding viewOn
-  seen-up e l h k z = rw (ne-eqb day t e, le-leb t lastDay l, ← h, ← k) z
+  seen-up n h k z = rw (ne-eqb day t n, ← h, ← k) z

@@ -4,16 +4,14 @@ use dates::LAST_DAY;
 use point_effects::due_by;
 use rules::Due;
 use rules::Fields;
-use rules::Pending;
 use rules::Settings;
 use rules::Supply;
-use rules::SupplyKind;
 use rules::View;
 ghost use mathlib.Core.Path.{_≡_};
 ghost use mathlib.Core.Bool.{_&&_};
-ghost use Prim.Native.Nat.{_≤_, min};
+ghost use Prim.Native.Nat.{min};
 ghost use lib.Dec.{eqb, ltb};
-ghost use Rattle.rules.specs.Fields.{supply, withSupply};
+ghost use Rattle.rules.specs.Fields.{withSupply};
 ghost use Rattle.input_quiet.specs.Between.Quiet.{seen, namedSeen, happenedSeen, nextSeen, viewOn, viewIn};
 
 pub(crate) struct Seen {
@@ -34,18 +32,13 @@ fn is_marked(day: u64, x: Seen) -> bool
     start as u64 == day
 }
 
-// A holder is named on a day.
-fn named_seen(day: u32, holder: u8, kind: SupplyKind, pending: Pending, x: Seen) -> Seen
-    ensures { λ r. ⌜ r ≡ namedSeen day (withSupply (x .fields) (supply holder kind pending)) x ⌝ }
+// A holder is named on a day, with the supply from then on.
+fn named_seen(day: u32, now: Supply, x: Seen) -> Seen
+    ensures { λ r. ⌜ r ≡ namedSeen day (withSupply (x .fields) now) x ⌝ }
 {
     let mut f = x.fields;
     let n = x.marks;
     let start = x.start;
-    let now = Supply {
-        holder: holder,
-        kind: kind,
-        pending: pending,
-    };
     f.supply = now;
     if is_marked(day as u64, x) {
         return Seen {
@@ -71,19 +64,13 @@ fn named_seen(day: u32, holder: u8, kind: SupplyKind, pending: Pending, x: Seen)
 fn happen_seen(d: Due, x: Seen) -> Seen
     ensures { λ r. ⌜ r ≡ happenedSeen d x ⌝ }
 {
-    let f = x.fields;
-    let s = f.supply;
-    let q = s.pending;
     match d {
         Due::Nothing => x,
-        Due::Switch { day, holder, kind } => named_seen(day, holder, kind, Pending::Nothing, x),
-        Due::Fallback { day, holder, kind } => named_seen(day, holder, kind, q, x),
-        Due::End { day, holder, kind } => named_seen(day, holder, kind, Pending::Nothing, x),
+        Due::Naming { day, supply } => named_seen(day, supply, x),
     }
 }
 
 fn next_seen(set: Settings, t: u32, x: Seen) -> Seen
-    requires { ⌜ t ≤ 73048 ⌝ }
     ensures { λ r. ⌜ r ≡ nextSeen set t x ⌝ }
 {
     let f = x.fields;

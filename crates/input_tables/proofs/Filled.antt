@@ -1,11 +1,7 @@
 -- Loops that fill an array in turn: all n places, after i turns the first i are those of the list m; and a part of it.
-use mathlib.Core.Path.{_≡_, sym, ap, _∙_}
-use mathlib.Core.List.{List}
-use Prim.Native.Nat.{ℕ, _+_, _≤_, _<_}
-use native.Mathlib.Omega.{arith}
-use native.Mathlib.Numerals.{add-one}
-use lib.ListN.{length, take, getD, set, length-set}
-use lib.Seq.{paste, paste-zero, paste-suc, length-paste, take-all, take-suc, take-suc-set}
+use Rattle.basics.proofs.Basics.{_≡_, sym, _∙_, ap, List, _≤_, ℕ, _+_, _<_, add-one, arith, length, take, getD, set}
+use Rattle.basics.proofs.Basics.{length-set, take-all, paste, take-suc, paste-zero, paste-suc, length-paste}
+use Rattle.basics.proofs.Basics.{take-suc-set}
 
 abbrev pub Filled : {A : Type 0} → ℕ → List A → List A → ℕ → Type 0
 Filled n m out i = (length m ≡ n) × (length out ≡ n) × (take i out ≡ take i m)

@@ -1,10 +1,8 @@
 -- What the three tables tell of the points.
-use mathlib.Core.Path.{_≡_, refl, ap, _∙_}
-use mathlib.Core.List.{List, [], _∷_, _++_, append-assoc}
-use Prim.Native.Nat.{ℕ, zero, suc, _+_, _*_, _≤_, _<_}
-use native.Mathlib.Omega.{arith}
-use lib.ListN.{length, take, drop, getD, set, length-drop, length-set}
-use lib.Seq.{paste, getD-take, getD-drop, take-set-lt, drop-set-lt, take-set-le, drop-set-add, drop-drop, take-add, take-all, take-at, drop-at, length-take-le}
+use Rattle.basics.proofs.Basics.{_≡_, refl, _∙_, ap, List, [], _∷_, _++_, append-assoc, _≤_, ℕ, _+_, _<_, suc, zero}
+use Rattle.basics.proofs.Basics.{_*_, arith, length, drop, take, getD, set, length-set, length-drop, length-take-le}
+use Rattle.basics.proofs.Basics.{take-all, drop-drop, take-at, drop-at, paste, getD-drop, drop-set-lt, take-set-le}
+use Rattle.basics.proofs.Basics.{take-add, getD-take, take-set-lt, drop-set-add}
 use Rattle.rules.specs.declared.{Fields.Fields, Period.Period, Point.Point}
 use Rattle.input_tables.specs.Between.Tables.{joined, rowAt, pointsOf, Sized}
 use Rattle.input_tables.proofs.Filled.{Pasted, pasted-length}

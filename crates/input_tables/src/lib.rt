@@ -6,10 +6,7 @@ use rules::Period;
 use rules::Point;
 use rules::Span;
 ghost use mathlib.Core.Path.{_≡_};
-ghost use Prim.Native.Nat.{_*_, _<_};
-ghost use lib.Seq.{paste};
-ghost use Rattle.point_volumes.specs.Between.{bookedIfFair};
-ghost use Rattle.input_tables.specs.Between.Tables.{Apart, pointsOf, rowAt};
+ghost use Rattle.input_tables.specs.Between.Tables.{Apart, pointsOf, bookedAt};
 
 const POINTS: usize = 32;
 
@@ -102,9 +99,11 @@ pub fn points_of(fields: [Fields; 32], counts: [usize; 32], slots: [Period; 768]
 
 // A reading is booked over the n periods of the point at place i.
 pub fn booked_at(s: Span, i: usize, n: usize, all: [Period; 768]) -> [Period; 768]
-    requires { ⌜ i < 32 ⌝ }
-    ensures { λ r. ⌜ r ≡ paste all (24 * i) (bookedIfFair s (record { count = n; periods = rowAt i all }) .periods) 24 ⌝ }
+    ensures { λ r. ⌜ r ≡ bookedAt s i n all ⌝ }
 {
+    if i >= POINTS {
+        return all;
+    }
     let none = all[0];
     let mut row = [none; 24];
     let mut k: usize = 0;

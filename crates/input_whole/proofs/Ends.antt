@@ -1,13 +1,6 @@
 -- A last line without its line feed, and the closing lines.
-use Prim.Native.Nat.{ℕ, _≤_, min}
-use mathlib.Core.Path.{_≡_, sym, ap}
-use mathlib.Core.Bool.{true, false}
-use mathlib.Core.List.{List, [], _∷_}
-use native.Mathlib.Omega.{arith}
-use native.Mathlib.Nat.{not-suc-le-zero}
-use native.Mathlib.Decide.{decLe}
-use borrow.Author.Tests.{eq-eqb, ne-eqb}
-use lib.ListN.{length, take}
+use Rattle.basics.proofs.Basics.{_≡_, sym, ap, true, false, List, [], _∷_, _≤_, ℕ, min, not-suc-le-zero, decLe, arith}
+use Rattle.basics.proofs.Basics.{length, take, ne-eqb, eq-eqb}
 use Rattle.line_text.proofs.Appends.{put-none}
 use Rattle.line_listing.specs.declared.{Listed.Listed}
 use Rattle.line_listing.specs.Pinned.Pieces.{ListedFrom}

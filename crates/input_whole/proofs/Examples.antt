@@ -1,5 +1,5 @@
 -- The examples of whole inputs, each by computing.
-use mathlib.Core.Path.{refl}
+use Rattle.basics.proofs.Basics.{refl}
 use Rattle.dates.specs.Dates.{leapRow, monthLength, next, dateOf}
 use Rattle.dates.specs.Numbers.{monthStart, yearStart, dayNumber, isReal, dayAnswer, dateAnswer}
 use Rattle.rules.proofs.Computes.{machines}

@@ -1,14 +1,7 @@
 -- However an input is cut, what is handed on for writing is its transcript. The statement is specs/Transcript.antt.
-use Prim.Native.Nat.{ℕ, _+_, _/_, _≤_}
-use mathlib.Core.Path.{_≡_, refl, sym, ap, ap₂, subst, _∙_}
-use mathlib.Core.Bool.{Bool, true, false, cond, false≢true}
-use mathlib.Core.List.{List, [], _∷_, _++_, append-assoc}
-use native.Mathlib.Omega.{arith}
-use native.Mathlib.Nat.{not-suc-le-zero}
-use borrow.Author.Tests.{ne-eqb}
-use lib.Dec.{eqb}
-use lib.ListN.{length, take, drop}
-use lib.Seq.{take-append-seam, take-all, drop-length}
+use Rattle.basics.proofs.Basics.{_≡_, refl, sym, _∙_, ap, ap₂, subst, true, false, Bool, cond, false≢true, List, []}
+use Rattle.basics.proofs.Basics.{_∷_, _++_, append-assoc, _≤_, ℕ, _+_, _/_, not-suc-le-zero, arith, eqb, length, drop}
+use Rattle.basics.proofs.Basics.{take, take-all, drop-length, take-append-seam, ne-eqb, cases}
 use Rattle.rules.specs.declared.{Register.Register}
 use Rattle.line_text.specs.Between.Appending.{put}
 use Rattle.line_listing.specs.declared.{Listed.Listed}
@@ -50,11 +43,7 @@ unfolding listingFrom
 none-left r from h e = rw e (ap (listingFrom 33) (ap (λ (n : ℕ). drop n (r .points)) (sym h) ∙ drop-length (r .points)))
 
 closing-all : {d : Desk} {from : ℕ} {w : List ℕ} → Sized d → from ≤ 32 → Closing d from w → w ≡ toList d from
-closing-all {d} {from} s le (done h) = go (d .ready) refl
-  where
-    go : (b : Bool) → d .ready ≡ b → [] ≡ cond b (left (d .register) from) []
-    go true e = sym (none-left (d .register) from (s e) (omega arith))
-    go false e = refl
+closing-all {d} {from} s le (done h) = cases (d .ready) (λ e. rw e (sym (none-left (d .register) from (s e) (omega arith)))) (λ e. rw e)
 closing-all {d} {from} s le (more {w = w} before after x c rest) = let n = length before in
     let at : x .next ≡ closedNext d from n = ap (λ (y : Listed). y .next) (c .answer) in
     let long : x .written ≡ length (closingPiece d from n) = ap (λ (y : Listed). y .written) (c .answer) in

@@ -1,10 +1,6 @@
 -- An open register always has 32 points.
-use Prim.Native.Nat.{ℕ, _-_}
-use mathlib.Core.Path.{_≡_, refl, _∙_}
-use mathlib.Core.Bool.{Bool, true, false, cond, not, _&&_}
-use mathlib.Core.List.{List, [], _∷_, _++_, map}
-use lib.Dec.{eqb}
-use lib.ListN.{length, length-set, length-map, length-replicate}
+use Rattle.basics.proofs.Basics.{_≡_, refl, _∙_, true, false, Bool, cond, _&&_, not, List, [], _∷_, _++_, ℕ, _-_, eqb}
+use Rattle.basics.proofs.Basics.{length, length-set, length-replicate, length-map, cases}
 use Rattle.rules.specs.declared.{Point.Point, Register.Register, Call.Call, Action.Action, Opening.Opening}
 use Rattle.rules.specs.Answers.{isAccepted}
 use Rattle.rules.specs.Rejections.{openingAnswer}
@@ -12,22 +8,17 @@ use Rattle.rules.specs.Pinned.Register.{catchUp, blankPoint, register, pointAt,
 use Rattle.line_messages.specs.declared.{Message.Message}
 use Rattle.line_messages.specs.Pinned.Reading.{readLine}
 use Rattle.input_lines.specs.Between.Begun.{capped}
-use Rattle.input_lines.specs.Pinned.Runs.{behind, run}
+use Rattle.input_lines.specs.Pinned.Runs.{run}
 use Rattle.input_desk.specs.declared.{Desk.Desk}
 use Rattle.input_desk.specs.Pinned.Desk.{desk, deskAfter}
-use Rattle.input_pieces.specs.Pinned.Session.{nextDesk, sayLine, runOf}
+use Rattle.input_pieces.specs.Pinned.Session.{nextDesk, runOf}
 
 abbrev pub Sized : Desk → Type 0
 Sized d = d .ready ≡ true → length (d .register .points) ≡ 32
 
 advanced-length : (t : ℕ) (r : Register) → length (advanced t r .points) ≡ length (r .points)
 unfolding advanced
-advanced-length t r = go (eqb (r .day) t)
-  where
-    go : (b : Bool) →
-        length (cond b r (register (r .settings) t (r .contracts) (map (catchUp (r .settings) t) (r .points))) .points) ≡ length (r .points)
-    go true = refl
-    go false = length-map (r .points) (catchUp (r .settings) t)
+advanced-length t r = cases (eqb (r .day) t) (λ e. rw e) (λ e. rw e (length-map (r .points) (catchUp (r .settings) t)))
 
 done-length : (t : ℕ) (a : Action) (r : Register) → length (done t a r .points) ≡ length (r .points)
 unfolding done
@@ -38,11 +29,8 @@ done-length t Action.Day r = refl
 
 applied-length : (r : Register) (c : Call) → length (applied r c .register .points) ≡ length (r .points)
 unfolding applied
-applied-length r c = go (isAccepted (says r c))
-  where
-    go : (b : Bool) → length (cond b (done (c .today) (c .action) (advanced (c .today) r)) r .points) ≡ length (r .points)
-    go true = done-length (c .today) (c .action) (advanced (c .today) r) ∙ advanced-length (c .today) r
-    go false = refl
+applied-length r c = cases (isAccepted (says r c))
+    (λ e. rw e (done-length (c .today) (c .action) (advanced (c .today) r) ∙ advanced-length (c .today) r)) (λ e. rw e)
 
 opened-length : (o : Opening) → length (opened o .points) ≡ 32
 unfolding opened
@@ -50,11 +38,8 @@ opened-length o = length-replicate {A = Point} 32 blankPoint
 
 sized-after : (d : Desk) (m : Message) → Sized d → Sized (deskAfter d m)
 unfolding deskAfter
-sized-after d (Message.Open o) h = go (not (d .ready) && isAccepted (openingAnswer o))
-  where
-    go : (b : Bool) → Sized (cond b (desk true (opened o)) d)
-    go true = λ e. opened-length o
-    go false = h
+sized-after d (Message.Open o) h =
+    cases (not (d .ready) && isAccepted (openingAnswer o)) (λ e. rw e (λ k. opened-length o)) (λ e. rw e h)
 sized-after d (Message.Ask c) h = go (d .ready) refl
   where
     go : (b : Bool) → d .ready ≡ b → Sized (cond b (desk true (applied (d .register) c .register)) d)
@@ -65,10 +50,5 @@ sized-after d Message.Unreadable h = h
 pub run-sized : (d : Desk) (part l : List ℕ) → Sized d → Sized (runOf d part l .state)
 unfolding run
 run-sized d part [] h = h
-run-sized d part (b ∷ l) h =
-    go (eqb b 10) (run-sized (nextDesk d part) [] l (sized-after d (readLine part) h)) (run-sized d (capped (part ++ (b ∷ []))) l h)
-  where
-    go : (t : Bool) → Sized (runOf (nextDesk d part) [] l .state) → Sized (runOf d (capped (part ++ (b ∷ []))) l .state) →
-        Sized (cond t (behind (sayLine d part) (runOf (nextDesk d part) [] l)) (runOf d (capped (part ++ (b ∷ []))) l) .state)
-    go true i j = i
-    go false i j = j
+run-sized d part (b ∷ l) h = cases (eqb b 10) (λ e. rw e (run-sized (nextDesk d part) [] l (sized-after d (readLine part) h)))
+    (λ e. rw e (run-sized d (capped (part ++ (b ∷ []))) l h))

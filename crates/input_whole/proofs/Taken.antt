@@ -1,8 +1,5 @@
 -- No more is taken than the part of a buffer that was handed in.
-use Prim.Native.Nat.{ℕ, _-_, _/_, _≤_}
-use mathlib.Core.List.{List}
-use native.Mathlib.Omega.{arith}
-use lib.ListN.{length, take, drop, length-take}
+use Rattle.basics.proofs.Basics.{List, _≤_, ℕ, _-_, _/_, arith, length, drop, take, length-take}
 use Rattle.input_lines.proofs.Feeds.{fitting-le}
 use Rattle.input_pieces.specs.declared.{Session.Session, Fed.Fed}
 use Rattle.input_pieces.specs.Pinned.Session.{FedBy}

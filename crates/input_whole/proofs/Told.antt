@@ -1,9 +1,6 @@
 -- The answers printed and the closing lines are the day book's, and so is what is asked at the end. The statements are
 -- specs/Transcript.antt.
-use Prim.Native.Nat.{ℕ}
-use mathlib.Core.Path.{_≡_, refl, sym, ap, ap₂, _∙_}
-use mathlib.Core.Bool.{Bool, true, false, cond}
-use mathlib.Core.List.{List, [], _∷_, _++_, map}
+use Rattle.basics.proofs.Basics.{_≡_, refl, sym, _∙_, ap, ap₂, true, false, Bool, cond, List, [], _∷_, _++_, map, ℕ}
 use Rattle.rules.specs.declared.{Register.Register, Opening.Opening, Call.Call, Span.Span}
 use Rattle.rules.specs.Answers.{isAccepted}
 use Rattle.rules.specs.Rejections.{openingAnswer}

@@ -61,7 +61,8 @@ pub record FeedGoesOn (piece out : List ℕ) (f : Fed) : Type 0 where
   pub some : 24 ≤ length out → 0 < length piece → 0 < f .taken
 
 abbrev pub EveryFeedGoesOn : Type 0
-EveryFeedGoesOn = (s : Session) (piece before after : List ℕ) (f : Fed) → FedBy s piece before after f → FeedGoesOn piece before f
+EveryFeedGoesOn = (s : Session) (piece before after : List ℕ) (f : Fed) → FedBy s piece before after f →
+    FeedGoesOn piece before f
 
 -- ---- what that means: the day book beside it
 
@@ -149,4 +150,5 @@ EveryOutput = (s : Session) → Started s → (input w : List ℕ) → Served s 
 
 -- What `ask` asks: the desk that an input comes to, however it is cut.
 abbrev pub EveryDesk : Type 0
-EveryDesk = (s : Session) → Started s → (input w : List ℕ) (d : Desk) → Through s input w d → d ≡ storyDesk (storyTold input)
+EveryDesk = (s : Session) → Started s → (input w : List ℕ) (d : Desk) → Through s input w d →
+    d ≡ storyDesk (storyTold input)

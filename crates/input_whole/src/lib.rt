@@ -1,4 +1,5 @@
-// A whole input: before it, and at its end; and what `input_pieces` hands on for it, beside the day book (specs/Transcript).
+// A whole input: before it, and at its end; and what `input_pieces` hands on for it, beside the day book
+// (specs/Transcript).
 use input_lines::nothing_begun;
 use input_pieces::Fed;
 use input_pieces::Session;

@@ -1,10 +1,6 @@
 -- The texts of answer and closing lines, as the writers put them piece by piece, and their lengths.
-use Prim.Native.Nat.{ℕ, _+_, _^_, _<_, _≤_}
-use mathlib.Core.Path.{_≡_, ap, _∙_}
-use mathlib.Core.List.{List, [], _∷_, _++_}
-use mathlib.Core.Option.{Option, none, some}
-use native.Mathlib.Omega.{arith}
-use lib.ListN.{length, length-append}
+use Rattle.basics.proofs.Basics.{_≡_, _∙_, ap, some, Option, none, List, [], _∷_, _++_, _≤_, ℕ, _+_, _<_, _^_, arith}
+use Rattle.basics.proofs.Basics.{length, length-append}
 use Rattle.rules.specs.declared.{Answer.Answer, Period.Period}
 use Rattle.rules.specs.Answers.{isAccepted, number, date}
 use Rattle.line_text.specs.Ascii.{ascii}

@@ -1,15 +1,8 @@
 -- Reading the fields and writing them are inverse, and their text is short.
-use Prim.Native.Nat.{ℕ, zero, suc, _+_, _≤_, _^_}
-use mathlib.Core.Path.{_≡_, refl, sym, ap, _∙_}
-use mathlib.Core.Bool.{Bool, true, false, cond}
-use mathlib.Core.List.{List, [], _∷_, _++_, append-assoc, append-nil}
-use native.Mathlib.Omega.{arith}
-use lib.Dec.{eqb}
-use lib.ListN.{length, getD, replicate, length-append}
-use lib.Seq.{getD-append-seam}
-use borrow.Author.Tests.{eqb-true, leb-true, ltb-true, le-leb, lt-ltb}
+use Rattle.basics.proofs.Basics.{_≡_, refl, sym, _∙_, ap, true, and-eq-true-iff, List, [], _∷_, _++_, append-assoc}
+use Rattle.basics.proofs.Basics.{append-nil, _≤_, ℕ, _+_, suc, zero, _^_, arith, eqb, length, getD, length-append}
+use Rattle.basics.proofs.Basics.{replicate, getD-append-seam, lt-ltb, le-leb, eqb-true, ltb-true, leb-true, cases}
 use Rattle.dates.specs.Dates.{lastDay}
-use Rattle.dates.proofs.Every.{and-left, and-right}
 use Rattle.line_text.proofs.DayTexts.{day-append, day-length}
 use Rattle.line_text.proofs.Spelling.{decimal-append, decimal-length}
 use Rattle.line_values.specs.Pinned.Numbers.{Parsed, number, bad}
@@ -18,16 +11,13 @@ use Rattle.line_values.proofs.Numbers.{number-back, number-only}
 use Rattle.line_values.proofs.Days.{day-back, day-only}
 use Rattle.line_fields.specs.declared.{Sort.Sort}
 use Rattle.line_fields.specs.Fields.{Field, field, fieldText, fits, fieldsText, fitAll}
-use Rattle.line_fields.specs.Pinned.Reading.{valueOf, fieldOf, values, andThen, fieldsOf}
+use Rattle.line_fields.specs.Pinned.Reading.{AllParsed, valueOf, fieldOf, values, andThen, fieldsOf}
 use Rattle.line_fields.specs.Between.Shapes.{sortAt, sortsFrom, fieldsFrom, sortsIn, valuesIn}
 
 -- a field is followed by a `;` or by nothing
 fields-stop : (fs : List Field) → Stops (fieldsText fs)
 fields-stop [] = tt
-fields-stop (f ∷ fs) = go (f .sort) where
-  go : (k : Sort) → Stops (fieldText k (f .value) (fieldsText fs))
-  go Sort.Date = refl
-  go Sort.Number = refl
+fields-stop (f ∷ fs) = elim (f .sort) as (λ k. Stops (fieldText k (f .value) (fieldsText fs))) [ Sort.Date ↦ refl | Sort.Number ↦ refl ]
 
 -- one field, written and read
 field-back : (k : Sort) (n : ℕ) (l : List ℕ) → fits k n ≡ true → Stops l → fieldOf k (fieldText k n l) ≡ number n l
@@ -44,20 +34,17 @@ value-only Sort.Number n l r e = let w = number-only n l r e in (ap (_∷_ 59) (
 field-only : (k : Sort) (n : ℕ) (l r : List ℕ) → fieldOf k l ≡ number n r → (l ≡ fieldText k n r) × (fits k n ≡ true)
 unfolding fieldOf
 field-only k n [] r e = absurd (let z : _≡_ {A = ℕ} 0 1 = cc in omega arith)
-field-only k n (c ∷ l) r e = go (eqb c 59) refl e where
-  go : (b : Bool) → eqb c 59 ≡ b → cond b (valueOf k l) bad ≡ number n r → (c ∷ l ≡ fieldText k n r) × (fits k n ≡ true)
-  go true p f = rw (eqb-true c 59 p) (value-only k n l r f)
-  go false p f = absurd (let z : _≡_ {A = ℕ} 0 1 = cc in omega arith)
+field-only k n (c ∷ l) r e = cases (eqb c 59) (λ p. rw (eqb-true c 59 p) (value-only k n l r (rw p at e)))
+    (λ p. absurd (let z : _≡_ {A = ℕ} 0 1 = cc in omega arith))
 
 -- all fields, written and read
 pub fields-back : (fs : List Field) (acc : List ℕ) → fitAll fs ≡ true →
     fieldsOf (sortsIn fs) acc (fieldsText fs) ≡ values (acc ++ valuesIn fs) []
 unfolding fieldsOf fitAll
 fields-back [] acc h = rw append-nil
-fields-back (f ∷ fs) acc h = let fit = and-left (fits (f .sort) (f .value)) (fitAll fs) h in
+fields-back (f ∷ fs) acc h = let (fit, rest) = and-eq-true-iff (fits (f .sort) (f .value)) (fitAll fs) .0 h in
     rw (field-back (f .sort) (f .value) (fieldsText fs) fit (fields-stop fs))
-    (fields-back fs (acc ++ (f .value ∷ [])) (and-right (fits (f .sort) (f .value)) (fitAll fs) h) ∙
-    ap (λ (vs : List ℕ). values vs []) (append-assoc acc (f .value ∷ []) (valuesIn fs)))
+    (rw append-assoc at (fields-back fs (acc ++ (f .value ∷ [])) rest))
 
 -- what stands behind a field does not change it
 pub field-append : (k : Sort) (n : ℕ) (l : List ℕ) → fieldText k n l ≡ fieldText k n [] ++ l
@@ -65,8 +52,7 @@ field-append Sort.Date n l = ap (_∷_ 59) (day-append n l)
 field-append Sort.Number n l = ap (_∷_ 59) (decimal-append n l)
 
 field-before : (k : Sort) (n : ℕ) (l m : List ℕ) → fieldText k n (l ++ m) ≡ fieldText k n l ++ m
-field-before k n l m = field-append k n (l ++ m) ∙ sym (append-assoc (fieldText k n []) l m) ∙
-    ap (λ (x : List ℕ). x ++ m) (sym (field-append k n l))
+field-before k n l m = rw (field-append k n (l ++ m), field-append k n l, append-assoc)
 
 -- all fields, read: they, and what follows their text
 pub record FieldsAre (ks : List Sort) (l r acc vs : List ℕ) : Type 0 where
@@ -76,23 +62,24 @@ pub record FieldsAre (ks : List Sort) (l r acc vs : List ℕ) : Type 0 where
   pub text : l ≡ fieldsText fields ++ r
   pub fit : fitAll fields ≡ true
 
+then-was : (x : Parsed) (f : ℕ → List ℕ → AllParsed) (vs r : List ℕ) → andThen x f ≡ values vs r →
+    (n : ℕ) × (t : List ℕ) × (x ≡ number n t) × (f n t ≡ values vs r)
+then-was (number n t) f vs r e = (n, t, refl, e)
+then-was bad f vs r e = absurd (let z : _≡_ {A = ℕ} 0 1 = cc in omega arith)
+
 pub fields-only : (ks : List Sort) (acc l vs r : List ℕ) → fieldsOf ks acc l ≡ values vs r → FieldsAre ks l r acc vs
 unfolding fieldsOf fitAll
 fields-only [] acc l vs r e = let q : acc ≡ vs = cc in
     record { fields = []; sorts = refl; all = sym q ∙ sym (append-nil acc); text = cc; fit = refl }
-fields-only (k ∷ ks) acc l vs r e = go (λ n x. fields-only ks (acc ++ (n ∷ [])) x vs r) (fieldOf k l) refl e where
-  go : ((n : ℕ) (x : List ℕ) → fieldsOf ks (acc ++ (n ∷ [])) x ≡ values vs r → FieldsAre ks x r (acc ++ (n ∷ [])) vs) →
-      (x : Parsed) → fieldOf k l ≡ x → andThen x (λ n x. fieldsOf ks (acc ++ (n ∷ [])) x) ≡ values vs r →
-      FieldsAre (k ∷ ks) l r acc vs
-  go ih bad p e = absurd (let z : _≡_ {A = ℕ} 0 1 = cc in omega arith)
-  go ih (number n x) p e = let f = field-only k n l x p in let w = ih n x e in
-      record {
-        fields = field k n ∷ w .fields;
-        sorts = ap (_∷_ k) (w .sorts);
-        all = w .all ∙ append-assoc acc (n ∷ []) (valuesIn (w .fields));
-        text = f .0 ∙ ap (fieldText k n) (w .text) ∙ field-before k n (fieldsText (w .fields)) r;
-        fit = rw (f .1, w .fit);
-      }
+fields-only (k ∷ ks) acc l vs r e = let (n, x, p, e₁) = then-was (fieldOf k l) _ vs r e in
+    let f = field-only k n l x p in let w = fields-only ks (acc ++ (n ∷ [])) x vs r e₁ in
+    record {
+      fields = field k n ∷ w .fields;
+      sorts = ap (_∷_ k) (w .sorts);
+      all = w .all ∙ append-assoc acc (n ∷ []) (valuesIn (w .fields));
+      text = f .0 ∙ ap (fieldText k n) (w .text) ∙ field-before k n (fieldsText (w .fields)) r;
+      fit = rw (f .1, w .fit);
+    }
 
 -- the fields of a shape with these values: their sorts, and from the values back
 pub sorts-as : (second i n : ℕ) (vs : List ℕ) → sortsIn (fieldsFrom second i n vs) ≡ sortsFrom second i n
@@ -142,8 +129,6 @@ field-short Sort.Number n h = let e = decimal-length 12 n (omega arith) (ltb-tru
 pub fields-short : (fs : List Field) → fitAll fs ≡ true → length (fieldsText fs) ≤ widths (sortsIn fs)
 unfolding fitAll
 fields-short [] h = omega arith
-fields-short (f ∷ fs) h =
-    let first = field-short (f .sort) (f .value) (and-left (fits (f .sort) (f .value)) (fitAll fs) h) in
-    let rest = fields-short fs (and-right (fits (f .sort) (f .value)) (fitAll fs) h) in
-    let sum = ap length (field-append (f .sort) (f .value) (fieldsText fs)) ∙
-    length-append (fieldText (f .sort) (f .value) []) (fieldsText fs) in omega arith
+fields-short (f ∷ fs) h = let (fit, more) = and-eq-true-iff (fits (f .sort) (f .value)) (fitAll fs) .0 h in
+    let first = field-short (f .sort) (f .value) fit in let rest = fields-short fs more in
+    rw (field-append (f .sort) (f .value) (fieldsText fs), length-append) (omega arith)

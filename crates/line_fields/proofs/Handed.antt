@@ -1,24 +1,17 @@
 -- What is handed back of one field, and of all: the positions, and the values.
-use Prim.Native.Nat.{ℕ, _+_, _-_, _<_, _≤_}
-use mathlib.Core.Path.{_≡_, refl, sym, ap, _∙_}
-use mathlib.Core.Bool.{Bool, true, false, cond}
-use mathlib.Core.List.{List, [], _∷_}
-use native.Mathlib.Omega.{arith}
-use lib.Dec.{eqb}
-use lib.ListN.{length, take, drop, getD, replicate, length-drop, take-append-drop}
-use lib.Seq.{length-take-le}
+use Rattle.basics.proofs.Basics.{_≡_, refl, sym, ap, false, Bool, cond, List, [], _∷_, _++_, _≤_, ℕ, _-_, _+_, arith}
+use Rattle.basics.proofs.Basics.{eqb, length, drop, take, replicate, take-append-drop, length-take-le, cases}
 use Rattle.line_values.specs.declared.{Found.Found}
-use Rattle.line_values.specs.declared.Found.the-variants as field
 use Rattle.line_values.specs.Pinned.Words.{isSame}
 use Rattle.line_values.specs.Pinned.Numbers.{Parsed, number, bad, numberOf}
 use Rattle.line_values.specs.Between.Places.{foundAt}
 use Rattle.line_values.specs.Pinned.Days.{dayIn}
-use Rattle.line_values.proofs.Places.{Ends, ends-cons, ends-short, Leaves, number-leaves, day-leaves, Within, place, end-place}
+use Rattle.line_values.proofs.Places.{Ends, ends-self, ends-cons, ends-on, ends-short, Leaves, number-leaves, day-leaves, end-place, further}
 use Rattle.line_fields.specs.declared.{Sort.Sort, Shape.Shape, KnownDate.KnownDate, LineFields.LineFields, FieldFound.FieldFound}
-use Rattle.line_fields.specs.Between.Known.{packed, knownText}
-use Rattle.line_fields.specs.Between.With.{ParsedWith, value, none, knownBy, dateRead, dateWith, valueWith, fieldWith, AllWith, withAll, fieldsInWith}
+use Rattle.line_fields.specs.Between.Known.{knownText}
+use Rattle.line_fields.specs.Between.With.{ParsedWith, value, none, knownBy, dateWith, valueWith, fieldWith, AllWith, withAll, onWith}
+use Rattle.line_fields.specs.Between.With.{fieldsWith, fieldsInWith}
 use Rattle.line_fields.specs.Between.With.{foundWith, lineFieldsAt, valuesAfter, ReadsFields}
-use Rattle.line_fields.proofs.FieldSteps.{field-here}
 
 -- what is read with a known date leaves the end of the text
 abbrev pub LeavesWith : List ℕ → ParsedWith → Type 0
@@ -29,102 +22,80 @@ read-leaves : (f : ℕ → KnownDate) (l : List ℕ) (x : Parsed) → Leaves l x
 read-leaves f l (number n r) e = e
 read-leaves f l bad e = tt
 
-date-leaves : (k : KnownDate) (l : List ℕ) → LeavesWith l (dateWith k l)
+value-leaves : (k : KnownDate) (s : Sort) (l : List ℕ) → LeavesWith l (valueWith k s l)
 unfolding dateWith
-date-leaves k l = go (isSame (take 8 l) (knownText k)) where
-  go : (t : Bool) → LeavesWith l (cond t (value (k .day) (drop 8 l) k) (dateRead (packed (take 8 l)) (dayIn l)))
-  go true = record { read = take 8 l; whole = sym (take-append-drop 8 l) }
-  go false = read-leaves _ l (dayIn l) (day-leaves l)
-
-pub value-leaves : (k : KnownDate) (s : Sort) (l : List ℕ) → LeavesWith l (valueWith k s l)
-value-leaves k Sort.Date l = date-leaves k l
+value-leaves k Sort.Date l = cases (isSame (take 8 l) (knownText k))
+    (λ e. rw e (record { read = take 8 l; whole = sym (take-append-drop 8 l) })) (λ e. rw e (read-leaves _ l (dayIn l) (day-leaves l)))
 value-leaves k Sort.Number l = read-leaves _ l (numberOf l) (number-leaves l)
 
 leaves-cons : (c : ℕ) (l : List ℕ) (x : ParsedWith) → LeavesWith l x → LeavesWith (c ∷ l) x
 leaves-cons c l (value n r k) e = ends-cons c l r e
 leaves-cons c l none e = tt
 
-pub field-leaves : (k : KnownDate) (s : Sort) (l : List ℕ) → LeavesWith l (fieldWith k s l)
+field-leaves : (k : KnownDate) (s : Sort) (l : List ℕ) → LeavesWith l (fieldWith k s l)
 unfolding fieldWith
 field-leaves k s [] = tt
-field-leaves k s (c ∷ l) = go (eqb c 59) where
-  go : (t : Bool) → LeavesWith (c ∷ l) (cond t (valueWith k s l) none)
-  go true = leaves-cons c l (valueWith k s l) (value-leaves k s l)
-  go false = tt
+field-leaves k s (c ∷ l) = cases (eqb c 59) (λ e. rw e (leaves-cons c l (valueWith k s l) (value-leaves k s l))) (λ e. rw e tt)
 
--- one field, from what it is, and back
-pub step-value : (s : List ℕ) (at i v : ℕ) (k : KnownDate) (x : ParsedWith) → x ≡ value v (drop i s) k → Within s at i →
-    FieldFound.On v i k ≡ foundWith at (drop at s) x
-step-value s at i v k x e w =
-    ap (λ (n : ℕ). FieldFound.On v n k) (sym (place s at i w)) ∙ ap (foundWith at (drop at s)) (sym e)
+-- and so do fields
+on-rest : (l : List ℕ) (x : ParsedWith) (y : AllWith) (f : ℕ → List ℕ → KnownDate → AllWith) → LeavesWith l x → Ends l (y .rest) →
+    ((n : ℕ) (r : List ℕ) (d : KnownDate) → Ends r (f n r d .rest)) → Ends l (onWith x y f .rest)
+on-rest l (value n r d) y f e h g = ends-on l r _ e (g n r d)
+on-rest l none y f e h g = h
 
-pub step-none : (s : List ℕ) (at : ℕ) (x : ParsedWith) → x ≡ none → FieldFound.Bad ≡ foundWith at (drop at s) x
-step-none s at x e = ap (foundWith at (drop at s)) (sym e)
+pub fields-rest : (k : KnownDate) (ss : List Sort) (acc l : List ℕ) → Ends l (fieldsWith k ss acc l .rest)
+unfolding fieldsWith
+fields-rest k [] acc l = ends-self l
+fields-rest k (s ∷ ss) acc l = on-rest l (fieldWith k s l) _ _ (field-leaves k s l) (ends-self l) (λ n r d. fields-rest d ss (acc ++ (n ∷ [])) r)
 
-value-was : (s : List ℕ) (at i v : ℕ) (k : KnownDate) (x : ParsedWith) → LeavesWith (drop at s) x →
-    foundWith at (drop at s) x ≡ FieldFound.On v i k → (x ≡ value v (drop i s) k) × Within s at i
-value-was s at i v k (value n r d) e p = let same : n ≡ v = cc in let date : d ≡ k = cc in
-    let there : at + (length (drop at s) - length r) ≡ i = cc in let w = end-place s at r e in
-    let rest : r ≡ drop i s = sym (w .0) ∙ ap (λ (j : ℕ). drop j s) there in (cc, rw there at (w .1))
-value-was s at i v k none e p = absurd (let z : _≡_ {A = ℕ} 0 1 = cc in omega arith)
+-- one field: behind its `;`, and of a number or a date that is read
+found-next : (i c : ℕ) (l : List ℕ) (x : ParsedWith) → LeavesWith l x → foundWith i (c ∷ l) x ≡ foundWith (i + 1) l x
+found-next i c l (value v r k) e = let short = ends-short l r e in ap (λ (n : ℕ). FieldFound.On v n k) (omega arith)
+found-next i c l none e = refl
 
-none-was : (at : ℕ) (l : List ℕ) (x : ParsedWith) → foundWith at l x ≡ FieldFound.Bad → x ≡ none
-none-was at l (value n r d) p = absurd (let z : _≡_ {A = ℕ} 0 1 = cc in omega arith)
-none-was at l none p = refl
+pub field-step : (i c : ℕ) (l : List ℕ) (k : KnownDate) (t : Sort) →
+    foundWith i (c ∷ l) (fieldWith k t (c ∷ l)) ≡ cond (eqb c 59) (foundWith (i + 1) l (valueWith k t l)) FieldFound.Bad
+unfolding fieldWith
+field-step i c l k t = cases (eqb c 59) (λ e. rw e (found-next i c l (valueWith k t l) (value-leaves k t l))) (λ e. rw e)
 
-module _ (s : List ℕ) (at : ℕ) (k : KnownDate) (t : Sort) (f : FieldFound) (e : f ≡ foundWith at (drop at s) (fieldWith k t (drop at s))) where
-  pub field-was : (i v : ℕ) (d : KnownDate) → f ≡ FieldFound.On v i d → (fieldWith k t (drop at s) ≡ value v (drop i s) d) × Within s at i
-  field-was i v d p = value-was s at i v d (fieldWith k t (drop at s)) (field-leaves k t (drop at s)) (sym e ∙ p)
+abbrev pub withDate : (ℕ → KnownDate) → Found → FieldFound
+withDate f (Found.Value v i) = FieldFound.On v i (f v)
+withDate f Found.Bad = FieldFound.Bad
 
-  pub field-was-none : f ≡ FieldFound.Bad → fieldWith k t (drop at s) ≡ none
-  field-was-none p = none-was at (drop at s) (fieldWith k t (drop at s)) (sym e ∙ p)
+pub found-known : (at : ℕ) (l : List ℕ) (f : ℕ → KnownDate) (x : Parsed) → foundWith at l (knownBy f x) ≡ withDate f (foundAt at l x)
+found-known at l f (number n r) = refl
+found-known at l f bad = refl
 
--- behind its `;`
-step-next : (s : List ℕ) (at : ℕ) (x : ParsedWith) → at < length s → LeavesWith (drop (at + 1) s) x →
-    foundWith (at + 1) (drop (at + 1) s) x ≡ foundWith at (drop at s) x
-step-next s at (value v r k) h e = let short = ends-short (drop (at + 1) s) r e in let here = length-drop at s in
-    let there = length-drop (at + 1) s in
-    ap (λ (n : ℕ). FieldFound.On v n k) (omega arith)
-step-next s at none h e = refl
+-- fields: what is handed back of those that are read from a position on, and one of them
+abbrev pub handed : List ℕ → ℕ → AllWith → LineFields × List ℕ
+handed s i x = (lineFieldsAt i (drop i s) x, valuesAfter x)
 
-pub field-step : (s : List ℕ) (at : ℕ) (k : KnownDate) (t : Sort) (f : FieldFound) → at < length s → getD s at 0 ≡ 59 →
-    f ≡ foundWith (at + 1) (drop (at + 1) s) (valueWith k t (drop (at + 1) s)) →
-    f ≡ foundWith at (drop at s) (fieldWith k t (drop at s))
-field-step s at k t f h e p =
-    p ∙ step-next s at (valueWith k t (drop (at + 1) s)) h (value-leaves k t (drop (at + 1) s)) ∙
-    ap (foundWith at (drop at s)) (sym (field-here s at h k t e))
+abbrev pub onField {ℓ} : {A : Type ℓ} → FieldFound → A → (ℕ → ℕ → KnownDate → A) → A
+onField (FieldFound.On v i d) a f = f v i d
+onField FieldFound.Bad a f = a
 
--- a number, or a date that is read
-module _ (at : ℕ) (l : List ℕ) (f : Found) (g : ℕ → KnownDate) where
-  pub found-value : (v i : ℕ) (x : Parsed) → f ≡ foundAt at l x → f ≡ field.Value v i →
-      FieldFound.On v i (g v) ≡ foundWith at l (knownBy g x)
-  found-value v i (number n r) e p = let same : n ≡ v = cc in let there : at + (length l - length r) ≡ i = cc in
-      rw (same, there)
-  found-value v i bad e p = absurd (let z : _≡_ {A = ℕ} 0 1 = cc in omega arith)
+field-then : (s : List ℕ) (i : ℕ) (x : ParsedWith) (y : AllWith) (f : ℕ → List ℕ → KnownDate → AllWith) → LeavesWith (drop i s) x →
+    ((n : ℕ) (r : List ℕ) (d : KnownDate) → Ends r (f n r d .rest)) →
+    handed s i (onWith x y f) ≡ onField (foundWith i (drop i s) x) (handed s i y) (λ v j d. handed s j (f v (drop j s) d))
+field-then s i (value v r d) y f e g = let x = f v r d in rw (end-place s i r e)
+    (ap (λ (n : ℕ). (record { ok = x .ok; end = n; known = x .known }, valuesAfter x)) (further i (drop i s) r (x .rest) e (g v r d)))
+field-then s i none y f e g = refl
 
-  pub found-none : (x : Parsed) → f ≡ foundAt at l x → f ≡ field.Bad → FieldFound.Bad ≡ foundWith at l (knownBy g x)
-  found-none (number n r) e p = absurd (let z : _≡_ {A = ℕ} 0 1 = cc in omega arith)
-  found-none bad e p = refl
+pub fields-step : (s : List ℕ) (i : ℕ) (k : KnownDate) (t : Sort) (ts : List Sort) (acc : List ℕ) →
+    handed s i (fieldsWith k (t ∷ ts) acc (drop i s)) ≡ onField (foundWith i (drop i s) (fieldWith k t (drop i s)))
+    (handed s i (withAll false acc (drop i s) k)) (λ v j d. handed s j (fieldsWith d ts (acc ++ (v ∷ [])) (drop j s)))
+unfolding fieldsWith
+fields-step s i k t ts acc = field-then s i (fieldWith k t (drop i s)) _ _ (field-leaves k t (drop i s))
+    (λ n r d. fields-rest d ts (acc ++ (n ∷ [])) r)
 
--- fields: all of them, or up to a field that cannot be read
-abbrev pub lineFields : Bool → ℕ → KnownDate → LineFields
-lineFields ok end k = record { ok = ok; end = end; known = k }
+-- at the end: the values, and zeros behind them
+pub handed-here : (s : List ℕ) (at i : ℕ) (vs : List ℕ) (ok : Bool) (k : KnownDate) → i ≤ 7 → length vs ≡ 7 →
+    drop i vs ≡ replicate (7 - i) 0 →
+    handed s at (withAll ok (take i vs) (drop at s) k) ≡ (record { ok = ok; end = at; known = k }, vs)
+handed-here s at i vs ok k b n z = let end : at + (length (drop at s) - length (drop at s)) ≡ at = omega arith in
+    rw (end, length-take-le i vs (omega arith), ← z, take-append-drop i vs)
 
-result-handed : (s : List ℕ) (from at : ℕ) (ok : Bool) (acc : List ℕ) (k : KnownDate) (x : AllWith) →
-    x ≡ withAll ok acc (drop at s) k → Within s from at → lineFields ok at k ≡ lineFieldsAt from (drop from s) x
-result-handed s from at ok acc k x e w =
-    ap (λ (n : ℕ). lineFields ok n k) (sym (place s from at w)) ∙ ap (lineFieldsAt from (drop from s)) (sym e)
-
-values-handed : (vs : List ℕ) (i : ℕ) → i ≤ 7 → length vs ≡ 7 → drop i vs ≡ replicate (7 - i) 0 → (ok : Bool) (l : List ℕ)
-    (k : KnownDate) → vs ≡ valuesAfter (withAll ok (take i vs) l k)
-values-handed vs i b n e ok l k = rw (length-take-le i vs (omega arith), ← e) (sym (take-append-drop i vs))
-
-module _ (last : KnownDate) (shape : Shape) (from : ℕ) (s : List ℕ) where
-  pub all-handed : (vs : List ℕ) (at i : ℕ) (ok : Bool) (k : KnownDate) →
-      fieldsInWith last shape (drop from s) ≡ withAll ok (take i vs) (drop at s) k → Within s from at → i ≤ 7 → length vs ≡ 7 →
-      drop i vs ≡ replicate (7 - i) 0 → ReadsFields last shape from s vs (lineFields ok at k)
-  all-handed vs at i ok k e w b n z =
-      record {
-        result = result-handed s from at ok (take i vs) k (fieldsInWith last shape (drop from s)) e w;
-        values = values-handed vs i b n z ok (drop at s) k ∙ ap valuesAfter (sym e);
-      }
+pub reads : (last : KnownDate) (shape : Shape) (from : ℕ) (s vs : List ℕ) (r : LineFields) →
+    handed s from (fieldsInWith last shape (drop from s)) ≡ (r, vs) → ReadsFields last shape from s vs r
+reads last shape from s vs r e =
+    record { result = ap (λ (p : LineFields × List ℕ). p .0) (sym e); values = ap (λ (p : LineFields × List ℕ). p .1) (sym e) }

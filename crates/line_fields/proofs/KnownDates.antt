@@ -1,12 +1,8 @@
 -- A date whose bytes are those of the known one is the known one, and a date that was read is known from then on.
-use Prim.Native.Nat.{ℕ, zero, suc, _+_, _*_, _/_, _%_, _^_, _<_, _≤_}
-use mathlib.Core.Path.{_≡_, refl, sym, ap, _∙_}
-use mathlib.Core.Bool.{Bool, true, false}
-use mathlib.Core.List.{List, [], _∷_, _++_}
-use native.Mathlib.Omega.{arith}
-use native.Mathlib.Numerals.{add-one}
-use lib.ListN.{length, take, drop, getD, length-append, length-take, take-append-drop}
-use lib.Seq.{drop-cons, drop-drop, getD-drop, take-add, take-at, length-take-le}
+use Rattle.basics.proofs.Basics.{_≡_, refl, sym, _∙_, ap, true, List, [], _∷_, _++_, _≤_, ℕ, _-_, _+_, _<_, suc, zero}
+use Rattle.basics.proofs.Basics.{_*_, _^_, _/_, _%_, arith, length, drop, take, getD, length-append, length-drop}
+use Rattle.basics.proofs.Basics.{take-append-drop, length-take, length-take-le, drop-drop, take-at, getD-drop, take-add}
+use Rattle.basics.proofs.Basics.{cases}
 use Rattle.dates.specs.Dates.{dateOf}
 use Rattle.dates.specs.declared.{DateAnswer.DateAnswer}
 use Rattle.dates.specs.Numbers.{dateAnswer}
@@ -17,10 +13,10 @@ use Rattle.line_values.specs.Pinned.Words.{isSame}
 use Rattle.line_values.specs.Pinned.Numbers.{Parsed, number, bad}
 use Rattle.line_values.specs.Pinned.Days.{dayIn}
 use Rattle.line_values.proofs.Days.{day-back, day-only}
-use Rattle.line_values.proofs.Steps.{other-length, same-words, same-self}
-use Rattle.line_fields.specs.declared.{KnownDate.KnownDate}
+use Rattle.line_values.proofs.Steps.{cons-at, other-length, same-words, same-self}
+use Rattle.line_fields.specs.declared.{KnownDate.KnownDate, FieldFound.FieldFound}
 use Rattle.line_fields.specs.Between.Known.{packed, unpacked, knownText, firstKnown, IsKnown}
-use Rattle.line_fields.specs.Between.With.{value, none, dateRead, dateWith}
+use Rattle.line_fields.specs.Between.With.{none, dateRead, dateWith, foundWith}
 
 -- each is a byte
 abbrev pub AreBytes : List ℕ → Type 0
@@ -102,23 +98,20 @@ module _ (k : KnownDate) (l : List ℕ) where
   date-short h = let few = length-take 8 l in let eight = unpacked-length 8 (k .bytes) in
       rw (other-length (take 8 l) (knownText k) (λ e. omega arith), day-short l h)
 
-  pub date-same : 8 ≤ length l → AreBytes (take 8 l) → packed (take 8 l) ≡ k .bytes → dateWith k l ≡ value (k .day) (drop 8 l) k
+  pub date-same : (at : ℕ) → 8 ≤ length l → AreBytes (take 8 l) → packed (take 8 l) ≡ k .bytes →
+      foundWith at l (dateWith k l) ≡ FieldFound.On (k .day) (at + 8) k
   unfolding dateWith
-  date-same long b e = let text = ap (unpacked 8) (sym e) ∙ eight-unpacked (take 8 l) b (length-take-le 8 l long) in
-      rw (text, same-self (take 8 l))
+  date-same at long b e = let text = ap (unpacked 8) (sym e) ∙ eight-unpacked (take 8 l) b (length-take-le 8 l long) in
+      let left = length-drop 8 l in let end : at + (length l - length (drop 8 l)) ≡ at + 8 = omega arith in
+      rw (text, same-self (take 8 l), end)
 
   pub date-other : k .bytes < 256 ^ 8 → (packed (take 8 l) ≡ k .bytes → ⊥) →
       dateWith k l ≡ dateRead (packed (take 8 l)) (dayIn l)
   unfolding dateWith
-  date-other small n = rw (go (isSame (take 8 l) (knownText k)) refl) where
-    go : (t : Bool) → isSame (take 8 l) (knownText k) ≡ t → isSame (take 8 l) (knownText k) ≡ false
-    go true e = absurd (n (ap packed (same-words (take 8 l) (knownText k) e) ∙ pack-unpacked 8 (k .bytes) small))
-    go false e = e
+  date-other small n = cases (isSame (take 8 l) (knownText k))
+      (λ e. absurd (n (ap packed (same-words (take 8 l) (knownText k) e) ∙ pack-unpacked 8 (k .bytes) small))) (λ e. rw e)
 
 -- the four bytes at a position
-cons-at : (s : List ℕ) (at : ℕ) → at < length s → drop at s ≡ getD s at 0 ∷ drop (at + 1) s
-cons-at s at h = rw (add-one at) (drop-cons s at 0 h)
-
 pub four-bytes : (s : List ℕ) (at : ℕ) → at + 4 ≤ length s →
     take 4 (drop at s) ≡ getD s at 0 ∷ getD s (at + 1) 0 ∷ getD s (at + 2) 0 ∷ getD s (at + 3) 0 ∷ []
 four-bytes s at h = let e₂ : at + 1 + 1 ≡ at + 2 = omega arith in let e₃ : at + 2 + 1 ≡ at + 3 = omega arith in rw (

@@ -1,5 +1,5 @@
 -- The examples of kinds, each by computing.
-use mathlib.Core.Path.{refl}
+use Rattle.basics.proofs.Basics.{refl}
 use Rattle.line_values.specs.Pinned.Words.{isSame}
 use Rattle.line_kinds.specs.Pinned.Naming.{kindIn}
 use Rattle.line_kinds.specs.Examples.{KindExamples}

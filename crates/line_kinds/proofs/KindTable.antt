@@ -1,12 +1,6 @@
 -- The table of kinds, kind by kind.
-use Prim.Native.Nat.{ℕ, _+_, _≤_}
-use mathlib.Core.Path.{_≡_, refl, sym}
-use mathlib.Core.Bool.{Bool, true, not, _&&_}
-use mathlib.Core.List.{List, [], _∷_}
-use lib.Dec.{eqb, lit≤}
-use lib.ListN.{length}
-use lib.Seq.{length-take-le}
-use native.Mathlib.Omega.{arith}
+use Rattle.basics.proofs.Basics.{_≡_, refl, sym, true, Bool, _&&_, not, List, [], _∷_, _≤_, ℕ, _+_, arith, eqb, lit≤}
+use Rattle.basics.proofs.Basics.{length, length-take-le}
 use Rattle.line_values.specs.Pinned.Words.{isSame}
 use Rattle.line_fields.specs.Between.Shapes.{mostFields, sortsFrom, sortsOf}
 use Rattle.line_fields.proofs.FieldTexts.{widths}

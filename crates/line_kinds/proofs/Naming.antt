@@ -1,16 +1,11 @@
 -- Which kind a word names: only a kind with that very word, so only one of its length.
-use Prim.Native.Nat.{ℕ}
-use mathlib.Core.Path.{_≡_, refl, sym, ap, _∙_}
-use mathlib.Core.Bool.{Bool, true, false, cond}
-use mathlib.Core.List.{List, [], _∷_}
-use lib.Dec.{eqb}
-use lib.ListN.{length}
-use borrow.Author.Tests.{eqb-false, ne-eqb}
+use Rattle.basics.proofs.Basics.{_≡_, refl, sym, _∙_, ap, true, false, Bool, cond, List, [], _∷_, ℕ, eqb, length}
+use Rattle.basics.proofs.Basics.{ne-eqb, eqb-false}
 use Rattle.line_values.specs.Pinned.Words.{isSame}
 use Rattle.line_values.proofs.Steps.{other-length, same-words}
 use Rattle.line_kinds.specs.declared.{Kind.Kind}
-use Rattle.line_kinds.specs.Kinds.{word}
-use Rattle.line_kinds.specs.Pinned.Naming.{kinds, ofLength, kindIn, kindNamed}
+use Rattle.line_kinds.specs.Kinds.{kinds, word}
+use Rattle.line_kinds.specs.Pinned.Naming.{ofLength, kindIn, kindNamed}
 
 -- only the kinds whose word is as long are left
 pub kind-of-length : (n : ℕ) (ks : List Kind) (w : List ℕ) → length w ≡ n → kindIn ks w ≡ kindIn (ofLength n ks) w

@@ -1,11 +1,17 @@
 -- 01, Message lines: the kinds of lines, one row for each. Definitions only.
 use Prim.Native.Nat.{ℕ, _-_}
-use mathlib.Core.List.{List, _++_}
+use mathlib.Core.List.{List, [], _∷_, _++_}
 use lib.ListN.{length, take, replicate}
 use Rattle.line_text.specs.Ascii.{ascii}
 use Rattle.line_fields.specs.declared.{Shape.Shape}
 use Rattle.line_fields.specs.Between.Shapes.{shape}
 use Rattle.line_kinds.specs.declared.{KindRow.KindRow, Kind.Kind}
+
+-- The kinds that a line can have.
+abbrev pub kinds : List Kind
+kinds =
+    Kind.Set ∷ Kind.Ctr ∷ Kind.Def ∷ Kind.Enr ∷ Kind.Demmespc ∷ Kind.I ∷ Kind.Demcf ∷ Kind.Adc ∷ Kind.Ri ∷ Kind.Cdt ∷
+    Kind.Demmhs ∷ Kind.Sus ∷ Kind.Jour ∷ []
 
 -- A row as the code holds it: a word in eight bytes, how long it is, and the fields behind it: how many, and which of
 -- them is a date beside today, the first; 0 where none is.

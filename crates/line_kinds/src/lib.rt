@@ -7,8 +7,8 @@ ghost use mathlib.Core.Path.{_≡_};
 ghost use mathlib.Core.Bool.{cond};
 ghost use Rattle.line_text.specs.Between.Appending.{Appended};
 ghost use Rattle.line_values.specs.Pinned.Words.{isSame};
-ghost use Rattle.line_kinds.specs.Kinds.{kindRow, rowOf, word as Kinds·word};
-ghost use Rattle.line_kinds.specs.Pinned.Naming.{kinds, ofLength, kindIn, kindNamed};
+ghost use Rattle.line_kinds.specs.Kinds.{kinds, kindRow, rowOf, word as Kinds·word};
+ghost use Rattle.line_kinds.specs.Pinned.Naming.{ofLength, kindIn, kindNamed};
 
 // The kind of a line, named by the word it begins with; Unknown is printed for a line that is unreadable.
 pub enum Kind {

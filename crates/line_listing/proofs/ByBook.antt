@@ -1,14 +1,7 @@
 -- The closing lines of a register after any list of calls are the day book's. The statement is specs/ByBook.antt.
-use Prim.Native.Nat.{ℕ, zero, suc, _+_, _-_, _≤_, _<_}
-use mathlib.Core.Path.{_≡_, refl, ap, ap₂, _∙_}
-use mathlib.Core.Bool.{Bool, true, false}
-use mathlib.Core.List.{List, [], _∷_, _++_, append-assoc, append-nil}
-use native.Mathlib.Omega.{arith}
-use native.Mathlib.Numerals.{add-one}
-use native.Mathlib.Nat.{add-zero}
-use borrow.Author.Tests.{le-ltb}
-use lib.ListN.{length, take, getD}
-use lib.Seq.{take-suc}
+use Rattle.basics.proofs.Basics.{_≡_, refl, _∙_, ap, ap₂, true, List, [], _∷_, _++_, append-assoc, append-nil, _≤_, ℕ}
+use Rattle.basics.proofs.Basics.{_-_, _+_, _<_, suc, zero, add-zero, add-one, arith, length, take, getD, take-suc}
+use Rattle.basics.proofs.Basics.{le-ltb, cases}
 use Rattle.rules.specs.declared.{Period.Period, Point.Point, Register.Register, Opening.Opening, Call.Call}
 use Rattle.rules.specs.Answers.{isAccepted}
 use Rattle.rules.specs.Rejections.{openingAnswer}
@@ -39,19 +32,9 @@ lines-first p (suc n) ps le =
 point-told : (r : Register) (p : ℕ) → 1 ≤ p → p ≤ 32 → Sized (pointAt p (r .points) .history)
     → pointLines p (pointAt p (r .points)) ≡ withTotal p (periodsOf (pointAt p (r .points))) (advanceTold (advanceAnswer r p))
 unfolding pointLines advanceAnswer
-point-told r p lo hi z = go (pointAt p (r .points) .fields .enrolled) refl
-  where
-    go : (b : Bool) → pointAt p (r .points) .fields .enrolled ≡ b
-        → pointLines p (pointAt p (r .points)) ≡ withTotal p (periodsOf (pointAt p (r .points))) (advanceTold (advanceAnswer r p))
-    go true e = rw (
-      le-ltb p 1 lo,
-      le-ltb 32 p hi,
-      e,
-      used-count (pointAt p (r .points) .history) z,
-      lines-first p (pointAt p (r .points) .history .count) (pointAt p (r .points) .history .periods)
-          (omega (arith, z .slots, z .some)),
-    )
-    go false e = rw (le-ltb p 1 lo, le-ltb 32 p hi, e)
+point-told r p lo hi z = let h = pointAt p (r .points) .history in
+    let first = lines-first p (h .count) (h .periods) (omega (arith, z .slots, z .some)) in
+    rw (le-ltb p 1 lo, le-ltb 32 p hi) (cases (pointAt p (r .points) .fields .enrolled) (λ e. rw (e, used-count h z, first)) (λ e. rw e))
 
 -- points one behind the other
 rising-told : (f : ℕ → List ℕ) (gs : List Point) (p : ℕ) → ((i : ℕ) → i < length gs → pointLines (p + i) (getD gs i noPoint) ≡ f (p + i))

@@ -1,10 +1,5 @@
 -- The lines of a point's periods, one turn of the loop over them, and a bound on their length.
-use Prim.Native.Nat.{ℕ, _+_, _≤_, _<_, _^_}
-use mathlib.Core.Path.{_≡_, refl}
-use mathlib.Core.List.{List, [], _++_}
-use native.Mathlib.Omega.{arith}
-use native.Mathlib.Numerals.{add-one}
-use lib.ListN.{length, getD}
+use Rattle.basics.proofs.Basics.{_≡_, refl, List, [], _++_, _≤_, ℕ, _+_, _<_, _^_, add-one, arith, length, getD}
 use Rattle.rules.specs.declared.{Period.Period}
 use Rattle.rules.specs.Pinned.Register.{noPeriod}
 use Rattle.line_answers.specs.Answers.{periodLine}

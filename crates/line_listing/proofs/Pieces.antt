@@ -1,11 +1,6 @@
 -- The pieces of the closing lines, joined, are the whole listing.
-use Prim.Native.Nat.{ℕ, zero, suc, _+_, _≤_, _<_}
-use mathlib.Core.Path.{_≡_, refl, sym, ap, _∙_}
-use mathlib.Core.List.{List, [], _∷_, _++_, append-assoc, append-nil}
-use native.Mathlib.Omega.{arith}
-use native.Mathlib.Nat.{add-zero}
-use lib.ListN.{length, take, drop}
-use lib.Seq.{drop-length, drop-drop}
+use Rattle.basics.proofs.Basics.{_≡_, refl, sym, _∙_, ap, List, [], _∷_, _++_, append-assoc, append-nil, _≤_, ℕ, _+_}
+use Rattle.basics.proofs.Basics.{_<_, suc, zero, add-zero, arith, length, drop, take, drop-drop, drop-length}
 use Rattle.rules.specs.declared.{Point.Point, Register.Register}
 use Rattle.line_listing.specs.Pinned.Listing.{pointLines, listingFrom, listing}
 use Rattle.line_listing.specs.Pinned.Pieces.{taken, piece}

@@ -1,11 +1,6 @@
 -- The lines of points one behind the other, one turn of the loop over them.
-use Prim.Native.Nat.{ℕ, zero, suc, _+_, _*_}
-use mathlib.Core.Path.{_≡_, refl, ap, _∙_}
-use mathlib.Core.List.{List, [], _∷_, _++_, append-assoc, append-nil}
-use native.Mathlib.Omega.{arith}
-use native.Mathlib.Nat.{add-zero}
-use native.Mathlib.Numerals.{add-one}
-use lib.ListN.{length, take, drop, getD}
+use Rattle.basics.proofs.Basics.{_≡_, refl, _∙_, ap, List, [], _∷_, _++_, append-assoc, append-nil, ℕ, _+_, suc, zero}
+use Rattle.basics.proofs.Basics.{_*_, add-zero, add-one, arith, length, drop, take, getD}
 use Rattle.rules.specs.declared.{Point.Point, Register.Register}
 use Rattle.rules.specs.Pinned.Register.{noPoint}
 use Rattle.line_text.specs.Between.Appending.{AppendedWithin}

@@ -1,11 +1,6 @@
 -- What a line says, from what its parts say.
-use Prim.Native.Nat.{ℕ, _-_, _<_, _≤_}
-use mathlib.Core.Path.{_≡_, sym, ap, _∙_}
-use mathlib.Core.Bool.{true, false, cond}
-use mathlib.Core.List.{List, []}
-use borrow.Author.Tests.{le-leb}
-use lib.ListN.{length, take, drop, drop-of-length-le}
-use lib.Seq.{drop-cons}
+use Rattle.basics.proofs.Basics.{_≡_, sym, _∙_, ap, true, false, cond, List, [], _≤_, ℕ, _-_, _<_, length, drop, take}
+use Rattle.basics.proofs.Basics.{drop-of-length-le, drop-cons, le-leb}
 use Rattle.line_text.specs.Longest.{longestLine}
 use Rattle.line_fields.specs.declared.{KnownDate.KnownDate, LineFields.LineFields}
 use Rattle.line_fields.specs.Between.Known.{IsKnown}

@@ -1,28 +1,22 @@
 -- Each call and each opening has one line, and each line at most one meaning: the statement `OneLine`, proved.
-use Prim.Native.Nat.{ℕ, _-_, _≤_}
-use mathlib.Core.Path.{_≡_, refl, sym, ap, _∙_}
-use mathlib.Core.Bool.{Bool, true, false, cond}
-use mathlib.Core.List.{List, [], _∷_, _++_, append-nil}
-use native.Mathlib.Omega.{arith}
-use lib.Dec.{leb}
-use lib.ListN.{length, take, drop, length-append, take-append-drop}
-use lib.Seq.{take-at, drop-at}
-use borrow.Author.Tests.{le-leb}
+use Rattle.basics.proofs.Basics.{_≡_, refl, sym, _∙_, ap, true, List, [], _∷_, _++_, append-nil, _≤_, ℕ, _-_, arith}
+use Rattle.basics.proofs.Basics.{leb, length, drop, take, length-append, take-append-drop, take-at, drop-at, le-leb}
+use Rattle.basics.proofs.Basics.{cases}
 use Rattle.line_text.specs.Longest.{longestLine}
 use Rattle.line_fields.specs.Fields.{fieldsText, fitAll}
 use Rattle.line_fields.specs.Between.Shapes.{mostFields, sortsOf, fieldsAs, sortsIn, valuesIn}
 use Rattle.line_fields.specs.Pinned.Reading.{AllParsed, values, unread, fieldsOf}
 use Rattle.line_fields.proofs.FieldTexts.{fields-back, FieldsAre, fields-only, fields-short, sorts-as, fields-of-values, fields-zeros}
 use Rattle.line_kinds.specs.declared.{Kind.Kind}
-use Rattle.line_kinds.specs.Kinds.{word, shapeOf}
-use Rattle.line_kinds.specs.Pinned.Naming.{kinds, kindNamed}
+use Rattle.line_kinds.specs.Kinds.{kinds, word, shapeOf}
+use Rattle.line_kinds.specs.Pinned.Naming.{kindNamed}
 use Rattle.line_kinds.proofs.KindTable.{sound}
 use Rattle.line_kinds.proofs.Naming.{NamedBy, named, unnamed, found}
 use Rattle.line_messages.specs.declared.{Message.Message}
 use Rattle.line_messages.specs.Lines.{Said, said, line, kindOf, lineOf}
 use Rattle.line_messages.specs.Writing.{isWritable, textOf}
 use Rattle.line_messages.specs.Pinned.Messages.{messageOf}
-use Rattle.line_messages.specs.Pinned.Reading.{wordEnd, messageWith, messageAs, readLine}
+use Rattle.line_messages.specs.Pinned.Reading.{wordEnd, messageWith, readLine}
 use Rattle.line_messages.specs.Between.Values.{valuesOf}
 use Rattle.line_messages.specs.OneLine.{OneLine}
 use Rattle.line_messages.proofs.Saying.{says, said-back}
@@ -89,22 +83,18 @@ module _ (t F : List ℕ) (k : Kind) (vs : List ℕ) (e : t ≡ word k ++ F) (f 
 -- a line that is read as a message that is not Unreadable is that message's line
 line-was : (l : List ℕ) (m : Message) → readLine l ≡ m → (m ≡ Message.Unreadable → ⊥) → (l ≡ lineOf m) × (isWritable m ≡ true)
 unfolding readLine
-line-was l m e n = long (leb (length l) longestLine) e where
-  kind : (k : Kind) → NamedBy (take (wordEnd l) l) k → (x : AllParsed) →
-      fieldsOf (sortsOf (shapeOf k)) [] (drop (wordEnd l) l) ≡ x →
-      messageWith k x ≡ m → (l ≡ lineOf m) × (isWritable m ≡ true)
-  kind k f unread p w = absurd (n (sym w))
-  kind k f (values vs (c ∷ r)) p w = absurd (n (sym w))
-  kind k unnamed (values vs []) p w = absurd (n (sym w))
-  kind k (named q) (values vs []) p w =
-      let whole = sym (take-append-drop (wordEnd l) l) ∙ ap (λ (x : List ℕ). x ++ drop (wordEnd l) l) q in
-      let own = line-is l (drop (wordEnd l) l) k vs whole (fields-only (sortsOf (shapeOf k)) [] (drop (wordEnd l) l) vs [] p) in
-      (own .0 ∙ ap lineOf w, writable-is m n ∙ ap (λ (x : Message). fitAll (said x .fields)) (sym w) ∙ own .1)
-
-  long : (b : Bool) → cond b (messageAs (kindNamed (take (wordEnd l) l)) (drop (wordEnd l) l)) Message.Unreadable ≡ m →
-      (l ≡ lineOf m) × (isWritable m ≡ true)
-  long true w = kind (kindNamed (take (wordEnd l) l)) (found kinds (take (wordEnd l) l)) _ refl w
-  long false w = absurd (n (sym w))
+line-was l m e n = cases (leb (length l) longestLine)
+    (λ q. kind (kindNamed (take (wordEnd l) l)) (found kinds (take (wordEnd l) l)) _ refl (rw q at e)) (λ q. absurd (n (sym (rw q at e)))) where
+      kind : (k : Kind) → NamedBy (take (wordEnd l) l) k → (x : AllParsed) →
+          fieldsOf (sortsOf (shapeOf k)) [] (drop (wordEnd l) l) ≡ x →
+          messageWith k x ≡ m → (l ≡ lineOf m) × (isWritable m ≡ true)
+      kind k f unread p w = absurd (n (sym w))
+      kind k f (values vs (c ∷ r)) p w = absurd (n (sym w))
+      kind k unnamed (values vs []) p w = absurd (n (sym w))
+      kind k (named q) (values vs []) p w =
+          let whole = sym (take-append-drop (wordEnd l) l) ∙ ap (λ (x : List ℕ). x ++ drop (wordEnd l) l) q in
+          let own = line-is l (drop (wordEnd l) l) k vs whole (fields-only (sortsOf (shapeOf k)) [] (drop (wordEnd l) l) vs [] p) in
+          (own .0 ∙ ap lineOf w, writable-is m n ∙ ap (λ (x : Message). fitAll (said x .fields)) (sym w) ∙ own .1)
 
 -- a writable message
 module _ (m : Message) (fit : isWritable m ≡ true) where
@@ -120,10 +110,7 @@ text-was l m e n = let w = line-was l m e n in (w .0 ∙ sym (its-text m (w .1))
 
 pub text-short : (m : Message) → length (textOf m) ≤ 90
 unfolding textOf
-text-short m = go (isWritable m) refl where
-  go : (b : Bool) → isWritable m ≡ b → length (cond b (lineOf m) []) ≤ 90
-  go true e = line-short m (writable-fit m e)
-  go false e = omega arith
+text-short m = cases (isWritable m) (λ e. rw e (line-short m (writable-fit m e))) (λ e. rw e (omega arith))
 
 others : (l : List ℕ) → ((m : Message) → isWritable m ≡ true → l ≡ textOf m → ⊥) → readLine l ≡ Message.Unreadable
 others l never = go (readLine l) refl where

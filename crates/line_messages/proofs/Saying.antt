@@ -1,8 +1,5 @@
 -- What messages say and what kinds with values say are inverse: kind by kind, and call by call.
-use Prim.Native.Nat.{ℕ}
-use mathlib.Core.Path.{_≡_, refl, ap, fun-ext}
-use mathlib.Core.List.{List, _++_}
-use lib.ListN.{replicate}
+use Rattle.basics.proofs.Basics.{_≡_, refl, ap, fun-ext, List, _++_, ℕ, replicate}
 use Rattle.rules.specs.declared.{Action.Action, PointAction.PointAction}
 use Rattle.line_fields.specs.Between.Shapes.{fieldsFrom, fieldsAs, valuesIn}
 use Rattle.line_fields.proofs.FieldTexts.{getD-zeros}

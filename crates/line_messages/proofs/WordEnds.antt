@@ -1,14 +1,7 @@
 -- Where the first word of a line ends.
-use Prim.Native.Nat.{ℕ, suc, _+_, _<_, _≤_}
-use mathlib.Core.Path.{_≡_, refl, ap}
-use mathlib.Core.Bool.{Bool, true, false, cond, not, _&&_}
-use mathlib.Core.List.{List, [], _∷_, _++_}
-use native.Mathlib.Omega.{arith}
-use lib.Dec.{eqb}
-use native.Mathlib.Numerals.{add-one}
-use lib.ListN.{length, drop, getD, drop-of-length-le}
-use lib.Seq.{drop-cons}
-use borrow.Author.Tests.{eq-eqb, ne-eqb}
+use Rattle.basics.proofs.Basics.{_≡_, refl, true, not, and-eq-true-iff, List, [], _∷_, _++_, _≤_, ℕ, _+_, _<_, suc}
+use Rattle.basics.proofs.Basics.{add-one, eqb, length, drop, getD, drop-of-length-le, drop-cons, ne-eqb, eq-eqb}
+use Rattle.basics.proofs.Basics.{not-true}
 use Rattle.line_fields.specs.declared.{Sort.Sort}
 use Rattle.line_fields.specs.Fields.{Field, fieldText, fieldsText}
 use Rattle.line_kinds.proofs.KindTable.{lacks}
@@ -31,16 +24,11 @@ module _ (l : List ℕ) (i : ℕ) where
 pub fields-begin : (fs : List Field) → wordEnd (fieldsText fs) ≡ 0
 unfolding wordEnd
 fields-begin [] = refl
-fields-begin (f ∷ fs) = go (f .sort) where
-  go : (k : Sort) → wordEnd (fieldText k (f .value) (fieldsText fs)) ≡ 0
-  go Sort.Date = refl
-  go Sort.Number = refl
+fields-begin (f ∷ fs) =
+    elim (f .sort) as (λ k. wordEnd (fieldText k (f .value) (fieldsText fs)) ≡ 0) [ Sort.Date ↦ refl | Sort.Number ↦ refl ]
 
 pub word-ends : (w t : List ℕ) → lacks 59 w ≡ true → wordEnd t ≡ 0 → wordEnd (w ++ t) ≡ length w
 unfolding wordEnd
 word-ends [] t h e = e
-word-ends (c ∷ w) t h e = go (λ q. word-ends w t q e) (eqb c 59) h where
-  go : (lacks 59 w ≡ true → wordEnd (w ++ t) ≡ length w) → (b : Bool) → (not b && lacks 59 w) ≡ true →
-      cond b 0 (suc (wordEnd (w ++ t))) ≡ suc (length w)
-  go ih true q = absurd (let z : _≡_ {A = ℕ} 0 1 = cc in omega arith)
-  go ih false q = ap suc (ih q)
+word-ends (c ∷ w) t h e = let (other, rest) = and-eq-true-iff (not (eqb c 59)) (lacks 59 w) .0 h in
+    rw (not-true (eqb c 59) other, word-ends w t rest e)

@@ -1,11 +1,6 @@
 -- What is handed back: behind the buffer's end, by the fields, and by the line's end.
-use Prim.Native.Nat.{ℕ, _+_, _-_, _<_, _≤_}
-use mathlib.Core.Path.{_≡_, refl, sym, ap, ap₂, _∙_}
-use mathlib.Core.Bool.{Bool, true, false, _&&_}
-use mathlib.Core.List.{List, []}
-use native.Mathlib.Omega.{arith}
-use lib.ListN.{length, take, drop, length-drop, drop-of-length-le}
-use lib.Seq.{drop-drop}
+use Rattle.basics.proofs.Basics.{_≡_, refl, sym, _∙_, ap, ap₂, true, false, Bool, _&&_, List, [], _≤_, ℕ, _-_, _+_, _<_}
+use Rattle.basics.proofs.Basics.{arith, length, drop, take, length-drop, drop-of-length-le, drop-drop}
 use Rattle.line_values.specs.Pinned.Words.{isSame}
 use Rattle.line_values.proofs.Places.{ends-short}
 use Rattle.line_fields.specs.Between.Shapes.{mostFields, sortsFrom}

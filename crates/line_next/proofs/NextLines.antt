@@ -1,14 +1,8 @@
 -- The next line, read where it stands: a kind's word, its fields and then a line feed are the line of its message.
-use Prim.Native.Nat.{ℕ, suc, _+_, _-_, _<_, _≤_}
-use mathlib.Core.Path.{_≡_, refl, sym, ap, ap₂, _∙_}
-use mathlib.Core.Bool.{Bool, true, false, cond, _&&_}
-use mathlib.Core.List.{List, [], _∷_, _++_, append-assoc, append-nil}
-use native.Mathlib.Omega.{arith}
-use native.Mathlib.Numerals.{add-one}
-use lib.Dec.{leb, eqb}
-use lib.ListN.{length, take, drop, getD, length-append, length-drop, take-append-drop, drop-of-length-le}
-use lib.Seq.{drop-cons, take-at, take-length}
-use borrow.Author.Tests.{eqb-true, eq-eqb, ne-eqb}
+use Rattle.basics.proofs.Basics.{_≡_, refl, sym, _∙_, ap, ap₂, true, false, Bool, cond, List, [], _∷_, _++_}
+use Rattle.basics.proofs.Basics.{append-assoc, append-nil, _≤_, ℕ, _+_, _<_, suc, add-one, arith, eqb, leb, length}
+use Rattle.basics.proofs.Basics.{drop, take, getD, length-append, length-drop, drop-of-length-le, take-append-drop}
+use Rattle.basics.proofs.Basics.{drop-cons, take-at, take-length, ne-eqb, eq-eqb, eqb-true, cases}
 use Rattle.line_values.specs.Pinned.Words.{isSame}
 use Rattle.line_fields.specs.Pinned.Reading.{values, unread, fieldsOf}
 use Rattle.line_fields.specs.Fields.{fieldsText}
@@ -20,8 +14,8 @@ use Rattle.line_fields.proofs.FieldSteps.{fields-are}
 use Rattle.line_fields.proofs.FieldTexts.{FieldsAre, fields-only}
 use Rattle.line_fields.proofs.KnownStays.{known-stays}
 use Rattle.line_kinds.specs.declared.{Kind.Kind}
-use Rattle.line_kinds.specs.Kinds.{word, shapeOf}
-use Rattle.line_kinds.specs.Pinned.Naming.{kinds, kindIn, kindNamed}
+use Rattle.line_kinds.specs.Kinds.{kinds, word, shapeOf}
+use Rattle.line_kinds.specs.Pinned.Naming.{kindIn, kindNamed}
 use Rattle.line_kinds.proofs.KindTable.{sound}
 use Rattle.line_kinds.proofs.Naming.{NamedBy, named, unnamed, found}
 use Rattle.input_lines.specs.Between.Feeds.{untilFeed}
@@ -31,7 +25,7 @@ use Rattle.line_messages.specs.Pinned.Messages.{messageOf}
 use Rattle.line_messages.specs.Pinned.Reading.{wordEnd, readLine}
 use Rattle.line_messages.proofs.OneLine.{line-is, line-back}
 use Rattle.line_next.specs.declared.{NextLine.NextLine}
-use Rattle.line_next.specs.Between.NextLine.{firstLine, feedFirst, stopAt, firstKind, firstFields, taken, takenBy, nextLine, IsNext, NextIsLine}
+use Rattle.line_next.specs.Between.NextLine.{firstLine, feedFirst, stopAt, firstKind, firstFields, takenBy, nextLine, IsNext, NextIsLine}
 use Rattle.line_next.proofs.PlainTexts.{Plain, plain-end, plain-append, plain-fields, plain-word}
 
 -- one step of looking for the end of a word, and of a line
@@ -64,26 +58,17 @@ feed-at l i h = rw (drop-cons l i 0 h)
 word-is-line : (l : List ℕ) → feedFirst (drop (stopAt l) l) ≡ true → untilFeed l ≡ stopAt l
 unfolding stopAt untilFeed
 word-is-line [] e = refl
-word-is-line (c ∷ l) e = go (word-is-line l) (eqb c 59) (eqb c 10) refl refl e where
-  go : (feedFirst (drop (stopAt l) l) ≡ true → untilFeed l ≡ stopAt l) → (a b : Bool) → eqb c 59 ≡ a → eqb c 10 ≡ b →
-      feedFirst (drop (cond a 0 (cond b 0 (suc (stopAt l)))) (c ∷ l)) ≡ true →
-      cond b 0 (suc (untilFeed l)) ≡ cond a 0 (cond b 0 (suc (stopAt l)))
-  go ih true true p q e = refl
-  go ih false true p q e = refl
-  go ih true false p q e = absurd (let f : eqb c 10 ≡ true = e in let z : _≡_ {A = ℕ} 0 1 = cc in omega arith)
-  go ih false false p q e = ap suc (ih e)
+word-is-line (c ∷ l) e = cases (eqb c 59)
+    (λ p. cases (eqb c 10) (λ q. rw (p, q))
+    (λ q. absurd (let f : eqb c 10 ≡ true = rw p at e in let z : _≡_ {A = ℕ} 0 1 = cc in omega arith)))
+    (λ p. cases (eqb c 10) (λ q. rw (p, q)) (λ q. rw (p, q, word-is-line l (rw (p, q) at e))))
 
 -- and it has no `;`
 word-whole : (l : List ℕ) → wordEnd (take (stopAt l) l) ≡ length (take (stopAt l) l)
 unfolding stopAt wordEnd
 word-whole [] = refl
-word-whole (c ∷ l) = go (word-whole l) (eqb c 59) (eqb c 10) refl where
-  go : wordEnd (take (stopAt l) l) ≡ length (take (stopAt l) l) → (a b : Bool) → eqb c 59 ≡ a →
-      wordEnd (take (cond a 0 (cond b 0 (suc (stopAt l)))) (c ∷ l)) ≡
-      length (take (cond a 0 (cond b 0 (suc (stopAt l)))) (c ∷ l))
-  go ih true b p = refl
-  go ih false true p = refl
-  go ih false false p = rw p (ap suc ih)
+word-whole (c ∷ l) = cases (eqb c 59) (λ p. rw p)
+    (λ p. cases (eqb c 10) (λ q. rw (p, q)) (λ q. rw (p, q, p) (ap suc (word-whole l))))
 
 -- a text of one line, its line feed, and more
 first-line : (t r l : List ℕ) → Plain t → l ≡ t ++ r → feedFirst r ≡ true →
@@ -96,16 +81,12 @@ first-line t (c ∷ r) l p e h = let ten : c ≡ 10 = eqb-true c 10 h in
 -- a word that names no kind is no line
 no-line : (w : List ℕ) → wordEnd w ≡ length w → kindNamed w ≡ Kind.Unknown → readLine w ≡ Message.Unreadable
 unfolding readLine fieldsOf sortsFrom
-no-line w e u = rw (name, rest) (go (leb (length w) 96)) where
+no-line w e u = rw (name, rest) (cases (leb (length w) 96) (λ q. rw q) (λ q. rw q)) where
   name : kindNamed (take (wordEnd w) w) ≡ Kind.Unknown
   name = rw (e, take-length w) u
 
   rest : drop (wordEnd w) w ≡ []
   rest = let all : length w ≤ length w = omega arith in rw e (drop-of-length-le w all)
-
-  go : (b : Bool) → cond b Message.Unreadable Message.Unreadable ≡ Message.Unreadable
-  go true = refl
-  go false = refl
 
 feed-some : (r : List ℕ) → feedFirst r ≡ true → 0 < length r
 feed-some [] h = absurd (let z : _≡_ {A = ℕ} 0 1 = cc in omega arith)
@@ -153,15 +134,12 @@ module _ (k : KnownDate) (buf : List ℕ) (from : ℕ) (right : IsKnown k) where
       ap (λ (b : Bool). cond b (values (x .read) (x .rest)) unread) e
 
   pub next-is : IsNext buf from (takenBy from text x)
-  next-is = go (x .ok) (feedFirst (x .rest)) refl refl where
-    go : (a b : Bool) → x .ok ≡ a → feedFirst (x .rest) ≡ b →
-        IsNext buf from (cond (a && b) (taken (messageOf (firstKind text) (x .read)) (from + (length text - length (x .rest))) (x .known))
-        (taken (readLine (firstLine text)) (from + untilFeed text) (x .known)))
-    go true true p q =
-        let w = fields-line text (stopAt text) (x .read) (x .rest) refl q (firstKind text) (found kinds (take (stopAt text) text)) refl (fields-of p) in
-        record { read = ap lineMessage (sym (w .0)); end = ap (λ (n : ℕ). from + n) (omega arith); known = is-known }
-    go true false p q = record { read = refl; end = refl; known = is-known }
-    go false b p q = record { read = refl; end = refl; known = is-known }
+  next-is = cases (x .ok)
+      (λ p. cases (feedFirst (x .rest))
+      (λ q. let w = fields-line text (stopAt text) (x .read) (x .rest) refl q (firstKind text) (found kinds (take (stopAt text) text)) refl (fields-of p) in
+      rw (p, q) (record { read = ap lineMessage (sym (w .0)); end = ap (λ (n : ℕ). from + n) (omega arith); known = is-known }))
+      (λ q. rw (p, q) (record { read = refl; end = refl; known = is-known })))
+      (λ p. rw p (record { read = refl; end = refl; known = is-known }))
 
 pub next-is-line : NextIsLine
 unfolding nextLine

@@ -1,14 +1,9 @@
 -- Texts put into a buffer one behind the other, and what a writer's contract says where there is room.
-use Prim.Native.Nat.{ℕ, zero, suc, _+_, _-_, _<_, _≤_}
-use mathlib.Core.Path.{_≡_, refl, sym, ap, _∙_}
-use mathlib.Core.Bool.{Bool, true, false, cond}
-use mathlib.Core.List.{List, [], _++_, append-assoc}
-use native.Mathlib.Omega.{arith}
-use native.Mathlib.Nat.{add-zero, zero-add, add-assoc}
-use borrow.Author.Tests.{le-leb, lt-leb, leb-true, leb-false}
-use lib.Dec.{leb}
-use lib.ListN.{length, take, drop, replicate, length-append, length-replicate, take-append-drop}
-use lib.Seq.{take-at, drop-at, length-take-le, drop-drop, take-length, sets, sets-eq, length-sets, paste}
+use Rattle.basics.proofs.Basics.{_≡_, refl, sym, _∙_, ap, List, [], _++_, append-assoc, _≤_, ℕ, _-_, _+_, _<_, suc}
+use Rattle.basics.proofs.Basics.{zero, add-zero, zero-add, add-assoc, arith, leb, length, drop, take, length-append}
+use Rattle.basics.proofs.Basics.{replicate, take-append-drop, length-replicate, length-take-le, drop-drop, take-at}
+use Rattle.basics.proofs.Basics.{drop-at, paste, take-length, sets, sets-eq, length-sets, le-leb, lt-leb, leb-true}
+use Rattle.basics.proofs.Basics.{leb-false, cases}
 use Rattle.line_text.specs.Between.Appending.{put, Appended}
 
 -- putting a text is storing its bytes
@@ -24,56 +19,40 @@ unfolding put
 put-none at o = rw (add-zero at) (take-append-drop at o)
 
 module _ (at : ℕ) (t o : List ℕ) (h : at + length t ≤ length o) where
-  before-length : length (take at o) ≡ at
-  before-length = length-take-le at o (omega arith)
+  front-length : length (take at o ++ t) ≡ at + length t
+  front-length = rw (length-append, length-take-le at o (omega arith))
 
   -- what is behind a text, and what is before its end
   pub put-drop : drop (at + length t) (put at t o) ≡ drop (at + length t) o
   unfolding put
-  put-drop = let e : length (take at o ++ t) ≡ at + length t = rw (length-append, before-length) in
-      rw (← (append-assoc (take at o) t (drop (at + length t) o)))
-      (drop-at (take at o ++ t) (drop (at + length t) o) (at + length t) e)
+  put-drop = rw (← append-assoc (take at o) t (drop (at + length t) o)) (drop-at (take at o ++ t) _ (at + length t) front-length)
 
   pub put-take : take (at + length t) (put at t o) ≡ take at o ++ t
   unfolding put
-  put-take = let e : length (take at o ++ t) ≡ at + length t = rw (length-append, before-length) in
-      rw (← (append-assoc (take at o) t (drop (at + length t) o)))
-      (take-at (take at o ++ t) (drop (at + length t) o) (at + length t) e)
+  put-take = rw (← append-assoc (take at o) t (drop (at + length t) o)) (take-at (take at o ++ t) _ (at + length t) front-length)
 
 -- two texts, one behind the other, are one
 pub put-append : (at : ℕ) (t u o : List ℕ) → at + length t ≤ length o → put (at + length t) u (put at t o) ≡ put at (t ++ u) o
 unfolding put
 put-append at t u o h = let far : drop (at + length t + length u) (put at t o) ≡ drop (at + length (t ++ u)) o =
-    sym (drop-drop (length u) (at + length t) (put at t o)) ∙ ap (drop (length u)) (put-drop at t o h) ∙
-    drop-drop (length u) (at + length t) o ∙ rw (length-append, add-assoc)
-    in
+    rw (← drop-drop, put-drop at t o h, drop-drop, length-append, add-assoc) in
     rw (put-take at t o h, far, append-assoc, append-assoc)
 
 -- what a contract says where there is room, and where there is none
 module _ (at : ℕ) (t o o′ : List ℕ) (r : ℕ) (w : Appended at t o o′ r) where
   pub room-put : at + length t ≤ length o → (o′ ≡ put at t o) × (r ≡ at + length t)
-  room-put h = let e = le-leb (at + length t) (length o) h in
-      (w .bytes ∙ ap (λ (b : Bool). cond b (put at t o) o) e, w .end ∙ ap (λ (b : Bool). cond b (at + length t) at) e)
+  room-put h = let e = le-leb (at + length t) (length o) h in (rw e at (w .bytes), rw e at (w .end))
 
   pub no-room : length o < at + length t → (o′ ≡ o) × (r ≡ at)
-  no-room h = let e = lt-leb (at + length t) (length o) h in
-      (w .bytes ∙ ap (λ (b : Bool). cond b (put at t o) o) e, w .end ∙ ap (λ (b : Bool). cond b (at + length t) at) e)
+  no-room h = let e = lt-leb (at + length t) (length o) h in (rw e at (w .bytes), rw e at (w .end))
 
 -- and the other way round
 pub appended : (at : ℕ) (t o o′ : List ℕ) (r : ℕ) → at + length t ≤ length o → o′ ≡ put at t o → r ≡ at + length t →
     Appended at t o o′ r
-appended at t o o′ r h e f = let q = le-leb (at + length t) (length o) h in
-    record {
-      bytes = e ∙ sym (ap (λ (b : Bool). cond b (put at t o) o) q);
-      end = f ∙ sym (ap (λ (b : Bool). cond b (at + length t) at) q);
-    }
+appended at t o o′ r h e f = let q = le-leb (at + length t) (length o) h in record { bytes = rw q e; end = rw q f }
 
 pub not-appended : (at : ℕ) (t o : List ℕ) → length o < at + length t → Appended at t o o at
-not-appended at t o h = let q = lt-leb (at + length t) (length o) h in
-    record {
-      bytes = sym (ap (λ (b : Bool). cond b (put at t o) o) q);
-      end = sym (ap (λ (b : Bool). cond b (at + length t) at) q);
-    }
+not-appended at t o h = let q = lt-leb (at + length t) (length o) h in record { bytes = rw q; end = rw q }
 
 -- Of the text t, put at at into o, the part u is still to be put, at at′ into o′.
 pub record Rest (at : ℕ) (t o : List ℕ) (at′ : ℕ) (u o′ : List ℕ) : Type 0 where
@@ -130,10 +109,9 @@ zeros-put n t u o₁ o₂ a b h v w =
 -- what every writer keeps, and what stands before its next position
 module _ (at : ℕ) (t o o′ : List ℕ) (r : ℕ) (w : Appended at t o o′ r) where
   pub appended-length : length o′ ≡ length o
-  appended-length = go (leb (at + length t) (length o)) refl where
-    go : (b : Bool) → leb (at + length t) (length o) ≡ b → length o′ ≡ length o
-    go true e = ap length (room-put at t o o′ r w (leb-true _ _ e) .0) ∙ put-length at t o (leb-true _ _ e)
-    go false e = ap length (no-room at t o o′ r w (leb-false _ _ e) .0)
+  appended-length = cases (leb (at + length t) (length o))
+      (λ e. let h = leb-true _ _ e in rw (room-put at t o o′ r w h .0) (put-length at t o h))
+      (λ e. rw (no-room at t o o′ r w (leb-false _ _ e) .0))
 
   pub appended-take : at + length t ≤ length o → take r o′ ≡ take at o ++ t
   appended-take h = let p = room-put at t o o′ r w h in rw (p .0, p .1) (put-take at t o h)

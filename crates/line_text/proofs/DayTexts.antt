@@ -1,31 +1,21 @@
 -- The text of a day: what stands behind it, and its eight bytes.
-use Prim.Native.Nat.{ℕ}
-use mathlib.Core.Path.{_≡_, ap, _∙_}
-use mathlib.Core.List.{List, [], _++_}
-use lib.ListN.{length}
+use Rattle.basics.proofs.Basics.{_≡_, List, [], _++_, ℕ, length}
 use Rattle.dates.specs.declared.{Date.Date, DateAnswer.DateAnswer}
 use Rattle.dates.specs.Numbers.{dateAnswer}
-use Rattle.line_text.specs.Decimal.{fixed}
 use Rattle.line_text.specs.Days.{dateText, answerText, dayText}
 use Rattle.line_text.proofs.Fixed.{fixed-append, fixed-length}
 
 -- a day's text, on the calendar or off it, has eight bytes, whatever stands behind it
 date-append : (x : Date) (l : List ℕ) → dateText x l ≡ dateText x [] ++ l
-date-append x l = ap (λ (t : List ℕ). fixed 4 (x .year) (fixed 2 (x .month) t)) (fixed-append 2 (x .day) [] l) ∙
-    ap (fixed 4 (x .year)) (fixed-append 2 (x .month) (fixed 2 (x .day) []) l) ∙
-    fixed-append 4 (x .year) (fixed 2 (x .month) (fixed 2 (x .day) [])) l
+date-append x l = simp (← fixed-append)
 
 pub day-append : (n : ℕ) (l : List ℕ) → dayText n l ≡ dayText n [] ++ l
-day-append n l = go (dateAnswer n) where
-  go : (a : DateAnswer) → answerText a l ≡ answerText a [] ++ l
-  go (DateAnswer.On x) = date-append x l
-  go DateAnswer.OffCalendar = fixed-append 8 0 [] l
+day-append n l = elim (dateAnswer n) as (λ a. answerText a l ≡ answerText a [] ++ l)
+    [ DateAnswer.On x ↦ date-append x l | DateAnswer.OffCalendar ↦ fixed-append 8 0 [] l ]
 
 pub date-length : (x : Date) → length (dateText x []) ≡ 8
 date-length x = simp fixed-length
 
 pub day-length : (n : ℕ) → length (dayText n []) ≡ 8
-day-length n = go (dateAnswer n) where
-  go : (a : DateAnswer) → length (answerText a []) ≡ 8
-  go (DateAnswer.On x) = date-length x
-  go DateAnswer.OffCalendar = fixed-length 8 0 []
+day-length n = elim (dateAnswer n) as (λ a. length (answerText a []) ≡ 8)
+    [ DateAnswer.On x ↦ date-length x | DateAnswer.OffCalendar ↦ fixed-length 8 0 [] ]

@@ -1,10 +1,7 @@
 -- Writing digits: what holds on the way while the last digits of a number stand already, and a date's eight digits.
-use Prim.Native.Nat.{ℕ, suc, _+_, _-_, _/_, _%_, _^_, _<_, _≤_}
-use mathlib.Core.Path.{_≡_, sym, ap, _∙_}
-use mathlib.Core.List.{List, [], _∷_}
-use native.Mathlib.Omega.{arith}
-use lib.ListN.{length, take, drop, set, length-set}
-use lib.Seq.{drop-cons, getD-set-same, drop-set-lt, take-set-le, take-take, set-split}
+use Rattle.basics.proofs.Basics.{_≡_, sym, _∙_, ap, List, [], _∷_, _≤_, ℕ, _-_, _+_, _<_, suc, _^_, _/_, _%_}
+use Rattle.basics.proofs.Basics.{towards-suc, arith, length, drop, take, set, length-set, drop-cons, getD-set-same}
+use Rattle.basics.proofs.Basics.{drop-set-lt, take-set-le, take-take, set-split}
 use Rattle.dates.specs.declared.{Date.Date}
 use Rattle.line_text.specs.Decimal.{decimal, fixed}
 use Rattle.line_text.specs.Days.{dateText}
@@ -16,9 +13,7 @@ use Rattle.line_text.proofs.Appends.{put-sets}
 store-front : (l : List ℕ) (i a : ℕ) → 0 < i → i ≤ length l → drop (i - 1) (set l (i - 1) a) ≡ a ∷ drop i l
 store-front l i a p h = let q : i - 1 < length (set l (i - 1) a) = rw length-set (omega arith) in
     let t : i - 1 < length l = omega arith in let s : suc (i - 1) ≡ i = omega arith in
-    drop-cons (set l (i - 1) a) (i - 1) 0 q ∙
-    ap (λ (x : ℕ). x ∷ drop (suc (i - 1)) (set l (i - 1) a)) (getD-set-same l (i - 1) a 0 t) ∙
-    ap (_∷_ a) (rw s (drop-set-lt i l (i - 1) a (omega arith)))
+    rw (drop-cons (set l (i - 1) a) (i - 1) 0 q, getD-set-same l (i - 1) a 0 t, s, drop-set-lt i l (i - 1) a (omega arith))
 
 -- of n's digits, which begin at at, those of v are still to be written, up to i; o₀ is the buffer as it came
 pub record Left (n at : ℕ) (o₀ : List ℕ) (v i : ℕ) (o : List ℕ) : Type 0 where
@@ -70,11 +65,5 @@ module _ (x : Date) (y₁ y₂ y₃ y₄ m₁ m₂ d₁ d₂ : ℕ) where
       d₁ ≡ 48 + x .day / 10 % 10 → d₂ ≡ 48 + x .day % 10 → (at : ℕ) (o : List ℕ) → at + 8 ≤ length o →
       set (set (set (set (set (set (set (set o at y₁) (at + 1) y₂) (at + 2) y₃) (at + 3) y₄) (at + 4) m₁) (at + 5) m₂)
       (at + 6) d₁) (at + 7) d₂ ≡ put at (dateText x []) o
-  date-put hy₁ hy₂ hy₃ hy₄ hm₁ hm₂ hd₁ hd₂ at o h = let e1 : at + 1 ≡ suc at = omega arith in
-      let e2 : at + 2 ≡ suc (suc at) = omega arith in let e3 : at + 3 ≡ suc (suc (suc at)) = omega arith in
-      let e4 : at + 4 ≡ suc (suc (suc (suc at))) = omega arith in
-      let e5 : at + 5 ≡ suc (suc (suc (suc (suc at)))) = omega arith in
-      let e6 : at + 6 ≡ suc (suc (suc (suc (suc (suc at))))) = omega arith in
-      let e7 : at + 7 ≡ suc (suc (suc (suc (suc (suc (suc at)))))) = omega arith in
-      rw (e1, e2, e3, e4, e5, e6, e7, hy₁, hy₂, hy₃, hy₄, hm₁, hm₂, hd₁, hd₂, date-digits x)
+  date-put hy₁ hy₂ hy₃ hy₄ hm₁ hm₂ hd₁ hd₂ at o h = simp (towards-suc, hy₁, hy₂, hy₃, hy₄, hm₁, hm₂, hd₁, hd₂, date-digits x)
       (put-sets at (dateDigits (x .year) (x .month) (x .day)) o h)

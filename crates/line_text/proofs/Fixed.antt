@@ -1,10 +1,6 @@
 -- Texts of a fixed number of digits: what stands behind them, and how many they are.
-use Prim.Native.Nat.{ℕ, zero, suc, _+_, _/_, _%_}
-use mathlib.Core.Path.{_≡_, refl, sym, _∙_}
-use mathlib.Core.List.{List, _∷_, _++_}
-use native.Mathlib.Omega.{arith}
-use native.Mathlib.Nat.{zero-add}
-use lib.ListN.{length}
+use Rattle.basics.proofs.Basics.{_≡_, refl, sym, _∙_, List, _∷_, _++_, ℕ, _+_, suc, zero, _/_, _%_, zero-add, arith}
+use Rattle.basics.proofs.Basics.{length}
 use Rattle.line_text.specs.Decimal.{fixed}
 
 -- what stands behind the digits does not change them, and there are k of them

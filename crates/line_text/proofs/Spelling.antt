@@ -1,25 +1,14 @@
 -- The decimal text of a number, digit by digit: its last digit, its length, and what stands behind it.
-use Prim.Native.Nat.{ℕ, zero, suc, _+_, _-_, _/_, _%_, _^_, _<_, _≤_}
-use mathlib.Core.Path.{_≡_, refl, ap, _∙_}
-use mathlib.Core.Bool.{Bool, true, false, cond}
-use mathlib.Core.List.{List, [], _∷_, _++_, append-assoc}
-use native.Mathlib.Omega.{arith}
-use lib.Dec.{ltb}
-use lib.ListN.{length, length-append}
-use borrow.Author.Tests.{ltb-false, lt-ltb, le-ltb}
+use Rattle.basics.proofs.Basics.{_≡_, refl, ap, List, [], _∷_, _++_, append-assoc, _≤_, ℕ, _+_, _<_, suc, zero, _^_}
+use Rattle.basics.proofs.Basics.{_/_, _%_, arith, ltb, length, length-append, lt-ltb, le-ltb, ltb-false, cases}
 use Rattle.line_text.specs.Decimal.{spell, decimal}
 
 -- room for more digits than a number has changes nothing
 pub spell-room : (k n : ℕ) (l : List ℕ) → 0 < n → n < 10 ^ k → spell k n l ≡ spell (suc k) n l
 unfolding spell
 spell-room zero n l p h = absurd (omega arith)
-spell-room (suc k) n l p h = go (spell-room k (n / 10) ((48 + n % 10) ∷ l)) (ltb n 10) refl where
-  go : (0 < n / 10 → n / 10 < 10 ^ k → spell k (n / 10) ((48 + n % 10) ∷ l) ≡ spell (suc k) (n / 10) ((48 + n % 10) ∷ l)) →
-      (b : Bool) → ltb n 10 ≡ b →
-      cond b ((48 + n) ∷ l) (spell k (n / 10) ((48 + n % 10) ∷ l)) ≡
-      cond b ((48 + n) ∷ l) (spell (suc k) (n / 10) ((48 + n % 10) ∷ l))
-  go ih true e = refl
-  go ih false e = let q : 10 ≤ n = ltb-false n 10 e in ih (omega arith) (omega arith)
+spell-room (suc k) n l p h = cases (ltb n 10) (λ e. rw e)
+    (λ e. let q = ltb-false n 10 e in rw e (spell-room k (n / 10) ((48 + n % 10) ∷ l) (omega arith) (omega arith)))
 
 -- a number of one digit, and a number of more
 pub decimal-one : (v : ℕ) (l : List ℕ) → v < 10 → decimal v l ≡ (48 + v) ∷ l
@@ -34,14 +23,12 @@ decimal-step v l h k = rw (le-ltb v 10 h) (spell-room 19 (v / 10) ((48 + v % 10)
 pub spell-append : (k n : ℕ) (l : List ℕ) → spell k n l ≡ spell k n [] ++ l
 unfolding spell
 spell-append zero n l = refl
-spell-append (suc k) n l =
-    go (ltb n 10) (spell-append k (n / 10) ((48 + n % 10) ∷ l)) (spell-append k (n / 10) ((48 + n % 10) ∷ [])) where
-      go : (b : Bool) → spell k (n / 10) ((48 + n % 10) ∷ l) ≡ spell k (n / 10) [] ++ ((48 + n % 10) ∷ l) →
-          spell k (n / 10) ((48 + n % 10) ∷ []) ≡ spell k (n / 10) [] ++ ((48 + n % 10) ∷ []) →
-          cond b ((48 + n) ∷ l) (spell k (n / 10) ((48 + n % 10) ∷ l)) ≡
-          cond b ((48 + n) ∷ []) (spell k (n / 10) ((48 + n % 10) ∷ [])) ++ l
-      go true e f = refl
-      go false e f = rw (e, f, append-assoc)
+spell-append (suc k) n l = cases (ltb n 10) (λ e. rw e) (λ e. rw (
+  e,
+  spell-append k (n / 10) ((48 + n % 10) ∷ l),
+  spell-append k (n / 10) ((48 + n % 10) ∷ []),
+  append-assoc,
+))
 
 pub decimal-append : (n : ℕ) (l : List ℕ) → decimal n l ≡ decimal n [] ++ l
 decimal-append n l = spell-append 20 n l
@@ -51,47 +38,25 @@ pub count-one : (v : ℕ) → v < 10 → length (decimal v []) ≡ 1
 count-one v h = ap length (decimal-one v [] h)
 
 pub count-step : (v : ℕ) → 10 ≤ v → v < 10 ^ 20 → length (decimal v []) ≡ length (decimal (v / 10) []) + 1
-count-step v h k = ap length (decimal-step v [] h k ∙ decimal-append (v / 10) ((48 + v % 10) ∷ [])) ∙
-    length-append (decimal (v / 10) []) ((48 + v % 10) ∷ [])
+count-step v h k = rw (decimal-step v [] h k, decimal-append (v / 10) ((48 + v % 10) ∷ []), length-append)
 
-spell-longer : (k n : ℕ) (l : List ℕ) → length l ≤ length (spell k n l)
+spell-longer : (k n : ℕ) (l : List ℕ) → length l < length (spell (suc k) n l)
 unfolding spell
-spell-longer zero n l = omega arith
-spell-longer (suc k) n l = go (ltb n 10) (spell-longer k (n / 10) ((48 + n % 10) ∷ l)) where
-  go : (b : Bool) → suc (length l) ≤ length (spell k (n / 10) ((48 + n % 10) ∷ l)) →
-      length l ≤ length (cond b ((48 + n) ∷ l) (spell k (n / 10) ((48 + n % 10) ∷ l)))
-  go true h = omega arith
-  go false h = omega arith
+spell-longer zero n l = cases (ltb n 10) (λ e. rw e (omega arith)) (λ e. rw e (omega arith))
+spell-longer (suc k) n l = let more = spell-longer k (n / 10) ((48 + n % 10) ∷ l) in
+    cases (ltb n 10) (λ e. rw e (omega arith)) (λ e. rw e (omega arith))
 
 pub count-some : (n : ℕ) → 0 < length (decimal n [])
-unfolding spell
-count-some n = go (ltb n 10) (spell-longer 19 (n / 10) ((48 + n % 10) ∷ [])) where
-  go : (b : Bool) → 1 ≤ length (spell 19 (n / 10) ((48 + n % 10) ∷ [])) →
-      0 < length (cond b ((48 + n) ∷ []) (spell 19 (n / 10) ((48 + n % 10) ∷ [])))
-  go true h = omega arith
-  go false h = h
+count-some n = spell-longer 19 n []
 
 -- a number below 10 ^ k has at most k digits
-spell-length : (j k n : ℕ) (l : List ℕ) → 0 < k → n < 10 ^ k → length (spell j n l) ≤ k + length l
+spell-length : (j k n : ℕ) (l : List ℕ) → n < 10 ^ suc k → length (spell j n l) ≤ suc k + length l
 unfolding spell
-spell-length zero k n l p h = omega arith
-spell-length (suc j) k n l p h = go (ltb n 10) refl (spell-length j (k - 1) (n / 10) ((48 + n % 10) ∷ l)) where
-  go : (b : Bool) → ltb n 10 ≡ b →
-      (0 < k - 1 → n / 10 < 10 ^ (k - 1) → length (spell j (n / 10) ((48 + n % 10) ∷ l)) ≤ k - 1 + suc (length l)) →
-      length (cond b ((48 + n) ∷ l) (spell j (n / 10) ((48 + n % 10) ∷ l))) ≤ k + length l
-  go true e ih = omega arith
-  go false e ih = let q : 10 ≤ n = ltb-false n 10 e in let t : 1 < k = two k q h in
-      let w : length (spell j (n / 10) ((48 + n % 10) ∷ l)) ≤ k - 1 + suc (length l) = ih (omega arith) (tenth k t h) in
-      omega arith
-    where
-      two : (k : ℕ) → 10 ≤ n → n < 10 ^ k → 1 < k
-      two zero q h = absurd (omega arith)
-      two (suc zero) q h = absurd (omega arith)
-      two (suc (suc k)) q h = omega arith
-
-      tenth : (k : ℕ) → 1 < k → n < 10 ^ k → n / 10 < 10 ^ (k - 1)
-      tenth zero t h = absurd (omega arith)
-      tenth (suc k) t h = let e : suc k - 1 ≡ k = omega arith in rw e (omega arith)
+spell-length zero k n l h = omega arith
+spell-length (suc j) zero n l h = rw (lt-ltb n 10 (omega arith)) (omega arith)
+spell-length (suc j) (suc k) n l h = let rest = spell-length j k (n / 10) ((48 + n % 10) ∷ l) (omega arith) in
+    cases (ltb n 10) (λ e. rw e (omega arith)) (λ e. rw e (omega arith))
 
 pub decimal-length : (k n : ℕ) → 0 < k → n < 10 ^ k → length (decimal n []) ≤ k
-decimal-length k n p h = let q : length (decimal n []) ≤ k + 0 = spell-length 20 k n [] p h in omega arith
+decimal-length zero n p h = absurd (omega arith)
+decimal-length (suc k) n p h = let q = spell-length 20 k n [] h in omega arith

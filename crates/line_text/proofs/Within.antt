@@ -1,12 +1,6 @@
 -- Texts of a bounded length, put into a buffer one behind the other.
-use Prim.Native.Nat.{ℕ, _+_, _≤_}
-use mathlib.Core.Path.{_≡_, refl, sym, ap, _∙_}
-use mathlib.Core.Bool.{Bool, true, false}
-use mathlib.Core.List.{List, [], _++_}
-use native.Mathlib.Omega.{arith}
-use borrow.Author.Tests.{leb-true, leb-false}
-use lib.Dec.{leb}
-use lib.ListN.{length, length-append}
+use Rattle.basics.proofs.Basics.{_≡_, sym, _∙_, ap, List, [], _++_, _≤_, ℕ, _+_, arith, leb, length, length-append}
+use Rattle.basics.proofs.Basics.{leb-true, leb-false, cases}
 use Rattle.line_text.specs.Between.Appending.{Appended, AppendedWithin}
 use Rattle.line_text.proofs.Appends.{put-append, put-none, put-length, appended, appended-length, room-put, no-room}
 
@@ -56,9 +50,6 @@ within-more m k {at} {t} {u} {o} {o₁} {o₂} {e₁} {e₂} w v h = let sum = l
 
 -- where a text ends, put or not, stands within the buffer
 pub appended-within : {at : ℕ} {t o o₁ : List ℕ} {e : ℕ} → Appended at t o o₁ e → at ≤ length o → e ≤ length o₁
-appended-within {at} {t} {o} {o₁} {e} w h = go (leb (at + length t) (length o)) refl
-  where
-    go : (b : Bool) → leb (at + length t) (length o) ≡ b → e ≤ length o₁
-    go true k = let room = leb-true (at + length t) (length o) k in
-        omega (arith, room-put at t o o₁ e w room .1, appended-length at t o o₁ e w)
-    go false k = omega (arith, no-room at t o o₁ e w (leb-false _ _ k) .1, appended-length at t o o₁ e w)
+appended-within {at} {t} {o} {o₁} {e} w h = let long = appended-length at t o o₁ e w in cases (leb (at + length t) (length o))
+    (λ k. let room = leb-true (at + length t) (length o) k in omega (arith, room-put at t o o₁ e w room .1))
+    (λ k. omega (arith, no-room at t o o₁ e w (leb-false _ _ k) .1))

@@ -1,13 +1,8 @@
 -- Texts of a fixed number of digits: read back as written, and only so.
-use Prim.Native.Nat.{ℕ, zero, suc, _+_, _-_, _*_, _/_, _%_, _^_, _<_, _≤_}
-use mathlib.Core.Path.{_≡_, refl, sym, ap, _∙_}
-use mathlib.Core.Bool.{Bool, true, false, cond}
-use mathlib.Core.List.{List, [], _∷_}
-use native.Mathlib.Omega.{arith}
-use native.Mathlib.Nat.{add-zero, zero-add}
-use lib.Arith.{digits-div, digits-mod}
+use Rattle.basics.proofs.Basics.{_≡_, refl, sym, _∙_, ap, List, [], _∷_, _≤_, ℕ, _-_, _+_, _<_, suc, zero, _*_, _^_}
+use Rattle.basics.proofs.Basics.{_/_, _%_, add-zero, zero-add, arith, cases}
 use Rattle.line_text.specs.Decimal.{fixed}
-use Rattle.line_values.specs.Pinned.Numbers.{fixedOf, number, bad, isDigit}
+use Rattle.line_values.specs.Pinned.Numbers.{fixedOf, number, isDigit}
 use Rattle.line_values.proofs.Numbers.{is-digit, digit-range}
 
 fixed-digit : (j v d : ℕ) (l : List ℕ) → d < 10 → fixedOf (suc j) v ((48 + d) ∷ l) ≡ fixedOf j (v * 10 + d) l
@@ -29,9 +24,8 @@ fixed-back k n l h = rw (add-zero k) at (fixed-read k 0 n l h)
 
 fixed-last : (j v c : ℕ) (l : List ℕ) → 48 ≤ c → c ≤ 57 → fixed (suc j) (v * 10 + (c - 48)) l ≡ fixed j v (c ∷ l)
 unfolding fixed
-fixed-last j v c l a b = let d : (v * 10 + (c - 48)) / 10 ≡ v = digits-div v (omega arith) in
-    let m : 48 + (v * 10 + (c - 48)) % 10 ≡ c = ap (λ (x : ℕ). 48 + x) (digits-mod v (omega arith)) ∙ omega arith in
-    rw (d, m)
+fixed-last j v c l a b = let d : (v * 10 + (c - 48)) / 10 ≡ v = omega arith in
+    let m : 48 + (v * 10 + (c - 48)) % 10 ≡ c = omega arith in rw (d, m)
 
 -- of j + k digits of n the first j, those of v, stand before l
 fixed-written : (k j v n : ℕ) (l r : List ℕ) → v < 10 ^ j → fixedOf k v l ≡ number n r →
@@ -39,16 +33,11 @@ fixed-written : (k j v n : ℕ) (l r : List ℕ) → v < 10 ^ j → fixedOf k v 
 unfolding fixedOf
 fixed-written zero j v n l r h e = let q : v ≡ n = cc in let s : l ≡ r = cc in rw (add-zero j, ← q, ← s) (refl, h)
 fixed-written (suc k) j v n [] r h e = absurd (let z : _≡_ {A = ℕ} 0 1 = cc in omega arith)
-fixed-written (suc k) j v n (c ∷ l) r h e =
-    go (fixed-written k (suc j) (v * 10 + (c - 48)) n l r) (isDigit c) refl e where
-      go : (v * 10 + (c - 48) < 10 ^ suc j → fixedOf k (v * 10 + (c - 48)) l ≡ number n r →
-          (fixed (suc j) (v * 10 + (c - 48)) l ≡ fixed (suc j + k) n r) × (n < 10 ^ (suc j + k))) →
-          (b : Bool) → isDigit c ≡ b → cond b (fixedOf k (v * 10 + (c - 48)) l) bad ≡ number n r →
-          (fixed j v (c ∷ l) ≡ fixed (j + suc k) n r) × (n < 10 ^ (j + suc k))
-      go ih true f e = let q : (48 ≤ c) × (c ≤ 57) = digit-range c f in
-          let more : suc j + k ≡ j + suc k = omega arith in let w = ih (omega arith) e in
-          rw (← more) (sym (fixed-last j v c l (q .0) (q .1)) ∙ w .0, w .1)
-      go ih false f e = absurd (let z : _≡_ {A = ℕ} 0 1 = cc in omega arith)
+fixed-written (suc k) j v n (c ∷ l) r h e = cases (isDigit c)
+    (λ f. let q = digit-range c f in let more : suc j + k ≡ j + suc k = omega arith in
+    let w = fixed-written k (suc j) (v * 10 + (c - 48)) n l r (omega arith) (rw f at e) in
+    rw (← more) (sym (fixed-last j v c l (q .0) (q .1)) ∙ w .0, w .1))
+    (λ f. absurd (let z : _≡_ {A = ℕ} 0 1 = cc in omega arith))
 
 pub fixed-only : (k n : ℕ) (l r : List ℕ) → fixedOf k 0 l ≡ number n r → (l ≡ fixed k n r) × (n < 10 ^ k)
 unfolding fixed

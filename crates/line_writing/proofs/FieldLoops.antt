@@ -1,10 +1,5 @@
 -- One turn of going over the fields of a shape: those left.
-use Prim.Native.Nat.{ℕ, suc, _+_, _-_, _<_, _≤_}
-use mathlib.Core.Path.{_≡_}
-use mathlib.Core.List.{List, [], _∷_, _++_}
-use native.Mathlib.Numerals.{add-one}
-use native.Mathlib.Omega.{arith}
-use lib.ListN.{length, getD}
+use Rattle.basics.proofs.Basics.{_≡_, List, [], _∷_, _++_, _≤_, ℕ, _-_, _+_, _<_, suc, add-one, arith, length, getD}
 use Rattle.line_text.specs.Between.Appending.{Appended}
 use Rattle.line_text.proofs.Appends.{rest-start, rest-next, rest-done}
 use Rattle.line_fields.specs.Fields.{field, fieldText, fieldsText}

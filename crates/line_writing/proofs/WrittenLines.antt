@@ -1,10 +1,5 @@
 -- A line that is written, from what its parts say: its word, then its fields, in front of zeros.
-use Prim.Native.Nat.{ℕ, _+_, _≤_}
-use mathlib.Core.Path.{_≡_, ap, _∙_}
-use mathlib.Core.Bool.{true}
-use mathlib.Core.List.{List, _++_}
-use native.Mathlib.Omega.{arith}
-use lib.ListN.{length, replicate}
+use Rattle.basics.proofs.Basics.{_≡_, _∙_, ap, true, List, _++_, _≤_, ℕ, _+_, arith, length, replicate}
 use Rattle.line_text.specs.Between.Appending.{Appended}
 use Rattle.line_text.specs.Longest.{longestLine}
 use Rattle.line_text.proofs.Appends.{Rest, rest-start, rest-next, zeros-put}

@@ -1,10 +1,5 @@
 -- A failure is answered by the rows before its last, and then by number 30.
-use mathlib.Core.Path.{_≡_, refl}
-use mathlib.Core.Bool.{Bool, true, _&&_}
-use mathlib.Core.List.{List}
-use Prim.Native.Nat.{ℕ, _≤_}
-use lib.Dec.{ltb}
-use borrow.Author.Tests.{ltb-false}
+use Rattle.basics.proofs.Basics.{_≡_, refl, true, Bool, _&&_, List, _≤_, ℕ, ltb, ltb-false}
 use Rattle.dates.specs.Dates.{lastDay}
 use Rattle.rules.specs.declared.{Action.Action, Answer.Answer, Settings.Settings, View.View}
 use Rattle.rules.specs.Answers.{isAccepted}

@@ -1,11 +1,6 @@
 -- Rows asked one after the other give the first that applies.
-use mathlib.Core.Path.{_≡_, refl, sym, _∙_, ap}
-use mathlib.Core.Bool.{Bool, true, false, cond, _&&_, _||_, false≢true}
-use mathlib.Core.List.{List, [], _∷_, _++_}
-use Prim.Native.Nat.{ℕ, min}
-use native.Mathlib.Omega.{arith}
-use lib.Dec.{ltb}
-use borrow.Author.Tests.{ltb-false}
+use Rattle.basics.proofs.Basics.{_≡_, refl, sym, _∙_, ap, true, false, Bool, cond, _&&_, false≢true, _||_, List, []}
+use Rattle.basics.proofs.Basics.{_∷_, _++_, ℕ, min, arith, ltb, ltb-false}
 use Rattle.dates.specs.Months.{threeMonthsAfter}
 use Rattle.rules.specs.declared.{Answer.Answer, Settings.Settings, SupplyKind.SupplyKind}
 use Rattle.rules.specs.Answers.{isAccepted}

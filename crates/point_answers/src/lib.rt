@@ -31,7 +31,8 @@ fn situation(
     p: u64,
     v: View,
 ) -> Situation
-    ensures { λ r. ⌜ r ≡ record { settings = set; day = day; contracts = contracts; today = today; point = p; view = v } ⌝ }
+    ensures { λ r. ⌜ r ≡
+        record { settings = set; day = day; contracts = contracts; today = today; point = p; view = v } ⌝ }
 {
     Situation {
         settings: set,

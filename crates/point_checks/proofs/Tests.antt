@@ -1,12 +1,8 @@
 -- Number 28 by the zero mark: with 0 the index must not be below the last, with 1 it must be, and other marks are
 -- refused before. Number 30: instead of adding to the marks, the code takes from 24.
-use mathlib.Core.Path.{_≡_, refl}
-use mathlib.Core.Bool.{Bool, true, false, not, _&&_, _||_}
-use Prim.Native.Nat.{ℕ, _+_, _-_, _≤_, _<_, min}
-use native.Mathlib.Decide.{decLe, decLt}
-use native.Mathlib.Omega.{arith}
-use lib.Dec.{eqb, leb, ltb}
-use borrow.Author.Tests.{ne-eqb, le-leb, lt-leb, lt-ltb, le-ltb, leb-true, leb-false, ltb-true, ltb-false}
+use Rattle.basics.proofs.Basics.{_≡_, refl, true, false, Bool, _&&_, _||_, not, _≤_, ℕ, _-_, _+_, _<_, min, decLe}
+use Rattle.basics.proofs.Basics.{decLt, arith, eqb, ltb, leb, lt-ltb, le-leb, le-ltb, lt-leb, ne-eqb, ltb-false}
+use Rattle.basics.proofs.Basics.{ltb-true, leb-true, leb-false}
 
 -- Two comparisons that hold together.
 same-ltb : (a b x y : ℕ) → (a < b → x < y) → (x < y → a < b) → ltb a b ≡ ltb x y

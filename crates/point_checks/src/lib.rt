@@ -17,7 +17,8 @@ ghost use mathlib.Core.Path.{_≡_};
 ghost use mathlib.Core.Bool.{not, _&&_, _||_};
 ghost use lib.Dec.{eqb, leb, ltb};
 ghost use Rattle.rules.specs.Answers.{isAccepted};
-ghost use Rattle.rules.specs.Rejections.{outside as Rejections·outside, notWheels, notPoint, noContract, isPending, isBy};
+ghost use Rattle.rules.specs.Rejections.{outside as Rejections·outside, notWheels, notPoint, noContract};
+ghost use Rattle.rules.specs.Rejections.{isPending, isBy};
 
 pub fn is_accepted(a: Answer) -> bool
     ensures { λ r. ⌜ r ≡ isAccepted a ⌝ }

@@ -57,7 +57,8 @@ pub fn view_of(t: u64, g: Point) -> View
 // 30: the marks after the call, and those due under the kind and the request that it leaves, exceed 24. A holder named
 // today marks today's cell.
 pub fn is_full(v: View, names: bool, k: SupplyKind, q: Pending) -> bool
-    ensures { λ r. ⌜ r ≡ ltb 24 (cond names (v .marks + cond (v .marked) 0 1) (v .marks) + (pendingDue q + kindDue k)) ⌝ }
+    ensures { λ r. ⌜ r ≡
+        ltb 24 (cond names (v .marks + cond (v .marked) 0 1) (v .marks) + (pendingDue q + kindDue k)) ⌝ }
 {
     let n = v.marks;
     let due = pending_due(q) + kind_due(k);

@@ -1,10 +1,6 @@
 -- What the checks have seen to where they let a call through: its numbers fit, and its reading can be booked.
-use mathlib.Core.Path.{_≡_, refl}
-use mathlib.Core.Bool.{Bool, true, false, cond, _||_}
-use mathlib.Core.List.{[]}
-use Prim.Native.Nat.{ℕ, _+_, _≤_, _<_}
-use lib.Dec.{eqb, leb, ltb}
-use borrow.Author.Tests.{ltb-false, leb-false, le-leb}
+use Rattle.basics.proofs.Basics.{_≡_, refl, true, false, Bool, cond, _||_, [], _≤_, ℕ, _+_, _<_, eqb, ltb, leb, le-leb}
+use Rattle.basics.proofs.Basics.{ltb-false, leb-false}
 use Rattle.dates.specs.Dates.{lastDay}
 use Rattle.dates.specs.Months.{threeMonthsAfter}
 use Rattle.rules.specs.declared.{Effect.Effect, Fields.Fields, History.History, PointAction.PointAction}
@@ -55,7 +51,8 @@ module _ (S : Settings) (t : ℕ) (f : Fields) where
   unfolding answerAt rowsAt
   request-fits s k r h = let a = pass _ _ _ _ (h .ok) in let b = dated-also (h .day) t _ _ _ (a .1) .1 .rest in
       let c = pass _ _ _ _ (pass _ _ _ _ (pass _ _ _ _ b .1) .1) in
-      (within 1 99 s (neither (notSupplier s) (notKey k) (a .0) .0) .1, ltb-false lastDay (effectiveDay S t r) (neither (ltb r t || ltb (threeMonthsAfter t) r) (isPast (effectiveDay S t r)) (c .0) .1))
+      let d = neither (ltb r t || ltb (threeMonthsAfter t) r) (isPast (effectiveDay S t r)) (c .0) in
+      (within 1 99 s (neither (notSupplier s) (notKey k) (a .0) .0) .1, ltb-false lastDay (effectiveDay S t r) (d .1))
 
   pub suspend-fits : (m : ℕ) → Accepted S t (PointAction.Suspend m) f → m ≤ 1
   unfolding answerAt rowsAt

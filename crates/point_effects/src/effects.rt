@@ -25,7 +25,7 @@ ghost use Rattle.rules.specs.Volumes.{fullTurn, spanTo};
 ghost use Rattle.point_effects.specs.Between.{Accepted, failedBy};
 
 // The same fields with another supply.
-fn with_supply(f: Fields, s: Supply) -> Fields
+pub(crate) fn with_supply(f: Fields, s: Supply) -> Fields
     ensures { λ r. ⌜ r ≡ withSupply f s ⌝ }
 {
     let mut g = f;
@@ -94,7 +94,8 @@ fn served(f: Fields, s: u8, k: SupplyKind, key: u64) -> Effect
 
 fn request(set: Settings, t: u32, s: u64, r: u64, f: Fields) -> Effect
     requires { ⌜ (s ≤ 99) × (effectiveDay set t r ≤ 73048) ⌝ }
-    ensures { λ x. ⌜ x ≡ Effect.Request (effectiveDay set t r) (withPending f (Pending.Request s (effectiveDay set t r))) ⌝ }
+    ensures { λ x. ⌜ x ≡
+        Effect.Request (effectiveDay set t r) (withPending f (Pending.Request s (effectiveDay set t r))) ⌝ }
 {
     let e = effective_day(set, t as u64, r);
     Effect::Request(e, with_pending(f, Pending::Request(s as u8, e)))
@@ -208,7 +209,8 @@ fn dropped(s: u64, q: Pending) -> Pending
 
 // Number 30 of a failure of s, at one point: s holds it or has a request there, and its marks and those due exceed 24.
 pub fn fills(s: u64, v: View) -> bool
-    ensures { λ r. ⌜ ((S : Settings) (t : ℕ) → r ≡ (touches s (v .fields) && isFull v (Effects·failed S t s (v .fields)))) ⌝ }
+    ensures { λ r. ⌜ ((S : Settings) (t : ℕ)
+        → r ≡ (touches s (v .fields) && isFull v (Effects·failed S t s (v .fields)))) ⌝ }
 {
     let f = v.fields;
     let now = f.supply;

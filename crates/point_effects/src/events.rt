@@ -1,8 +1,8 @@
 // What falls due at a point, and catching up.
+use crate::effects::with_supply;
+use crate::named_point;
 use dates::LAST_DAY;
-use point_periods::named;
 use rules::Due;
-use rules::Fields;
 use rules::Pending;
 use rules::Point;
 use rules::Settings;
@@ -10,14 +10,13 @@ use rules::Supply;
 use rules::SupplyKind;
 ghost use mathlib.Core.Path.{_≡_};
 ghost use Prim.Native.Nat.{_≤_};
-ghost use Rattle.rules.specs.Fields.{supply, withSupply};
-ghost use Rattle.rules.specs.Pinned.Register.{named as Register·named, expiryBy, endsBefore, dueBy, happened, nextEvent};
-ghost use Rattle.point_effects.specs.Between.{caughtUp};
+ghost use Rattle.rules.specs.Pinned.Register.{expiryBy, endsBefore, happened};
+ghost use Rattle.point_effects.specs.Between.{dueIn, nextIn, caughtUp};
 
-// What ends a supply kind by day t.
-fn expiry_by(set: Settings, t: u32, k: SupplyKind) -> Due
+// What ends a supply kind by day t, where q is pending.
+fn expiry_by(set: Settings, t: u32, k: SupplyKind, q: Pending) -> Due
     requires { ⌜ t ≤ 73048 ⌝ }
-    ensures { λ r. ⌜ r ≡ expiryBy set t k ⌝ }
+    ensures { λ r. ⌜ r ≡ expiryBy set t k q ⌝ }
 {
     match k {
         SupplyKind::None => Due::Nothing,
@@ -25,10 +24,14 @@ fn expiry_by(set: Settings, t: u32, k: SupplyKind) -> Due
         SupplyKind::Default(d) => {
             if d <= t {
                 let end = d + (set.b as u32);
-                Due::Fallback {
-                    day: d,
+                let after = Supply {
                     holder: set.resort,
                     kind: SupplyKind::LastResort(end),
+                    pending: q,
+                };
+                Due::Naming {
+                    day: d,
+                    supply: after,
                 }
             } else {
                 Due::Nothing
@@ -36,10 +39,14 @@ fn expiry_by(set: Settings, t: u32, k: SupplyKind) -> Due
         }
         SupplyKind::LastResort(d) => {
             if d <= t {
-                Due::End {
-                    day: d,
+                let after = Supply {
                     holder: 0,
                     kind: SupplyKind::None,
+                    pending: Pending::Nothing,
+                };
+                Due::Naming {
+                    day: d,
+                    supply: after,
                 }
             } else {
                 Due::Nothing
@@ -59,62 +66,47 @@ fn ends_before(k: SupplyKind, day: u32) -> bool
     }
 }
 
-// What falls due first by day t: a request and a deadline on one day, the request.
+// What falls due first by day t: a request and a deadline on one day, the request. Past the calendar's end, nothing.
 pub fn due_by(set: Settings, t: u32, k: SupplyKind, q: Pending) -> Due
-    requires { ⌜ t ≤ 73048 ⌝ }
-    ensures { λ r. ⌜ r ≡ dueBy set t k q ⌝ }
+    ensures { λ r. ⌜ r ≡ dueIn set t k q ⌝ }
 {
+    if t > LAST_DAY {
+        return Due::Nothing;
+    }
     let Pending::Request(s, e) = q else {
-        return expiry_by(set, t, k);
+        return expiry_by(set, t, k, Pending::Nothing);
     };
     if t < e {
-        return expiry_by(set, t, k);
+        return expiry_by(set, t, k, q);
     }
     if ends_before(k, e) {
-        return expiry_by(set, t, k);
+        return expiry_by(set, t, k, q);
     }
-    Due::Switch {
-        day: e,
+    let after = Supply {
         holder: s,
         kind: SupplyKind::Contract,
-    }
-}
-
-// A holder is named at a point on a day, with the kind of its supply and the request that is left.
-pub(crate) fn supplied(day: u32, s: u8, k: SupplyKind, q: Pending, g: Point) -> Point
-    ensures { λ r. ⌜ r ≡ record { fields = withSupply (g .fields) (supply s k q); history = Register·named day s (g .history) } ⌝ }
-{
-    let f = g.fields;
-    let h = g.history;
-    let now = Supply {
-        holder: s,
-        kind: k,
-        pending: q,
+        pending: Pending::Nothing,
     };
-    Point {
-        fields: Fields { supply: now, ..f },
-        history: named(day, s, h),
+    Due::Naming {
+        day: e,
+        supply: after,
     }
 }
 
-// The point after an event.
+// The point after what fell due.
 fn happen(d: Due, g: Point) -> Point
     ensures { λ r. ⌜ r ≡ happened d g ⌝ }
 {
     let f = g.fields;
-    let s = f.supply;
-    let q = s.pending;
+    let h = g.history;
     match d {
         Due::Nothing => g,
-        Due::Switch { day, holder, kind } => supplied(day, holder, kind, Pending::Nothing, g),
-        Due::Fallback { day, holder, kind } => supplied(day, holder, kind, q, g),
-        Due::End { day, holder, kind } => supplied(day, holder, kind, Pending::Nothing, g),
+        Due::Naming { day, supply } => named_point(day, with_supply(f, supply), h),
     }
 }
 
 fn next_event(set: Settings, t: u32, g: Point) -> Point
-    requires { ⌜ t ≤ 73048 ⌝ }
-    ensures { λ r. ⌜ r ≡ nextEvent set t g ⌝ }
+    ensures { λ r. ⌜ r ≡ nextIn set t g ⌝ }
 {
     let f = g.fields;
     let s = f.supply;
@@ -128,9 +120,6 @@ fn next_event(set: Settings, t: u32, g: Point) -> Point
 pub fn catch_up(set: Settings, t: u32, g: Point) -> Point
     ensures { λ r. ⌜ r ≡ caughtUp set t g ⌝ }
 {
-    if t > LAST_DAY {
-        return g;
-    }
     let once = next_event(set, t, g);
     next_event(set, t, once)
 }

@@ -1,10 +1,5 @@
 -- A history whose newest period starts on a day has a period.
-use mathlib.Core.Path.{_≡_, refl}
-use mathlib.Core.Bool.{Bool, true, false, _&&_, false≢true}
-use Prim.Native.Nat.{ℕ, _<_}
-use native.Mathlib.Omega.{arith}
-use lib.Dec.{ltb, eqb}
-use borrow.Author.Tests.{ltb-true}
+use Rattle.basics.proofs.Basics.{_≡_, refl, true, false, Bool, _&&_, false≢true, ℕ, _<_, arith, eqb, ltb, ltb-true}
 use Rattle.rules.specs.declared.{History.History}
 use Rattle.rules.specs.Pinned.Register.{used, newest, startsOn}
 

@@ -3,7 +3,8 @@ use rules::History;
 use rules::Period;
 ghost use mathlib.Core.Path.{_≡_};
 ghost use Prim.Native.Nat.{_-_, _<_, min};
-ghost use Rattle.rules.specs.Pinned.Register.{used, startsOn, replaced as Register·replaced, appended as Register·appended};
+ghost use Rattle.rules.specs.Pinned.Register.{used, startsOn, replaced as Register·replaced};
+ghost use Rattle.rules.specs.Pinned.Register.{appended as Register·appended};
 ghost use Rattle.rules.specs.Pinned.Register.{named as Register·named};
 
 // How many slots are in use.

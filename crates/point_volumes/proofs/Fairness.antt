@@ -1,9 +1,5 @@
 -- The test of a fair reading, and what it says.
-use mathlib.Core.Path.{_≡_, refl}
-use mathlib.Core.Bool.{Bool, true, false, _&&_, false≢true}
-use Prim.Native.Nat.{_*_}
-use lib.Dec.{leb, ltb}
-use borrow.Author.Tests.{ltb-true, leb-true}
+use Rattle.basics.proofs.Basics.{_≡_, refl, true, false, Bool, _&&_, false≢true, _*_, ltb, leb, ltb-true, leb-true}
 use Rattle.dates.specs.Dates.{lastDay}
 use Rattle.rules.specs.declared.{Span.Span}
 use Rattle.point_volumes.specs.Between.{Fair, isFair, mostVolume}

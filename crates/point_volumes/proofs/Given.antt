@@ -1,9 +1,7 @@
 -- What a reading has given before a day, at its ends and between them.
-use mathlib.Core.Path.{_≡_}
-use Prim.Native.Nat.{ℕ, _-_, _*_, _/_, _≤_, _<_, _^_, min}
-use native.Mathlib.Omega.{arith}
-use native.Mathlib.Nat.{mul-zero, zero-mul, zero-div, mul-div-left, mul-le-mul, mul-le-mul-left, mul-le-mul-right}
-use native.Mathlib.Nat.{mul-comm, div-le-of-le-mul, le-trans}
+use Rattle.basics.proofs.Basics.{_≡_, _≤_, ℕ, _-_, _<_, _*_, _^_, min, _/_, le-trans, mul-le-mul-right, mul-le-mul-left}
+use Rattle.basics.proofs.Basics.{mul-div-left, mul-comm, mul-zero, zero-mul, zero-div, mul-le-mul, div-le-of-le-mul}
+use Rattle.basics.proofs.Basics.{arith}
 use Rattle.rules.specs.declared.{Span.Span}
 use Rattle.rules.specs.Volumes.{upTo, given}
 use Rattle.point_volumes.specs.Between.{Fair, mostVolume}

@@ -1,8 +1,5 @@
 -- A reading whose days all lie in the newest period changes that period alone.
-use mathlib.Core.Path.{_≡_, ap}
-use Prim.Native.Nat.{_-_, _≤_, _<_}
-use native.Mathlib.Omega.{arith}
-use lib.ListN.{set}
+use Rattle.basics.proofs.Basics.{_≡_, ap, _≤_, _-_, _<_, arith, set}
 use Rattle.rules.specs.declared.{History.History, Span.Span}
 use Rattle.rules.specs.Volumes.{given}
 use Rattle.rules.specs.Pinned.Register.{used, newest, history, bookedPeriod, booked}

@@ -1,7 +1,5 @@
 -- The largest full turn and unit, and that a turn is at most 10^11 thousandths of a cubic metre, whatever the wheels.
-use Prim.Native.Nat.{ℕ, _+_, _-_, _*_, _^_, _≤_, min}
-use native.Mathlib.Omega.{arith}
-use native.Mathlib.Nat.{pow-le-pow-right}
+use Rattle.basics.proofs.Basics.{_≤_, ℕ, _-_, _+_, _*_, _^_, min, pow-le-pow-right, arith}
 use lib.Pow.{pow-add}
 use Rattle.rules.specs.declared.{Meter.Meter}
 use Rattle.rules.specs.Volumes.{fullTurn, unitOf}

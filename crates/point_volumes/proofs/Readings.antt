@@ -1,12 +1,7 @@
 -- A reading that goes forward to a day of the calendar is fair, whatever its index, so it is booked; and where the wheels
 -- have its index it is the definition's.
-use mathlib.Core.Path.{_≡_, refl}
-use mathlib.Core.Bool.{Bool, true, false, cond, _&&_}
-use Prim.Native.Nat.{ℕ, _*_, _≤_, _<_}
-use native.Mathlib.Omega.{arith}
-use native.Mathlib.Nat.{mul-le-mul-right, le-trans, mul-assoc}
-use lib.Dec.{leb, ltb}
-use borrow.Author.Tests.{lt-ltb, le-leb, leb-true, ltb-true}
+use Rattle.basics.proofs.Basics.{_≡_, refl, true, false, Bool, cond, _&&_, _≤_, ℕ, _<_, _*_, le-trans, mul-le-mul-right}
+use Rattle.basics.proofs.Basics.{mul-assoc, arith, ltb, leb, lt-ltb, le-leb, ltb-true, leb-true}
 use Rattle.dates.specs.Dates.{lastDay}
 use Rattle.rules.specs.declared.{Fields.Fields, History.History, Meter.Meter, Period.Period, Reading.Reading}
 use Rattle.rules.specs.Volumes.{fullTurn, unitOf, advanceOf, spanTo, given}

@@ -1,10 +1,5 @@
 -- Booking the slots, one turn of the loop: the newest of the first i is booked, and it is the last or the next older one follows.
-use mathlib.Core.Path.{_≡_, refl}
-use mathlib.Core.List.{List}
-use Prim.Native.Nat.{ℕ, zero, suc, _-_, _≤_, _<_}
-use native.Mathlib.Omega.{arith}
-use lib.ListN.{getD, set}
-use borrow.Author.Tests.{le-leb, lt-leb}
+use Rattle.basics.proofs.Basics.{_≡_, refl, List, _≤_, ℕ, _-_, _<_, suc, zero, arith, getD, set, le-leb, lt-leb}
 use Rattle.rules.specs.declared.{Period.Period}
 use Rattle.rules.specs.Pinned.Register.{noPeriod, bookedPeriod, bookedSlots}
 

@@ -1,15 +1,8 @@
 -- The questions after any list of calls. The statement is specs/Asking.antt.
-use mathlib.Core.Path.{_≡_, refl, _∙_, ap}
-use mathlib.Core.Bool.{Bool, true, false, cond, _&&_, _||_}
-use mathlib.Core.List.{List, [], _∷_}
-use mathlib.Core.Option.{Option, none, some}
-use Prim.Native.Nat.{ℕ, zero, suc, _-_, _^_, _≤_, _<_}
-use native.Mathlib.Omega.{arith}
-use native.Mathlib.Decide.{decLe}
-use lib.Dec.{eqb, leb}
-use lib.ListN.{length}
-use native.Mathlib.Nat.{not-suc-le-zero}
-use borrow.Author.Tests.{lt-ltb, le-ltb, le-leb, lt-leb, ne-eqb}
+use Rattle.basics.proofs.Basics.{_≡_, refl, sym, _∙_, ap, true, false, Bool, cond, _&&_, _||_, or-true, some, Option}
+use Rattle.basics.proofs.Basics.{none, List, [], _∷_, _≤_, ℕ, _-_, _<_, suc, zero, _^_, not-suc-le-zero, decLe, arith}
+use Rattle.basics.proofs.Basics.{eqb, ltb, leb, length, lt-ltb, le-leb, le-ltb, lt-leb, ne-eqb, not-true, not-false}
+use Rattle.basics.proofs.Basics.{cases}
 use Rattle.rules.specs.declared.{Opening.Opening, Call.Call, Register.Register, Span.Span, Point.Point}
 use Rattle.questions.specs.declared.{HolderAnswer.HolderAnswer, PeriodAnswer.PeriodAnswer, AdvanceAnswer.AdvanceAnswer}
 use Rattle.questions.specs.declared.HolderAnswer.the-variants as holder
@@ -20,18 +13,18 @@ use Rattle.rules.specs.Answers.{isAccepted}
 use Rattle.questions.specs.Pinned.Questions.{holderNumber, holderTold, periodNumber, periodTold, advanceNumber, advanceTold}
 use Rattle.rules.specs.Rejections.{openingAnswer, notPoint}
 use Rattle.rules.specs.Pinned.Register.{used, pointAt}
-use Rattle.questions.specs.Pinned.Questions.{unasked, holderAnswer, periodAnswer, advanceAnswer}
+use Rattle.questions.specs.Pinned.Questions.{unasked, holderAmong, holderAnswer, periodAnswer, advanceAnswer}
 use Rattle.rules.specs.DayBook.{opened, readings, enrolments, Page}
 use Rattle.rules.specs.Periods.{periodsOf, holderOn, book, register}
-use Rattle.agreement.proofs.Tally.{tally-desc, live-runs, Desc}
+use Rattle.agreement.proofs.Tally.{oldest}
 use Rattle.agreement.proofs.Slots.{listed, Sized, used-count, take-listed}
-use Rattle.agreement.proofs.Tied.{Tied, Since}
+use Rattle.agreement.proofs.Tied.{Tied}
 use Rattle.agreement.proofs.Run.{run-agrees}
 use Rattle.agreement.proofs.Theorem.{day-book-agrees}
 use Rattle.questions.proofs.Seen.{pending-unseen, request-unseen}
 use Rattle.questions.specs.ByBook.{nth, askedNumber, sinceEnrolment, bookPeriods, bookHolder, bookPeriod, bookAdvance}
 use Rattle.questions.specs.Asking.{Asking}
-use Rattle.questions.proofs.Asked.{range-in, asked-in, not-on, not-off}
+use Rattle.questions.proofs.Asked.{range-in, asked-in}
 use Rattle.rules.proofs.Accept.{neither}
 use Rattle.questions.proofs.Calendar.{run-day}
 use Rattle.questions.proofs.Covers.{Tells, among-covered, among-before, sum-exact}
@@ -76,36 +69,28 @@ module _ (o : Opening) (ok : isAccepted (openingAnswer o) ≡ true) (calls : Lis
     tied = rw same-day at (run-agrees o ok calls .points p lo hi)
 
     pub point-sized : Sized (pointAt p (r .points) .history)
-    point-sized = tied .point .sized
+    point-sized = tied .point .firm .sized
 
     -- the periods that the register keeps are the day book's
     pub periods-are : periodsOf (pointAt p (r .points)) ≡ bookPeriods o calls p
     unfolding bookPeriods
     periods-are = let h = tied .point in
-        rw same-day (periods-told point (h .sized) (volume l) (g .cells) (h .told) (r .day) (h .live))
+        rw same-day (periods-told point (h .firm .sized) (volume l) (g .cells) (h .told) (r .day) (h .live))
 
     unborn : unasked r p ≡ true → (n ≡ []) × (listed (point .history) ≡ [])
-    unborn off = let h = tied .point in
-        h .born .outside (rw (h .same) (not-on _ (rw (le-ltb p 1 lo, le-ltb 32 p hi) at off)))
+    unborn off = let h = tied .point in let z : g .fields .enrolled ≡ false = rw (h .same) (not-true _ (rw (le-ltb p 1 lo, le-ltb 32 p hi) at off)) in
+        (h .outside z, h .firm .none z)
 
   -- a point that may not be asked of: the day book has nothing to tell
   module _ (off : unasked r p ≡ true) where
     none-made : {A : Type 0} (f : ℕ → Option A) → cond (notPoint p) none (sinceEnrolment n f) ≡ none
-    none-made f = go (notPoint p) refl
-      where
-        go : (b : Bool) → notPoint p ≡ b → cond b none (sinceEnrolment n f) ≡ none
-        go true e = refl
-        go false e = let k = range-in 1 32 p e in rw (unborn (k .0) (k .1) off .0)
+    none-made f = cases (notPoint p) (λ e. rw e) (λ e. let k = range-in 1 32 p e in rw (e, unborn (k .0) (k .1) off .0))
 
     none-kept : (b : Bool) (m : ℕ) → cond (notPoint p || b) none (nth m (bookPeriods o calls p)) ≡ none
     unfolding nth
-    none-kept b m = go (notPoint p) b refl
-      where
-        go : (a b : Bool) → notPoint p ≡ a → cond (a || b) none (nth m (bookPeriods o calls p)) ≡ none
-        go true b e = refl
-        go false true e = refl
-        go false false e = let k = range-in 1 32 p e in
-            rw (← (periods-are (k .0) (k .1)), take-listed (point .history) (point-sized (k .0) (k .1)), unborn (k .0) (k .1) off .1)
+    none-kept true m = rw (or-true (notPoint p))
+    none-kept false m = cases (notPoint p) (λ e. rw e) (λ e. let k = range-in 1 32 p e in
+        rw (e, ← periods-are (k .0) (k .1), take-listed (point .history) (point-sized (k .0) (k .1)), unborn (k .0) (k .1) off .1))
 
   -- a point that may be asked of
   module _ (on : unasked r p ≡ false) where
@@ -118,41 +103,41 @@ module _ (o : Opening) (ok : isAccepted (openingAnswer o) ≡ true) (calls : Lis
     h : Tied (r .day) l n g point
     h = tied (here .0) (here .1)
 
-    since : Since n (listed (point .history)) (g .fields .reading .day)
-    since = h .point .born .inside (rw (h .point .same) (not-off _ (neither (notPoint p) _ on .1)))
+    -- the oldest period starts with the enrolment
+    abbrev born : ℕ
+    born = oldest (listed (point .history)) (suc (r .day))
+
+    since : n ≡ born ∷ []
+    since = h .point .inside (rw (h .point .same) (not-false _ (neither (notPoint p) _ on .1))) (suc (r .day))
 
     used-all : used (point .history) ≡ point .history .count
-    used-all = used-count (point .history) (h .point .sized)
+    used-all = used-count (point .history) (h .point .firm .sized)
 
     slots : point .history .count ≤ length (point .history .periods)
-    slots = omega (arith, h .point .sized .slots, h .point .sized .some)
+    slots = omega (arith, h .point .firm .sized .slots, h .point .firm .sized .some)
 
-    falling : Desc (suc (r .day)) (listed (point .history))
-    falling = rw (h .point .told)
-        (tally-desc (volume l) (g .cells) (suc (r .day)) 0 (live-runs (r .day) (g .cells) (h .point .live)))
-
-    holder-asked : (d : ℕ) → since .enrolment ≤ d → d ≤ r .day → Tells d (holderAnswer r p d) (holderOn d (g .cells))
+    holder-walk : (d : ℕ) → holderAnswer r p d ≡ cond (ltb (r .day) d) holder.OffRange (holderAmong d (point .history .count) (point .history .periods))
     unfolding holderAnswer
-    holder-asked d le due = let a = day-book-agrees o ok calls .points p (here .0) (here .1) in
-        rw (on, le-ltb (r .day) d due, used-all)
-        (among-covered d (point .history .count) (point .history .periods) _ slots (a .covered (since .enrolment) d (since .one) le due))
+    holder-walk d = rw (on, used-all)
+
+    holder-asked : (d : ℕ) → born ≤ d → d ≤ r .day → Tells d (holderAnswer r p d) (holderOn d (g .cells))
+    holder-asked d le due = let a = day-book-agrees o ok calls .points p (here .0) (here .1) in rw (holder-walk d, le-ltb (r .day) d due)
+        (among-covered d (point .history .count) (point .history .periods) _ slots (a .covered born d since le due))
 
     holder-late : (d : ℕ) → r .day < d → holderAnswer r p d ≡ holder.OffRange
-    unfolding holderAnswer
-    holder-late d lt = rw (on, lt-ltb (r .day) d lt)
+    holder-late d lt = rw (holder-walk d, lt-ltb (r .day) d lt)
 
-    holder-early : (d : ℕ) → d < since .enrolment → holderAnswer r p d ≡ holder.OffRange
-    unfolding holderAnswer
-    holder-early d lt = let o = since .start (suc (r .day)) in elim (decLe d (r .day)) [
-      | yes due ↦ rw (on, le-ltb (r .day) d due, used-all)
-          (among-before d (point .history .count) (point .history .periods) (suc (r .day)) falling (omega (arith, o)))
+    holder-early : (d : ℕ) → d < born → holderAnswer r p d ≡ holder.OffRange
+    holder-early d lt = elim (decLe d (r .day)) [
+      | yes due ↦ rw (holder-walk d, le-ltb (r .day) d due)
+          (among-before d (point .history .count) (point .history .periods) (suc (r .day)) (h .point .firm .falling) (omega arith))
       | no late ↦ holder-late d (omega arith)
     ]
 
     advance-asked : advanceAnswer r p ≡ advance.Volume (registered l)
     unfolding advanceAnswer
     advance-asked =
-        let small : registered l < 2 ^ 64 = omega (arith, h .point .most, h .fine .past, run-day o ok calls) in
+        let small : registered l < 2 ^ 64 = omega (arith, h .point .sum, h .point .firm .most, h .fine .past, run-day o ok calls) in
         rw (on, used-all) (ap advance.Volume
         (sum-exact (point .history .count) (point .history .periods) (rw (h .point .sum) small) ∙ h .point .sum))
 
@@ -175,45 +160,30 @@ module _ (o : Opening) (ok : isAccepted (openingAnswer o) ≡ true) (calls : Lis
   -- the three questions
   holder-is : (d : ℕ) → holderTold (holderAnswer r p d) ≡ bookHolder o calls p d
   unfolding bookHolder
-  holder-is d = rw same-day (go (unasked r p) refl)
-    where
-      go : (b : Bool) → unasked r p ≡ b → holderTold (holderAnswer r p d)
-          ≡ cond (notPoint p) none (sinceEnrolment n (λ e. cond (leb e d && leb d (r .day)) (holderOn d (g .cells)) none))
-      go true off =
-          rw (none-made off (λ e. cond (leb e d && leb d (r .day)) (holderOn d (g .cells)) none)) (unfold holderAnswer in rw off)
-      go false on = let e = since on .enrolment in rw (is-point on, since on .one) (elim (decLe e d) [
+  holder-is d = rw same-day (cases (unasked r p)
+      (λ off. unfold holderAnswer in rw off (sym (none-made off (λ e. cond (leb e d && leb d (r .day)) (holderOn d (g .cells)) none))))
+      (λ on. let e = born on in rw (is-point on, since on) (elim (decLe e d) [
         | yes le ↦ (elim (decLe d (r .day)) [
           | yes due ↦ rw (le-leb e d le, le-leb d (r .day) due) (holder-asked on d le due .0)
           | no late ↦ rw (le-leb e d le, lt-leb d (r .day) (omega arith)) (ap holderTold (holder-late on d (omega arith)))
         ])
         | no le ↦ rw (lt-leb e d (omega arith)) (ap holderTold (holder-early on d (omega arith)))
-      ])
+      ])))
 
   period-is : (m : ℕ) → periodTold (periodAnswer r p m) ≡ bookPeriod o calls p m
   unfolding bookPeriod
-  period-is m = go (unasked r p) refl
-    where
-      go : (b : Bool) → unasked r p ≡ b
-          → periodTold (periodAnswer r p m) ≡ cond (notPoint p || eqb m 0) none (nth (m - 1) (bookPeriods o calls p))
-      go true off = rw (none-kept off (eqb m 0) (m - 1)) (unfold periodAnswer in rw off)
-      go false on = rw (is-point on, ← (periods-are (here on .0) (here on .1))) (period-asked on m)
+  period-is m = cases (unasked r p) (λ off. rw (none-kept off (eqb m 0) (m - 1)) (unfold periodAnswer in rw off))
+      (λ on. rw (is-point on, ← periods-are (here on .0) (here on .1)) (period-asked on m))
 
   pub advance-is : advanceTold (advanceAnswer r p) ≡ bookAdvance o calls p
   unfolding bookAdvance
-  advance-is = go (unasked r p) refl
-    where
-      go : (b : Bool) → unasked r p ≡ b
-          → advanceTold (advanceAnswer r p) ≡ cond (notPoint p) none (sinceEnrolment n (λ e. some (registered l)))
-      go true off = rw (none-made off (λ e. some (registered l))) (unfold advanceAnswer in rw off)
-      go false on = rw (is-point on, since on .one) (ap advanceTold (advance-asked on))
+  advance-is = cases (unasked r p) (λ off. rw (none-made off (λ e. some (registered l))) (unfold advanceAnswer in rw off))
+      (λ on. rw (is-point on, since on) (ap advanceTold (advance-asked on)))
 
   answered-on : (e d : ℕ) → 1 ≤ p → p ≤ 32 → n ≡ e ∷ [] → e ≤ d → d ≤ r .day → holderNumber (holderAnswer r p d) ≡ 0
-  answered-on e d lo hi q le due = go (unasked r p) refl
-    where
-      go : (b : Bool) → unasked r p ≡ b → holderNumber (holderAnswer r p d) ≡ 0
-      go true off = let w : _≡_ {A = ℕ} 0 1 = cc (unborn lo hi off .0, q) in absurd (omega arith)
-      go false on =
-          let k : since on .enrolment ≡ e = cc (since on .one, q) in holder-asked on d (omega (arith, k)) due .1
+  answered-on e d lo hi q le due = cases (unasked r p)
+      (λ off. let w : _≡_ {A = ℕ} 0 1 = cc (unborn lo hi off .0, q) in absurd (omega arith))
+      (λ on. let k : born on ≡ e = cc (since on, q) in holder-asked on d (omega (arith, k)) due .1)
 
 pub asking : Asking
 asking =

@@ -1,11 +1,6 @@
 -- A point's periods are those that the day book's cells and the list's readings give.
-use mathlib.Core.Path.{_≡_, refl}
-use mathlib.Core.Bool.{true, false}
-use mathlib.Core.List.{List, [], _∷_, reverseAux}
-use mathlib.Core.Option.{none, some}
-use Prim.Native.Nat.{ℕ, zero, suc, _+_, _-_, _≤_, _<_}
-use native.Mathlib.Omega.{arith}
-use lib.ListN.{length, getD, take}
+use Rattle.basics.proofs.Basics.{_≡_, refl, true, false, some, none, List, [], _∷_, reverseAux, _≤_, ℕ, _-_, _+_, _<_}
+use Rattle.basics.proofs.Basics.{suc, zero, arith, length, take, getD}
 use Rattle.rules.specs.declared.{Period.Period, Point.Point}
 use Rattle.rules.specs.Pinned.Register.{period, noPeriod}
 use Rattle.rules.specs.DayBook.{Cell, cell}

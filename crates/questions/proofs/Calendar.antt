@@ -1,15 +1,10 @@
 -- The register's day stays on the calendar.
-use mathlib.Core.Path.{_≡_, refl}
-use mathlib.Core.Bool.{Bool, true, false, cond}
-use mathlib.Core.List.{List, [], _∷_, map}
-use Prim.Native.Nat.{ℕ, _≤_}
-use lib.Dec.{eqb}
-use borrow.Author.Tests.{eqb-true, ltb-false}
+use Rattle.basics.proofs.Basics.{_≡_, refl, true, List, [], _∷_, _≤_, ℕ, eqb, ltb-false, eqb-true, cases}
 use Rattle.dates.specs.Dates.{lastDay}
 use Rattle.rules.specs.declared.{Register.Register, Opening.Opening, Call.Call, Action.Action}
 use Rattle.rules.specs.Answers.{isAccepted}
 use Rattle.rules.specs.Rejections.{answer, openingAnswer}
-use Rattle.rules.specs.Pinned.Register.{register, catchUp, advanced, says, done, applied, after, opened}
+use Rattle.rules.specs.Pinned.Register.{register, advanced, says, done, applied, after, opened}
 use Rattle.rules.proofs.Accept.{pass}
 use Rattle.rules.proofs.Views.{passed}
 
@@ -22,22 +17,13 @@ done-day t Action.Day r = refl
 
 advanced-day : (t : ℕ) (r : Register) → advanced t r .day ≡ t
 unfolding advanced
-advanced-day t r = go (eqb (r .day) t) refl
-  where
-    go : (b : Bool) → eqb (r .day) t ≡ b
-        → cond b r (register (r .settings) t (r .contracts) (map (catchUp (r .settings) t) (r .points))) .day ≡ t
-    go true e = eqb-true _ _ e
-    go false e = refl
+advanced-day t r = cases (eqb (r .day) t) (λ e. rw e (eqb-true _ _ e)) (λ e. rw e)
 
 day-next : (r : Register) (c : Call) → r .day ≤ lastDay → applied r c .register .day ≤ lastDay
 unfolding applied says answer
-day-next r c le = go (isAccepted (says r c)) refl
-  where
-    go : (b : Bool) → isAccepted (says r c) ≡ b
-        → cond b (done (c .today) (c .action) (advanced (c .today) r)) r .day ≤ lastDay
-    go true ok = rw (done-day (c .today) (c .action) (advanced (c .today) r), advanced-day (c .today) r)
-        (passed (r .settings) (r .day) (r .contracts) (c .today) (c .action) _ ok .0)
-    go false q = le
+day-next r c le = cases (isAccepted (says r c))
+    (λ ok. rw (ok, done-day (c .today) (c .action) (advanced (c .today) r), advanced-day (c .today) r)
+    (passed (r .settings) (r .day) (r .contracts) (c .today) (c .action) _ ok .0)) (λ q. rw q le)
 
 day-after : (cs : List Call) (r : Register) → r .day ≤ lastDay → after r cs .day ≤ lastDay
 unfolding after

@@ -1,16 +1,7 @@
 -- The walk over a point's periods finds the one that the day lies in, and their sum does not wrap.
-use mathlib.Core.Path.{_≡_, refl, sym, _∙_, ap}
-use mathlib.Core.Bool.{Bool, true, false, cond, _&&_}
-use mathlib.Core.List.{List, [], _∷_, _++_, map, append-nil}
-use mathlib.Core.Option.{Option, none, some}
-use Prim.Native.Nat.{ℕ, zero, suc, _^_, _≤_, _<_}
-use native.Mathlib.Omega.{arith}
-use native.Mathlib.Decide.{decLe}
-use native.Mathlib.Nat.{mod-eq-of-lt}
-use lib.Dec.{leb}
-use lib.ListN.{length, getD, take}
-use lib.Seq.{take-suc, append-snoc}
-use borrow.Author.Tests.{le-leb, lt-leb, lt-ltb}
+use Rattle.basics.proofs.Basics.{_≡_, refl, sym, _∙_, ap, true, _&&_, some, Option, none, List, [], _∷_, _++_}
+use Rattle.basics.proofs.Basics.{append-nil, map, _≤_, ℕ, _<_, suc, zero, _^_, mod-eq-of-lt, decLe, arith, leb, length}
+use Rattle.basics.proofs.Basics.{take, getD, take-suc, append-snoc, lt-ltb, le-leb, lt-leb, cases}
 use Rattle.rules.specs.declared.{Period.Period}
 use Rattle.questions.specs.declared.{HolderAnswer.HolderAnswer}
 use Rattle.questions.specs.declared.HolderAnswer.the-variants as holder
@@ -42,13 +33,8 @@ module _ (d : ℕ) where
       → lastOf z (holders (covering d (xs ++ q ∷ l))) ≡ some (q .holder)
   unfolding covering lastOf
   last-covers [] l q z le k = rw (le-leb (q .start) d le, k .0, k .1)
-  last-covers (x ∷ xs) l q z le k =
-      go (leb (x .start) d && isBeforeNext d (xs ++ q ∷ l)) (covering d (xs ++ q ∷ l)) (λ y. last-covers xs l q y le k)
-    where
-      go : (b : Bool) (c : List Period) → ((y : Option ℕ) → lastOf y (holders c) ≡ some (q .holder))
-          → lastOf z (holders (cond b (x ∷ c) c)) ≡ some (q .holder)
-      go true c f = f (some (x .holder))
-      go false c f = f z
+  last-covers (x ∷ xs) l q z le k = cases (leb (x .start) d && isBeforeNext d (xs ++ q ∷ l))
+      (λ e. rw e (last-covers xs l q (some (x .holder)) le k)) (λ e. rw e (last-covers xs l q z le k))
 
   -- an answer that tells this, and is not refused
   abbrev pub Tells : HolderAnswer → Option ℕ → Type 0

@@ -1,5 +1,5 @@
 -- The questions' examples: each holds by computation.
-use mathlib.Core.Path.{refl}
+use Rattle.basics.proofs.Basics.{refl}
 use Rattle.rules.proofs.Computes.{computes}
 use Rattle.questions.specs.Pinned.Questions.{holderAmong, holderAnswer, periodAnswer, sumOf, advanceAnswer}
 use Rattle.questions.specs.Examples.{QuestionExamples}

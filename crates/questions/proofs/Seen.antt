@@ -1,11 +1,6 @@
 -- No question sees a pending request: each answer of a register is that of the register without its requests.
-use mathlib.Core.Path.{_≡_, refl, sym, ap, _∙_}
-use mathlib.Core.Bool.{Bool, true, false, cond}
-use mathlib.Core.List.{List, map}
-use Prim.Native.Nat.{ℕ, _-_}
-use borrow.Author.Tests.{le-ltb}
-use lib.ListN.{set, List·getD-map}
-use lib.Seq.{map-set-same}
+use Rattle.basics.proofs.Basics.{_≡_, refl, sym, _∙_, true, List, map, ℕ, _-_, set, List·getD-map, map-set-same, le-ltb}
+use Rattle.basics.proofs.Basics.{cases}
 use Rattle.dates.specs.Dates.{lastDay}
 use Rattle.rules.specs.declared.{Point.Point, Register.Register, Pending.Pending, Action.Action}
 use Rattle.rules.specs.declared.{PointAction.PointAction}
@@ -15,31 +10,24 @@ use Rattle.rules.specs.Answers.{isAccepted}
 use Rattle.rules.specs.Rejections.{firstOf, rows, accepted, answerTo, shown, answer}
 use Rattle.rules.specs.Pinned.Register.{noPoint, pointAt, view, advanced, says, acted, done, applied, on}
 use Rattle.questions.specs.Pinned.Questions.{holderAnswer, periodAnswer, advanceAnswer}
-use Rattle.questions.specs.Seen.{notAsked, withoutPending, PendingUnseen, onlyDay, RequestUnseen}
+use Rattle.questions.specs.Seen.{notAsked, withoutPending, SameAnswers, PendingUnseen, onlyDay, RequestUnseen}
 use Rattle.rules.proofs.Views.{passed}
 
 -- The point that stands for none has no request already.
 point-unseen : (p : ℕ) (ps : List Point) → pointAt p (map notAsked ps) ≡ notAsked (pointAt p ps)
 point-unseen p ps = List·getD-map notAsked ps (p - 1) noPoint
 
-holder-unseen : (r : Register) (p d : ℕ) → holderAnswer (withoutPending r) p d ≡ holderAnswer r p d
-unfolding holderAnswer withoutPending
-holder-unseen r p d = rw (point-unseen p (r .points))
-
-period-unseen : (r : Register) (p n : ℕ) → periodAnswer (withoutPending r) p n ≡ periodAnswer r p n
-unfolding periodAnswer withoutPending
-period-unseen r p n = rw (point-unseen p (r .points))
-
-advance-unseen : (r : Register) (p : ℕ) → advanceAnswer (withoutPending r) p ≡ advanceAnswer r p
-unfolding advanceAnswer withoutPending
-advance-unseen r p = rw (point-unseen p (r .points))
+unseen : (r : Register) → SameAnswers (withoutPending r) r
+unfolding holderAnswer periodAnswer advanceAnswer withoutPending
+unseen r = let e = point-unseen in
+    record { holder = λ p d. rw (e p (r .points)); period = λ p n. rw (e p (r .points)); advance = λ p. rw (e p (r .points)) }
 
 pub pending-unseen : PendingUnseen
-pending-unseen r r′ e =
+pending-unseen r r′ e = let s = unseen r in let s′ = rw (← e) at (unseen r′) in
     record {
-      holder = λ p d. sym (holder-unseen r p d) ∙ ap (λ (q : Register). holderAnswer q p d) e ∙ holder-unseen r′ p d;
-      period = λ p n. sym (period-unseen r p n) ∙ ap (λ (q : Register). periodAnswer q p n) e ∙ period-unseen r′ p n;
-      advance = λ p. sym (advance-unseen r p) ∙ ap (λ (q : Register). advanceAnswer q p) e ∙ advance-unseen r′ p;
+      holder = λ p d. sym (s .holder p d) ∙ s′ .holder p d;
+      period = λ p n. sym (s .period p n) ∙ s′ .period p n;
+      advance = λ p. sym (s .advance p) ∙ s′ .advance p;
     }
 
 -- A request that is stored, another or none, is all that a request and its cancel change.
@@ -67,12 +55,7 @@ day-accepted r t a ok =
 applied-unseen : (r : Register) (t : ℕ) (a : Action) → withoutPending (done t a (advanced t r)) ≡ withoutPending (advanced t r)
     → withoutPending (applied r (on t a) .register) ≡ withoutPending (onlyDay r t a)
 unfolding applied done
-applied-unseen r t a e = go (isAccepted (says r (on t a))) refl
-  where
-    go : (b : Bool) → isAccepted (says r (on t a)) ≡ b → withoutPending (cond b (done t a (advanced t r)) r)
-        ≡ withoutPending (cond b (cond (isAccepted (says r (on t Action.Day))) (done t Action.Day (advanced t r)) r) r)
-    go true ok = rw (day-accepted r t a ok) e
-    go false ok = refl
+applied-unseen r t a e = cases (isAccepted (says r (on t a))) (λ ok. rw (ok, day-accepted r t a ok) e) (λ ok. rw ok)
 
 pub request-unseen : RequestUnseen
 request-unseen =

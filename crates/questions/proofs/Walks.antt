@@ -1,11 +1,6 @@
 -- The walks of the questions over a point's periods, one turn of each loop.
-use mathlib.Core.Path.{_≡_, refl}
-use mathlib.Core.List.{List}
-use Prim.Native.Nat.{ℕ, zero, suc, _+_, _-_, _%_, _^_, _≤_, _<_}
-use native.Mathlib.Omega.{arith}
-use native.Mathlib.Numerals.{add-one}
-use lib.ListN.{getD}
-use borrow.Author.Tests.{le-leb, lt-leb}
+use Rattle.basics.proofs.Basics.{_≡_, refl, List, _≤_, ℕ, _-_, _+_, _<_, suc, zero, _^_, _%_, add-one, arith, getD}
+use Rattle.basics.proofs.Basics.{le-leb, lt-leb}
 use Rattle.rules.specs.declared.{Period.Period}
 use Rattle.questions.specs.declared.HolderAnswer.the-variants as holder
 use Rattle.rules.specs.Pinned.Register.{noPeriod}

@@ -1,20 +1,15 @@
 -- The register brought up to a day, and a point of it.
-use mathlib.Core.Path.{_≡_, refl, sym, _∙_, ap, fun-ext}
-use mathlib.Core.Bool.{Bool, true, false, cond}
-use mathlib.Core.List.{List, map}
-use Prim.Native.Nat.{ℕ, _-_, _≤_, _<_}
-use lib.Dec.{leb}
-use lib.ListN.{getD, List·getD-map}
-use borrow.Author.Tests.{le-leb, lt-leb, eq-eqb, ne-eqb}
+use Rattle.basics.proofs.Basics.{_≡_, refl, sym, _∙_, ap, fun-ext, true, false, Bool, cond, List, map, _≤_, ℕ, _-_, _<_}
+use Rattle.basics.proofs.Basics.{leb, getD, List·getD-map, le-leb, lt-leb, ne-eqb, eq-eqb}
 use Rattle.dates.specs.Dates.{lastDay}
-use Rattle.rules.specs.declared.{Point.Point, Register.Register, Settings.Settings}
+use Rattle.rules.specs.declared.{Due.Due, Point.Point, Register.Register, Settings.Settings}
 use Rattle.rules.specs.Pinned.Register.{catchUp, nextEvent, dueBy, expiryBy, happened, register, pointAt, noPoint, advanced}
-use Rattle.point_effects.specs.Between.{caughtUp}
+use Rattle.point_effects.specs.Between.{dueIn, nextIn, caughtUp}
 use Rattle.register.specs.Between.Calls.{broughtUp}
 
 -- On the calendar catching up is the definition's.
 pub caughtUp-on : (S : Settings) (t : ℕ) → t ≤ lastDay → caughtUp S t ≡ catchUp S t
-unfolding caughtUp
+unfolding caughtUp nextIn dueIn catchUp nextEvent
 caughtUp-on S t h = fun-ext (λ g. rw (le-leb t lastDay h))
 
 pub advanced-off : (t : ℕ) (r : Register) → lastDay < t → broughtUp t r ≡ r
@@ -32,13 +27,17 @@ module _ (t : ℕ) (r : Register) (h : t ≤ lastDay) where
   advanced-new n = rw (le-leb t lastDay h, ne-eqb (r .day) t n, caughtUp-on (r .settings) t h)
 
 -- Nothing falls due where there is no point.
-caughtUp-none : (S : Settings) (t : ℕ) → caughtUp S t noPoint ≡ noPoint
-unfolding caughtUp catchUp nextEvent dueBy expiryBy happened
-caughtUp-none S t = go (leb t lastDay)
+next-none : (S : Settings) (t : ℕ) → nextIn S t noPoint ≡ noPoint
+unfolding nextIn dueIn dueBy expiryBy happened
+next-none S t = go (leb t lastDay)
   where
-    go : (b : Bool) → cond b noPoint noPoint ≡ noPoint
+    go : (b : Bool) → happened (cond b Due.Nothing Due.Nothing) noPoint ≡ noPoint
     go true = refl
     go false = refl
+
+caughtUp-none : (S : Settings) (t : ℕ) → caughtUp S t noPoint ≡ noPoint
+unfolding caughtUp
+caughtUp-none S t = ap (nextIn S t) (next-none S t) ∙ next-none S t
 
 pub point-caughtUp : (S : Settings) (t p : ℕ) (ps : List Point) → pointAt p (map (caughtUp S t) ps) ≡ caughtUp S t (pointAt p ps)
 point-caughtUp S t p ps = ap (λ (d : Point). getD (map (caughtUp S t) ps) (p - 1) d) (sym (caughtUp-none S t))

@@ -1,14 +1,8 @@
 -- A call that names a point, on the whole register: the answer is that of the point as the call finds it, and the register after an
 -- accepted call has that point stored.
-use mathlib.Core.Path.{_≡_, refl, sym, _∙_, ap}
-use mathlib.Core.Bool.{Bool, true, false, cond}
-use mathlib.Core.List.{map}
-use Prim.Native.Nat.{ℕ, _-_, _≤_}
-use native.Mathlib.Omega.{arith}
-use native.Mathlib.Decide.{decLe}
-use lib.Dec.{eqb, leb}
-use lib.ListN.{set}
-use borrow.Author.Tests.{le-leb, lt-ltb, le-ltb}
+use Rattle.basics.proofs.Basics.{_≡_, refl, sym, _∙_, ap, true, false, Bool, cond, map, _≤_, ℕ, _-_, decLe, arith, eqb}
+use Rattle.basics.proofs.Basics.{leb, set, lt-ltb, le-leb, le-ltb}
+use mathlib.Core.Logic.{inl}
 use Rattle.dates.specs.Dates.{lastDay}
 use Rattle.rules.specs.declared.{Point.Point, Register.Register, Answer.Answer, Action.Action}
 use Rattle.rules.specs.declared.{PointAction.PointAction, View.View, Effect.Effect}
@@ -66,7 +60,7 @@ module _ (r : Register) (t p : ℕ) (a : PointAction) where
   unfolding says answer answerAt answerTo rows accepted
   at-says = elim (decLe t lastDay) [
     | yes h ↦ answer-at (r .settings) (r .day) (r .contracts) t p a (shown every) found (shown-found h)
-    | no h ↦ answer-off (r .settings) (r .day) (r .contracts) t (shown every) found (Action.At p a) (lt-ltb lastDay t (omega arith))
+    | no h ↦ answer-off (r .settings) (r .day) (r .contracts) t (shown every) found (Action.At p a) (inl (lt-ltb lastDay t (omega arith)))
   ]
 
   pub at-refused : isAccepted ruling ≡ false → outcome ruling r ≡ applied r (callAt t p a)

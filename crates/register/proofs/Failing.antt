@@ -1,10 +1,6 @@
 -- A failure on the whole register: the rows before number 30, number 30 by the points, and the register after it.
-use mathlib.Core.Path.{_≡_, refl, sym, _∙_, ap, fun-ext}
-use mathlib.Core.Bool.{Bool, true, false, _&&_}
-use mathlib.Core.List.{List, map}
-use Prim.Native.Nat.{ℕ, zero, suc, _+_, _≤_, _<_}
-use native.Mathlib.Omega.{arith}
-use lib.ListN.{set}
+use Rattle.basics.proofs.Basics.{_≡_, refl, sym, _∙_, ap, fun-ext, true, false, Bool, _&&_, List, map, _≤_, ℕ, _+_, _<_}
+use Rattle.basics.proofs.Basics.{suc, zero, arith, set}
 use Rattle.dates.specs.Dates.{lastDay}
 use Rattle.rules.specs.declared.{Point.Point, Register.Register, View.View, Settings.Settings, Answer.Answer, Action.Action}
 use Rattle.rules.specs.Answers.{isAccepted}

@@ -1,7 +1,5 @@
 -- The numbers of an accepted opening are in range.
-use mathlib.Core.Path.{_≡_}
-use mathlib.Core.Bool.{true}
-use borrow.Author.Tests.{ltb-false}
+use Rattle.basics.proofs.Basics.{_≡_, true, ltb-false}
 use Rattle.dates.specs.Dates.{lastDay}
 use Rattle.rules.specs.declared.{Opening.Opening}
 use Rattle.rules.specs.Answers.{isAccepted}

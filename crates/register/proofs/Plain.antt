@@ -1,10 +1,5 @@
 -- A call that looks at no point, on the whole register: contract and day.
-use mathlib.Core.Path.{_≡_}
-use mathlib.Core.Bool.{Bool, true, false}
-use mathlib.Core.List.{List}
-use Prim.Native.Nat.{ℕ, _≤_}
-use lib.Dec.{ltb}
-use borrow.Author.Tests.{ltb-false}
+use Rattle.basics.proofs.Basics.{_≡_, true, false, Bool, List, _≤_, ℕ, ltb, ltb-false}
 use Rattle.rules.specs.declared.{Action.Action, Answer.Answer, Register.Register, Settings.Settings, View.View}
 use Rattle.rules.specs.Answers.{isAccepted}
 use Rattle.rules.specs.Rejections.{rows, answerTo, shown, answer}

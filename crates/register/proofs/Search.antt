@@ -1,11 +1,5 @@
 -- A loop that looks at points 1 to 32 in turn: the points from i + 1 on are left.
-use mathlib.Core.Path.{_≡_, refl}
-use mathlib.Core.Bool.{Bool, true, false}
-use Prim.Native.Nat.{ℕ, zero, suc, _+_, _-_, _<_}
-use mathlib.Core.List.{List}
-use native.Mathlib.Omega.{arith}
-use native.Mathlib.Numerals.{add-one}
-use lib.ListN.{getD}
+use Rattle.basics.proofs.Basics.{_≡_, refl, true, false, Bool, List, ℕ, _-_, _+_, _<_, suc, zero, add-one, arith, getD}
 use Rattle.rules.specs.declared.{Point.Point}
 use Rattle.rules.specs.Rejections.{anyPoint}
 use Rattle.rules.specs.Pinned.Register.{pointAt, noPoint}

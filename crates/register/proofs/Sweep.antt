@@ -1,10 +1,6 @@
 -- A loop that changes each element of an array in turn: after i turns the first i are changed.
-use mathlib.Core.Path.{_≡_, refl, ap}
-use mathlib.Core.List.{List, [], _∷_, _++_, map}
-use Prim.Native.Nat.{ℕ, zero, suc, _+_, _≤_, _<_}
-use native.Mathlib.Omega.{arith}
-use native.Mathlib.Numerals.{add-one}
-use lib.ListN.{length, take, drop, getD, set}
+use Rattle.basics.proofs.Basics.{_≡_, refl, ap, List, [], _∷_, _++_, map, _≤_, ℕ, _+_, _<_, suc, zero, add-one, arith}
+use Rattle.basics.proofs.Basics.{length, drop, take, getD, set}
 
 abbrev pub swept : {A : Type 0} → (A → A) → ℕ → List A → List A
 swept f i l = map f (take i l) ++ drop i l

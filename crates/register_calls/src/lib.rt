@@ -22,10 +22,9 @@ ghost use mathlib.Core.Path.{_≡_};
 ghost use Rattle.rules.specs.Pinned.Register.{applied, on};
 ghost use Rattle.register.specs.Between.Calls.{callAt};
 
-pub(crate) fn apply_at(r: Register, today: u64, p: u64, a: PointAction) -> Outcome
-    ensures { λ x. ⌜ x ≡ applied r (callAt today p a) ⌝ }
+fn apply_on(r: Register, today: u64, action: Action) -> Outcome
+    ensures { λ x. ⌜ x ≡ applied r (on today action) ⌝ }
 {
-    let action = Action::At { point: p, act: a };
     apply(
         r,
         Call {
@@ -33,45 +32,31 @@ pub(crate) fn apply_at(r: Register, today: u64, p: u64, a: PointAction) -> Outco
             action: action,
         },
     )
+}
+
+pub(crate) fn apply_at(r: Register, today: u64, p: u64, a: PointAction) -> Outcome
+    ensures { λ x. ⌜ x ≡ applied r (callAt today p a) ⌝ }
+{
+    apply_on(r, today, Action::At { point: p, act: a })
 }
 
 // 1. Supplier s is under contract.
 pub fn contract(r: Register, today: u64, s: u64) -> Outcome
     ensures { λ x. ⌜ x ≡ applied r (on today (Action.Contract s)) ⌝ }
 {
-    let action = Action::Contract { supplier: s };
-    apply(
-        r,
-        Call {
-            today: today,
-            action: action,
-        },
-    )
+    apply_on(r, today, Action::Contract { supplier: s })
 }
 
 // 2. Supplier s fails.
 pub fn failure(r: Register, today: u64, s: u64) -> Outcome
     ensures { λ x. ⌜ x ≡ applied r (on today (Action.Failure s)) ⌝ }
 {
-    let action = Action::Failure { supplier: s };
-    apply(
-        r,
-        Call {
-            today: today,
-            action: action,
-        },
-    )
+    apply_on(r, today, Action::Failure { supplier: s })
 }
 
 // 12. A new day.
 pub fn day(r: Register, today: u64) -> Outcome
     ensures { λ x. ⌜ x ≡ applied r (on today Action.Day) ⌝ }
 {
-    apply(
-        r,
-        Call {
-            today: today,
-            action: Action::Day,
-        },
-    )
+    apply_on(r, today, Action::Day)
 }

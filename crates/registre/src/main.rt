@@ -3,11 +3,16 @@
 // and without closing lines: they stand for a whole input.
 use input_pieces::Session;
 use libc::STDERR_FILENO;
+use libc::STDOUT_FILENO;
 use standard_input::End;
 use standard_input::read_all;
 
 fn write_out(text: &[u8]) -> bool {
-    standard_input::write_out(text, b"registre: writing the answers")
+    let is_written = io::write_all(STDOUT_FILENO, text);
+    if !is_written {
+        os::fail(b"registre: writing the answers");
+    }
+    is_written
 }
 
 fn say(text: &[u8]) {

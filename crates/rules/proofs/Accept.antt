@@ -1,8 +1,5 @@
 -- What an accepted call has passed, row by row.
-use mathlib.Core.Path.{_≡_, refl}
-use mathlib.Core.Bool.{Bool, true, false, _||_, true≢false, false≢true}
-use mathlib.Core.List.{List, _∷_}
-use Prim.Native.Nat.{ℕ}
+use Rattle.basics.proofs.Basics.{_≡_, refl, true, false, Bool, false≢true, _||_, true≢false, List, _∷_, ℕ}
 use Rattle.rules.specs.declared.{Answer.Answer}
 use Rattle.rules.specs.Answers.{isAccepted}
 use Rattle.rules.specs.Rejections.{Row, _⇒_, firstOf}

@@ -1,6 +1,6 @@
 -- What the examples compute with. A proof that says `unfolding computes` opens every definition of the calendar, of the
 -- register and of the day book, so that both sides of an example come to the same value and `refl` proves it.
-use Prim.Native.Nat.{ℕ}
+use Rattle.basics.proofs.Basics.{ℕ}
 use Rattle.dates.specs.Dates
 use Rattle.dates.specs.Numbers
 use Rattle.dates.specs.Months

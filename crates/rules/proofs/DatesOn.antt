@@ -1,7 +1,6 @@
 -- Three months after, and working days between, at days that lie far from the first: from their dates, since days and dates are one to one.
 -- No day is counted up to.
-use mathlib.Core.Path.{_≡_, refl}
-use Prim.Native.Nat.{ℕ}
+use Rattle.basics.proofs.Basics.{_≡_, refl, ℕ}
 use Rattle.dates.specs.declared.{DayAnswer.DayAnswer}
 use Rattle.dates.specs.Dates.{date, dateOf}
 use Rattle.dates.specs.Numbers.{dayAnswer}

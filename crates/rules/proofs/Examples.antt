@@ -1,9 +1,6 @@
 -- The proved table of document 01's dated examples: each field holds by computation. The calendar's facts at days that
 -- lie far from the first are computed once, and the lists of calls are rewritten with them.
-use mathlib.Core.Path.{_≡_, refl, ap}
-use mathlib.Core.Bool.{true, false}
-use Prim.Native.Nat.{ℕ}
-use lib.Dec.{ltb}
+use Rattle.basics.proofs.Basics.{_≡_, refl, ap, true, false, ℕ, ltb}
 use Rattle.dates.specs.Dates.{dateOf}
 use Rattle.rules.specs.declared.{Pending.Pending, Answer.Answer}
 use Rattle.rules.specs.Opening.{settingsOf}

@@ -1,5 +1,5 @@
 -- The row examples: each holds by computation; the calendar's facts on its last days are rewritten with.
-use mathlib.Core.Path.{refl}
+use Rattle.basics.proofs.Basics.{refl}
 use Rattle.rules.specs.RowExamples.Answers.{AnswerExamples}
 use Rattle.rules.specs.RowExamples.Openings.{OpeningExamples}
 use Rattle.rules.specs.RowExamples.Order.{OrderExamples}

@@ -1,6 +1,5 @@
 -- How a list with its answers is proved: the register gives them, and the day book gives the same.
-use mathlib.Core.Path.{_≡_, _∙_}
-use mathlib.Core.List.{List}
+use Rattle.basics.proofs.Basics.{_≡_, _∙_, List}
 use Rattle.rules.specs.declared.{Opening.Opening}
 use Rattle.rules.specs.Pinned.Register
 use Rattle.rules.specs.DayBook

@@ -1,10 +1,7 @@
 -- What an answer looks at, and what an accepted call has passed.
-use mathlib.Core.Path.{_≡_, refl, fun-ext}
-use mathlib.Core.Bool.{Bool, true, false, cond, _||_}
-use mathlib.Core.List.{List, _∷_}
-use Prim.Native.Nat.{ℕ, _≤_}
-use lib.Dec.{ltb}
-use borrow.Author.Tests.{ltb-false, le-ltb}
+use Rattle.basics.proofs.Basics.{_≡_, refl, fun-ext, true, false, Bool, cond, _||_, List, _∷_, _≤_, ℕ, ltb, le-ltb}
+use Rattle.basics.proofs.Basics.{ltb-false}
+use mathlib.Core.Logic.{_⊎_, inl, inr, ⊎-elim}
 use Rattle.dates.specs.Dates.{lastDay}
 use Rattle.rules.specs.declared.{Settings.Settings, Call.Call, Action.Action, PointAction.PointAction}
 use Rattle.rules.specs.Answers.{isAccepted}
@@ -32,44 +29,6 @@ pub answer-ext : (S : Settings) (day : ℕ) (u : List Bool) (c : Call) (v w : �
 unfolding answer
 answer-ext S day u c v w h = rw (fun-ext (shown-ext v w h))
 
--- A call off the calendar, or dated before the register's day, is refused whatever the points are.
-module _ (S : Settings) (day : ℕ) (u : List Bool) (t : ℕ) (v w : ℕ → View) where
-  pub answer-off : (a : Action) → ltb lastDay t ≡ true → answerTo S day u t a v ≡ answerTo S day u t a w
-  unfolding answerTo firstOf rows rowsAt
-  answer-off (Action.Contract s) q = rw q
-  answer-off (Action.Failure s) q = rw q
-  answer-off (Action.At p (PointAction.Enrol b a x)) q = rw q
-  answer-off (Action.At p (PointAction.IntoService s k)) q = rw q
-  answer-off (Action.At p (PointAction.DefaultSupply k)) q = rw q
-  answer-off (Action.At p (PointAction.Request s k r)) q = rw q
-  answer-off (Action.At p (PointAction.Cancel s)) q = rw q
-  answer-off (Action.At p (PointAction.Reading d x z)) q = rw q
-  answer-off (Action.At p (PointAction.MeterChange x z b a y)) q = rw q
-  answer-off (Action.At p PointAction.OutOfService) q = rw q
-  answer-off (Action.At p (PointAction.Suspend m)) q = rw q
-  answer-off Action.Day q = rw q
-
-  pub answer-back : (a : Action) → ltb t day ≡ true → answerTo S day u t a v ≡ answerTo S day u t a w
-  unfolding answerTo firstOf rows rowsAt
-  answer-back (Action.Contract s) q = rw q
-  answer-back (Action.Failure s) q = rw q
-  answer-back (Action.At p (PointAction.Enrol b a x)) q = rw q
-  answer-back (Action.At p (PointAction.IntoService s k)) q = rw q
-  answer-back (Action.At p (PointAction.DefaultSupply k)) q = rw q
-  answer-back (Action.At p (PointAction.Request s k r)) q = rw q
-  answer-back (Action.At p (PointAction.Cancel s)) q = rw q
-  answer-back (Action.At p (PointAction.Reading d x z)) q = rw q
-  answer-back (Action.At p (PointAction.MeterChange x z b a y)) q = rw q
-  answer-back (Action.At p PointAction.OutOfService) q = rw q
-  answer-back (Action.At p (PointAction.Suspend m)) q = rw q
-  answer-back Action.Day q = rw q
-
--- A call that names a point looks at that point only.
-pub answer-at : (S : Settings) (day : ℕ) (u : List Bool) (t p : ℕ) (a : PointAction) (v w : ℕ → View) → v p ≡ w p
-    → answerTo S day u t (Action.At p a) v ≡ answerTo S day u t (Action.At p a) w
-unfolding answerTo rows accepted
-answer-at S day u t p a v w q = rw q
-
 -- What an accepted call has passed with rows 20 and 21: rs are the rows that come after them.
 pub record Passed (day t : ℕ) (rs : List Row) (a : Answer) : Type 0 where
   pub calendar : t ≤ lastDay
@@ -90,27 +49,59 @@ dated-also day t x rs a ok = let k = pass (isPast t || x) 20 ((runsBack day t �
     (n .1, record { calendar = ltb-false lastDay t (n .0); on = ltb-false t day (l .0); rest = l .1 })
 
 module _ (S : Settings) (day : ℕ) (u : List Bool) (t : ℕ) where
+  -- A call off the calendar, dated before the register's day, or at no point is refused whatever the points are.
+  abbrev OffDay : Type 0
+  OffDay = (isPast t ≡ true) ⊎ (runsBack day t ≡ true)
+
+  rows-off : (p : ℕ) (a : PointAction) (v w : View) (c d : Answer) → OffDay ⊎ (notPoint p ≡ true)
+      → firstOf (rowsAt S day u t p a v) c ≡ firstOf (rowsAt S day u t p a w) d
+  unfolding rowsAt firstOf
+  rows-off p (PointAction.Enrol b a x) v w _ _ q = ⊎-elim (⊎-elim (λ q. rw q) (λ q. rw q)) (λ q. rw q) q
+  rows-off p (PointAction.IntoService s k) v w _ _ q = ⊎-elim (⊎-elim (λ q. rw q) (λ q. rw q)) (λ q. rw q) q
+  rows-off p (PointAction.DefaultSupply k) v w _ _ q = ⊎-elim (⊎-elim (λ q. rw q) (λ q. rw q)) (λ q. rw q) q
+  rows-off p (PointAction.Request s k r) v w _ _ q = ⊎-elim (⊎-elim (λ q. rw q) (λ q. rw q)) (λ q. rw q) q
+  rows-off p (PointAction.Cancel s) v w _ _ q = ⊎-elim (⊎-elim (λ q. rw q) (λ q. rw q)) (λ q. rw q) q
+  rows-off p (PointAction.Reading d x z) v w _ _ q = ⊎-elim (⊎-elim (λ q. rw q) (λ q. rw q)) (λ q. rw q) q
+  rows-off p (PointAction.MeterChange x z b a y) v w _ _ q = ⊎-elim (⊎-elim (λ q. rw q) (λ q. rw q)) (λ q. rw q) q
+  rows-off p PointAction.OutOfService v w _ _ q = ⊎-elim (⊎-elim (λ q. rw q) (λ q. rw q)) (λ q. rw q) q
+  rows-off p (PointAction.Suspend m) v w _ _ q = ⊎-elim (⊎-elim (λ q. rw q) (λ q. rw q)) (λ q. rw q) q
+
+  pub answer-off : (v w : ℕ → View) (a : Action) → OffDay → answerTo S day u t a v ≡ answerTo S day u t a w
+  unfolding answerTo rows firstOf accepted
+  answer-off v w (Action.Contract s) q = refl
+  answer-off v w (Action.Failure s) q = ⊎-elim (λ q. rw q) (λ q. rw q) q
+  answer-off v w (Action.At p a) q = rows-off p a (v p) (w p) _ _ (inl q)
+  answer-off v w Action.Day q = refl
+
+  pub answer-none : (p : ℕ) (a : PointAction) (v w : ℕ → View) → notPoint p ≡ true
+      → answerTo S day u t (Action.At p a) v ≡ answerTo S day u t (Action.At p a) w
+  unfolding answerTo rows
+  answer-none p a v w q = rows-off p a (v p) (w p) _ _ (inr q)
+
+  -- A call that names a point looks at that point only.
+  pub answer-at : (p : ℕ) (a : PointAction) (v w : ℕ → View) → v p ≡ w p → answerTo S day u t (Action.At p a) v ≡ answerTo S day u t (Action.At p a) w
+  unfolding answerTo rows accepted
+  answer-at p a v w q = rw q
+
   -- The day of an accepted call, and the point that it names.
+  at-point : (p : ℕ) (x : Bool) {rs : List Row} {a : Answer} → Passed day t rs a → (notPoint p || x) ≡ false
+      → (t ≤ lastDay) × (day ≤ t) × (notPoint p ≡ false)
+  at-point p x k h = (k .calendar, k .on, neither (notPoint p) x h .0)
+
   pub passed-at : (p : ℕ) (a : PointAction) (v : View) (b : Answer) → isAccepted (firstOf (rowsAt S day u t p a v) b) ≡ true
       → (t ≤ lastDay) × (day ≤ t) × (notPoint p ≡ false)
   unfolding rowsAt
   passed-at p (PointAction.Enrol b a x) v _ ok = let k = dated day t _ _ (pass _ _ _ _ ok .1) in (k .calendar, k .on, pass _ _ _ _ (k .rest) .0)
   passed-at p (PointAction.IntoService s k) v _ ok = let k = dated day t _ _ (pass _ _ _ _ ok .1) in
-      (k .calendar, k .on, neither (notPoint p) _ (pass _ _ _ _ (pass _ _ _ _ (k .rest) .1) .0) .0)
-  passed-at p (PointAction.DefaultSupply k) v _ ok =
-      let k = dated-also day t _ _ _ (pass _ _ _ _ ok .1) .1 in (k .calendar, k .on, neither (notPoint p) _ (pass _ _ _ _ (k .rest) .0) .0)
+      at-point p _ k (pass _ _ _ _ (pass _ _ _ _ (k .rest) .1) .0)
+  passed-at p (PointAction.DefaultSupply k) v _ ok = let k = dated-also day t _ _ _ (pass _ _ _ _ ok .1) .1 in at-point p _ k (pass _ _ _ _ (k .rest) .0)
   passed-at p (PointAction.Request s k r) v _ ok = let k = dated-also day t _ _ _ (pass _ _ _ _ ok .1) .1 in
-      (k .calendar, k .on, neither (notPoint p) _ (pass _ _ _ _ (pass _ _ _ _ (k .rest) .1) .0) .0)
-  passed-at p (PointAction.Cancel s) v _ ok =
-      let k = dated day t _ _ (pass _ _ _ _ ok .1) in (k .calendar, k .on, neither (notPoint p) _ (pass _ _ _ _ (k .rest) .0) .0)
-  passed-at p (PointAction.Reading d x z) v _ ok =
-      let k = dated-also day t _ _ _ (pass _ _ _ _ ok .1) .1 in (k .calendar, k .on, neither (notPoint p) _ (pass _ _ _ _ (k .rest) .0) .0)
-  passed-at p (PointAction.MeterChange x z b a y) v _ ok =
-      let k = dated day t _ _ (pass _ _ _ _ ok .1) in (k .calendar, k .on, neither (notPoint p) _ (pass _ _ _ _ (k .rest) .0) .0)
-  passed-at p PointAction.OutOfService v _ ok =
-      let k = dated day t _ _ ok in (k .calendar, k .on, neither (notPoint p) _ (pass _ _ _ _ (k .rest) .0) .0)
-  passed-at p (PointAction.Suspend m) v _ ok =
-      let k = dated day t _ _ (pass _ _ _ _ ok .1) in (k .calendar, k .on, neither (notPoint p) _ (pass _ _ _ _ (k .rest) .0) .0)
+      at-point p _ k (pass _ _ _ _ (pass _ _ _ _ (k .rest) .1) .0)
+  passed-at p (PointAction.Cancel s) v _ ok = let k = dated day t _ _ (pass _ _ _ _ ok .1) in at-point p _ k (pass _ _ _ _ (k .rest) .0)
+  passed-at p (PointAction.Reading d x z) v _ ok = let k = dated-also day t _ _ _ (pass _ _ _ _ ok .1) .1 in at-point p _ k (pass _ _ _ _ (k .rest) .0)
+  passed-at p (PointAction.MeterChange x z b a y) v _ ok = let k = dated day t _ _ (pass _ _ _ _ ok .1) in at-point p _ k (pass _ _ _ _ (k .rest) .0)
+  passed-at p PointAction.OutOfService v _ ok = let k = dated day t _ _ ok in at-point p _ k (pass _ _ _ _ (k .rest) .0)
+  passed-at p (PointAction.Suspend m) v _ ok = let k = dated day t _ _ (pass _ _ _ _ ok .1) in at-point p _ k (pass _ _ _ _ (k .rest) .0)
 
   -- The day of an accepted call lies in the calendar, and not before the register's.
   pub passed : (a : Action) (v : ℕ → View) → isAccepted (answerTo S day u t a v) ≡ true → (t ≤ lastDay) × (day ≤ t)

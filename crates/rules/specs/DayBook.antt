@@ -10,11 +10,10 @@
 use mathlib.Core.Bool.{Bool, true, false, cond}
 use mathlib.Core.List.{List, [], _∷_, _++_}
 use Prim.Native.Nat.{ℕ, zero, suc, _-_}
-use lib.ListN.{set}
 use Rattle.rules.specs.declared.{Fields.Fields, Settings.Settings, Span.Span, Opening.Opening, Call.Call}
-use Rattle.rules.specs.declared.{Action.Action, Answer.Answer, Effect.Effect, View.View}
+use Rattle.rules.specs.declared.{Answer.Answer, Effect.Effect, View.View}
 use Rattle.rules.specs.Fields.{blank}
-use Rattle.rules.specs.Effects.{fieldsOf, names, spansIn, enrols, event, effect}
+use Rattle.rules.specs.Effects.{fieldsOf, names, spansIn, enrols, event, effect, signed}
 use Rattle.rules.specs.Answers.{isAccepted}
 use Rattle.rules.specs.Rejections.{answer}
 use Rattle.rules.specs.Opening.{settingsOf, firstContracts}
@@ -78,13 +77,6 @@ look g = record { fields = g .fields; marks = countMarks (g .cells); marked = is
 -- "Checks look at the state brought up to today"
 unfoldable pub says : Book → Call → Answer
 says b c = answer (b .settings) (b .day) (b .contracts) c (λ p. look (upToDay (c .today) b .page p))
-
--- 1: "s is under contract"; 2: "s loses its contract"
-abbrev pub signed : Action → List Bool → List Bool
-signed (Action.Contract s) u = set u s true
-signed (Action.Failure s) u = set u s false
-signed (Action.At p a) u = u
-signed Action.Day u = u
 
 -- "Then the call."
 abbrev pub entered : Call → Book → Book

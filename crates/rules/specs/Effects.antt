@@ -6,11 +6,12 @@
 -- acceptedBy the answer to an accepted call that has this effect
 -- event      the event of a gas day, if one falls on it
 -- effectOf   what an accepted call does to the point that it names; `failed`: what a failure does to any point
--- effect     what an accepted call does to point p
+-- effect     what an accepted call does to point p; `signed`: to who is under contract
 use mathlib.Core.Bool.{Bool, true, false, cond}
 use mathlib.Core.List.{List, [], _∷_}
 use Prim.Native.Nat.{ℕ, _+_, max}
 use lib.Dec.{eqb}
+use lib.ListN.{set}
 use Rattle.rules.specs.declared.{Effect.Effect, Fields.Fields, Settings.Settings, SupplyKind.SupplyKind}
 use Rattle.rules.specs.declared.{Pending.Pending, Span.Span, Action.Action, PointAction.PointAction}
 use Rattle.rules.specs.declared.{Answer.Answer}
@@ -60,7 +61,8 @@ unfoldable pub deadlineEvent : Settings → ℕ → Fields → SupplyKind → Ef
 deadlineEvent S t f SupplyKind.None = Effect.Keep f
 deadlineEvent S t f SupplyKind.Contract = Effect.Keep f
 deadlineEvent S t f (SupplyKind.Default d) =
-    cond (eqb d t) (Effect.Name (withSupply f (supply (S .resort) (SupplyKind.LastResort (t + S .b)) (f .supply .pending))))
+    cond (eqb d t)
+    (Effect.Name (withSupply f (supply (S .resort) (SupplyKind.LastResort (t + S .b)) (f .supply .pending))))
     (Effect.Keep f)
 deadlineEvent S t f (SupplyKind.LastResort d) = cond (eqb d t) (Effect.Name (withSupply f unsupplied)) (Effect.Keep f)
 
@@ -112,7 +114,8 @@ dropped s (Pending.Request q e) = cond (eqb q s) Pending.Nothing (Pending.Reques
 unfoldable pub failed : Settings → ℕ → ℕ → Fields → Effect
 failed S t s f =
     cond (eqb (f .supply .holder) s)
-    (Effect.Name (withSupply f (supply (S .resort) (SupplyKind.LastResort (t + S .b)) (dropped s (f .supply .pending)))))
+    (Effect.Name
+    (withSupply f (supply (S .resort) (SupplyKind.LastResort (t + S .b)) (dropped s (f .supply .pending)))))
     (Effect.Keep (withPending f (dropped s (f .supply .pending))))
 
 -- 1 and 12 touch no point.
@@ -121,3 +124,10 @@ effect S t (Action.Contract s) p f = Effect.Keep f
 effect S t (Action.Failure s) p f = failed S t s f
 effect S t (Action.At q a) p f = cond (eqb p q) (effectOf S t a f) (Effect.Keep f)
 effect S t Action.Day p f = Effect.Keep f
+
+-- 1: "s is under contract"; 2: "s loses its contract"
+abbrev pub signed : Action → List Bool → List Bool
+signed (Action.Contract s) u = set u s true
+signed (Action.Failure s) u = set u s false
+signed (Action.At p a) u = u
+signed Action.Day u = u

@@ -165,27 +165,11 @@ pub struct Outcome {
     pub register: Register,
 }
 
-// What falls due first at a point by a day: the day, and the holder and kind that it brings.
+// What falls due first at a point by a day.
 pub enum Due {
     Nothing,
-    // The pending request takes effect.
-    Switch {
-        day: u32,
-        holder: u8,
-        kind: SupplyKind,
-    },
-    // Default supply goes over to last resort; a pending request stays.
-    Fallback {
-        day: u32,
-        holder: u8,
-        kind: SupplyKind,
-    },
-    // Last resort ends; a pending request is dropped.
-    End {
-        day: u32,
-        holder: u8,
-        kind: SupplyKind,
-    },
+    // A holder is named on the day: the supply from then on.
+    Naming { day: u32, supply: Supply },
 }
 
 // What a reading books: an advance of the wheels from one day to a later one, and the volume of one unit.

@@ -1,10 +1,12 @@
 // Standard input, read to its end: what is read is handed in piece by piece, and the answer lines are written or not.
-// No contract can say what is read or written, so the functions are proved safe and ending only.
+// No contract can say what is read or written; whatever it is, a session that is said to be whole has come to the end
+// of an input (specs/Reached).
 use input_pieces::Session;
 use libc::STDIN_FILENO;
 use libc::STDOUT_FILENO;
 ghost use mathlib.Core.Path.{_≡_};
 ghost use lib.ListN.{length};
+ghost use Rattle.standard_input.specs.Reached.{ReadAll, IsFinished};
 
 // How the reading ended. After a read or a write that failed the error is still the system's last one.
 pub enum End {
@@ -23,7 +25,9 @@ pub struct Came {
 }
 
 // Reads to the end, the last line without its line feed too. Where show, the answer lines are written.
-pub fn read_all(show: bool) -> Came {
+pub fn read_all(show: bool) -> Came
+    ensures { λ r. ⌜ ReadAll r ⌝ }
+{
     let mut input = io::large_buffer();
     let mut out = answer_buffer();
     let mut s = input_whole::start();
@@ -62,17 +66,10 @@ pub fn read_all(show: bool) -> Came {
     ended(End::Untaken, s)
 }
 
-// Writes a text; where that fails, a word and the reason go to standard error.
-pub fn write_out(text: &[u8], word: &[u8]) -> bool {
-    let is_written = io::write_all(STDOUT_FILENO, text);
-    if !is_written {
-        os::fail(word);
-    }
-    is_written
-}
-
 // The session behind the last line, if it lacks its line feed.
-fn finished(show: bool, s: Session) -> Came {
+fn finished(show: bool, s: Session) -> Came
+    ensures { λ r. ⌜ IsFinished s r ⌝ }
+{
     let mut out = io::buffer();
     let f = input_whole::finish(s, &mut out);
     let n = f.written;
@@ -94,7 +91,9 @@ fn shown(show: bool, text: &[u8]) -> bool {
     true
 }
 
-fn ended(end: End, session: Session) -> Came {
+fn ended(end: End, session: Session) -> Came
+    ensures { λ r. ⌜ r ≡ record { end = end; session = session } ⌝ }
+{
     Came { end, session }
 }
 

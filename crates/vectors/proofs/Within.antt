@@ -1,12 +1,6 @@
 -- Positions that callees answer stay within what they were given.
-use Prim.Native.Nat.{ℕ, _+_, _-_, _/_, _≤_, _<_}
-use mathlib.Core.Path.{_≡_, refl}
-use mathlib.Core.Bool.{Bool, true, false}
-use mathlib.Core.List.{List}
-use native.Mathlib.Omega.{arith}
-use borrow.Author.Tests.{leb-true, leb-false}
-use lib.Dec.{leb}
-use lib.ListN.{length, take, drop, length-take, length-drop}
+use Rattle.basics.proofs.Basics.{_≡_, refl, true, false, Bool, List, _≤_, ℕ, _-_, _+_, _<_, _/_, arith, leb, length}
+use Rattle.basics.proofs.Basics.{drop, take, length-drop, length-take, leb-true, leb-false}
 use Rattle.line_text.specs.Between.Appending.{Appended}
 use Rattle.line_text.proofs.Appends.{room-put, no-room, appended-length}
 use Rattle.input_lines.specs.Between.Feeds.{untilFeed}

@@ -1,9 +1,6 @@
 -- What is answered: that no register is open, one question, or all of them.
-use mathlib.Core.Path.{sym}
-use lib.Seq.{length-take-le}
-use native.Mathlib.Omega.{arith}
+use Rattle.basics.proofs.Basics.{sym, arith, length-take-le, needs}
 use Rattle.line_text.proofs.Within.{appended-within}
-use borrow.Author.Needs.{needs}
 use Rattle.ask.proofs.answer.Statement.{statement}
 use Rattle.ask.proofs.answer.Tie as tie
 

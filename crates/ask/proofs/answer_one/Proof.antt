@@ -1,9 +1,6 @@
 -- The line stands within the buffer.
-use mathlib.Core.Path.{sym}
-use lib.Seq.{length-take-le}
-use native.Mathlib.Omega.{arith}
+use Rattle.basics.proofs.Basics.{sym, arith, length-take-le, needs}
 use Rattle.line_text.proofs.Within.{appended-within}
-use borrow.Author.Needs.{needs}
 use Rattle.ask.proofs.answer_one.Statement.{statement}
 use Rattle.ask.proofs.answer_one.Tie as tie
 

@@ -1,6 +1,6 @@
 -- The answer to the advance question, by its cases.
 use Rattle.ask_lines.specs.Lines.{advanceReply}
-use borrow.Author.Needs.{needs}
+use Rattle.basics.proofs.Basics.{needs}
 use Rattle.ask_lines.proofs.put_advance.Statement.{statement}
 use Rattle.ask_lines.proofs.put_advance.Tie as tie
 

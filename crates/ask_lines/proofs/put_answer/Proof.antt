@@ -1,6 +1,6 @@
 -- The answer to a question, by the question's cases.
 use Rattle.ask_lines.specs.Lines.{reply}
-use borrow.Author.Needs.{needs}
+use Rattle.basics.proofs.Basics.{needs}
 use Rattle.ask_lines.proofs.put_answer.Statement.{statement}
 use Rattle.ask_lines.proofs.put_answer.Tie as tie
 

@@ -1,9 +1,7 @@
 -- A day's date, and the byte behind it.
-use mathlib.Core.List.{[], _∷_}
-use native.Mathlib.Omega.{arith}
+use Rattle.basics.proofs.Basics.{[], _∷_, arith, needs}
 use Rattle.line_text.proofs.DayTexts.{day-append, day-length}
 use Rattle.line_text.proofs.Within.{within, within-more}
-use borrow.Author.Needs.{needs}
 use Rattle.ask_lines.proofs.put_date.Statement.{statement}
 use Rattle.ask_lines.proofs.put_date.Tie as tie
 

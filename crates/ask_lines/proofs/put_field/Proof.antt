@@ -1,10 +1,8 @@
 -- A number, and the byte behind it.
-use mathlib.Core.List.{[], _∷_}
-use native.Mathlib.Omega.{arith}
+use Rattle.basics.proofs.Basics.{[], _∷_, arith, needs}
 use Rattle.line_text.proofs.Spelling.{decimal-append}
 use Rattle.line_text.proofs.Within.{within, within-more}
 use Rattle.line_answers.proofs.LineTexts.{digits-few}
-use borrow.Author.Needs.{needs}
 use Rattle.ask_lines.proofs.put_field.Statement.{statement}
 use Rattle.ask_lines.proofs.put_field.Tie as tie
 

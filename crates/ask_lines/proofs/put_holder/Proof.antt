@@ -1,6 +1,6 @@
 -- The answer to the holder question, by its cases.
 use Rattle.ask_lines.specs.Lines.{holderReply}
-use borrow.Author.Needs.{needs}
+use Rattle.basics.proofs.Basics.{needs}
 use Rattle.ask_lines.proofs.put_holder.Statement.{statement}
 use Rattle.ask_lines.proofs.put_holder.Tie as tie
 

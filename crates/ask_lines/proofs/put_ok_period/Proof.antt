@@ -1,8 +1,6 @@
 -- `ok;`, a period's start, its holder and its volume, one behind the other.
-use mathlib.Core.List.{append-assoc}
-use native.Mathlib.Omega.{arith}
+use Rattle.basics.proofs.Basics.{append-assoc, arith, needs}
 use Rattle.line_text.proofs.Within.{within, within-more, within-wider, room-left}
-use borrow.Author.Needs.{needs}
 use Rattle.ask_lines.proofs.put_ok_period.Statement.{statement}
 use Rattle.ask_lines.proofs.put_ok_period.Tie as tie
 

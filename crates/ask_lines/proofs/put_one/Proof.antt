@@ -1,8 +1,6 @@
 -- A word, and a number with the byte behind it.
-use lib.ListN.{length}
-use native.Mathlib.Omega.{arith}
+use Rattle.basics.proofs.Basics.{arith, length, needs}
 use Rattle.line_text.proofs.Within.{within, within-more, room-left}
-use borrow.Author.Needs.{needs}
 use Rattle.ask_lines.proofs.put_one.Statement.{statement}
 use Rattle.ask_lines.proofs.put_one.Tie as tie
 

@@ -1,6 +1,6 @@
 -- The answer to the period question, by its cases.
 use Rattle.ask_lines.specs.Lines.{periodReply}
-use borrow.Author.Needs.{needs}
+use Rattle.basics.proofs.Basics.{needs}
 use Rattle.ask_lines.proofs.put_period.Statement.{statement}
 use Rattle.ask_lines.proofs.put_period.Tie as tie
 

@@ -1,10 +1,7 @@
 -- The line is made aside, where it surely fits, and copied.
-use mathlib.Core.Path.{sym}
-use native.Mathlib.Omega.{arith}
-use lib.Seq.{length-take-le}
+use Rattle.basics.proofs.Basics.{sym, arith, length-take-le, needs}
 use Rattle.line_text.proofs.Appends.{appended-take}
 use Rattle.line_text.proofs.Within.{appended-within}
-use borrow.Author.Needs.{needs}
 use Rattle.ask_lines.proofs.put_reply.Statement.{statement}
 use Rattle.ask_lines.proofs.put_reply.Tie as tie
 

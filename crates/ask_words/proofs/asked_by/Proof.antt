@@ -1,7 +1,6 @@
 -- By the count of the words.
-use borrow.Author.Tests.{ne-eqb}
+use Rattle.basics.proofs.Basics.{ne-eqb, needs}
 use Rattle.ask_words.specs.Asked.{askedBy}
-use borrow.Author.Needs.{needs}
 use Rattle.ask_words.proofs.asked_by.Statement.{statement}
 use Rattle.ask_words.proofs.asked_by.Tie as tie
 

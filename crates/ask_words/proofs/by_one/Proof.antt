@@ -1,6 +1,6 @@
 -- One word.
 use Rattle.ask_words.specs.Asked.{byOne}
-use borrow.Author.Needs.{needs}
+use Rattle.basics.proofs.Basics.{needs}
 use Rattle.ask_words.proofs.by_one.Statement.{statement}
 use Rattle.ask_words.proofs.by_one.Tie as tie
 

@@ -1,6 +1,6 @@
 -- Three words.
 use Rattle.ask_words.specs.Asked.{byThree}
-use borrow.Author.Needs.{needs}
+use Rattle.basics.proofs.Basics.{needs}
 use Rattle.ask_words.proofs.by_three.Statement.{statement}
 use Rattle.ask_words.proofs.by_three.Tie as tie
 

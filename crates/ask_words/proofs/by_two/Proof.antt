@@ -1,6 +1,6 @@
 -- Two words.
 use Rattle.ask_words.specs.Asked.{byTwo}
-use borrow.Author.Needs.{needs}
+use Rattle.basics.proofs.Basics.{needs}
 use Rattle.ask_words.proofs.by_two.Statement.{statement}
 use Rattle.ask_words.proofs.by_two.Tie as tie
 

@@ -1,12 +1,10 @@
 -- The value of a word that is a date.
-use mathlib.Core.Path.{ap, _∙_}
-use lib.ListN.{length}
+use Rattle.basics.proofs.Basics.{_∙_, ap, length, needs}
 use Rattle.line_values.specs.Pinned.Days.{dayIn}
 use Rattle.line_values.proofs.Places.{day-leaves}
 use Rattle.ask_words.specs.Asked.{dateValue}
 use Rattle.ask_words.specs.Between.Whole.{wholeOf}
 use Rattle.ask_words.proofs.Values.{whole-value}
-use borrow.Author.Needs.{needs}
 use Rattle.ask_words.proofs.date_value.Statement.{statement}
 use Rattle.ask_words.proofs.date_value.Tie as tie
 

@@ -1,5 +1,5 @@
 -- Both values are there, or nothing is asked.
-use borrow.Author.Needs.{needs}
+use Rattle.basics.proofs.Basics.{needs}
 use Rattle.ask_words.proofs.period_asked.Statement.{statement}
 use Rattle.ask_words.proofs.period_asked.Tie as tie
 

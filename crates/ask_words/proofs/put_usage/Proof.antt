@@ -1,6 +1,6 @@
 -- The line, where it fits.
 use Rattle.ask_words.specs.Asked.{usage}
-use borrow.Author.Needs.{needs}
+use Rattle.basics.proofs.Basics.{needs}
 use Rattle.ask_words.proofs.put_usage.Statement.{statement}
 use Rattle.ask_words.proofs.put_usage.Tie as tie
 

@@ -1,6 +1,5 @@
 -- What was read, where nothing follows it.
-use mathlib.Core.Path.{sym}
-use borrow.Author.Needs.{needs}
+use Rattle.basics.proofs.Basics.{sym, needs}
 use Rattle.ask_words.proofs.whole.Statement.{statement}
 use Rattle.ask_words.proofs.whole.Tie as tie
 use Rattle.ask_words.proofs.Values.{whole-more, whole-all}

@@ -1,8 +1,6 @@
 -- `date_of` meets its contract: a day past the last has no date.
-use native.Mathlib.Omega.{arith}
-use borrow.Author.Tests.{le-leb, lt-leb}
+use Rattle.basics.proofs.Basics.{arith, le-leb, lt-leb, needs}
 use Rattle.dates.specs.Numbers.{dateAnswer}
-use borrow.Author.Needs.{needs}
 use Rattle.dates.proofs.date_of.Statement.{statement}
 use Rattle.dates.proofs.date_of.Tie as tie
 

@@ -1,8 +1,6 @@
 -- `day_of` meets its contract: a date that fails a test is not real, one that passes them all is.
-use mathlib.Core.Path.{sym}
-use native.Mathlib.Omega.{arith}
-use Rattle.dates.proofs.Real.{Real, no-date, found}
-use borrow.Author.Needs.{needs}
+use Rattle.basics.proofs.Basics.{sym, arith, needs}
+use Rattle.dates.proofs.Real.{no-date, found}
 use Rattle.dates.proofs.day_of.Statement.{statement}
 use Rattle.dates.proofs.day_of.Tie as tie
 
@@ -14,14 +12,7 @@ returns-7 : tie.Need-returns-7
 returns-7 c =
     let long = rw (c .before .before .before .leap-row .ensures .0) at (c .before .before .length .ensures .0) in
     let a = c .before .before .before .before .before .before .before .before .before .args in
-    let real : Real (a .year) (a .month) (a .day) = record {
-      from-2000 = omega arith;
-      to-2199 = omega arith;
-      month-from-1 = omega arith;
-      month-to-12 = omega arith;
-      day-from-1 = omega arith;
-      day-to-last = omega arith;
-    } in found _ _ _ _ real (c .day-number .ensures .0)
+    found _ _ _ _ (search needs) (c .day-number .ensures .0)
 
 pub day-of-spec : {M : Type 1} → statement M
 day-of-spec =

@@ -1,10 +1,7 @@
 -- `three_months_after` meets its contract: in the same year up to September, in the next from October on.
-use mathlib.Core.Path.{_∙_}
-use native.Mathlib.Omega.{arith}
-use borrow.Author.Tests.{lt-leb}
+use Rattle.basics.proofs.Basics.{_∙_, arith, lt-leb, needs}
 use Rattle.dates.specs.Months.{threeMonthsAfter}
 use Rattle.dates.proofs.ThreeMonths.{in-the-year, in-the-next}
-use borrow.Author.Needs.{needs}
 use Rattle.dates.proofs.three_months_after.Statement.{statement}
 use Rattle.dates.proofs.three_months_after.Tie as tie
 

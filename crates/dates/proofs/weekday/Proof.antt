@@ -1,7 +1,6 @@
 -- `weekday` meets its contract: a remainder taken early leaves the same day of the week.
-use native.Mathlib.Omega.{arith}
+use Rattle.basics.proofs.Basics.{arith, needs}
 use Rattle.dates.specs.Dates.{weekday}
-use borrow.Author.Needs.{needs}
 use Rattle.dates.proofs.weekday.Statement.{statement}
 use Rattle.dates.proofs.weekday.Tie as tie
 

@@ -1,12 +1,8 @@
 -- `count_working` meets its contract: the days counted and the working days left are all of them.
-use mathlib.Core.Bool.{true, false}
 use mathlib.Core.Logic.{⊎-elim}
-use mathlib.Core.Path.{_≡_, _∙_, sym}
-use Prim.Native.Nat.{_+_, _-_, _≤_}
-use native.Mathlib.Omega.{arith}
-use Rattle.holidays.specs.Working.{isWorking, workingDays}
+use Rattle.basics.proofs.Basics.{_≡_, sym, _∙_, _≤_, _-_, _+_, arith, needs}
+use Rattle.holidays.specs.Working.{workingDays}
 use Rattle.holidays.proofs.Counting.{walk-step, walk-end}
-use borrow.Author.Needs.{needs}
 use Rattle.holidays.proofs.count_working.Statement.{statement}
 use Rattle.holidays.proofs.count_working.Tie as tie
 
@@ -19,10 +15,9 @@ abbrev μ-loop : tie.MeasureT-loop
 
 loop-again : tie.Need-loop-again Inv-loop μ-loop
 loop-again c = let d = c .before .before .before .loop .d in
-    let step = walk-step d (c .before .before .before .before .args .last) (omega arith) in ⊎-elim (λ w.
-    let e : isWorking d ≡ true = sym (c .before .is-working .ensures) ∙ w .0 .taken in let s = rw e at step in
-    omega arith) (λ w. let e : isWorking d ≡ false = sym (c .before .is-working .ensures) ∙ w .0 .left in
-    let s = rw e at step in omega arith) (c .if1 .came)
+    let step = walk-step d (c .before .before .before .before .args .last) (omega arith) in ⊎-elim
+    (λ w. let s = rw (sym (c .before .is-working .ensures) ∙ w .0 .taken) at step in omega arith)
+    (λ w. let s = rw (sym (c .before .is-working .ensures) ∙ w .0 .left) at step in omega arith) (c .if1 .came)
 
 returns : tie.Need-returns Inv-loop μ-loop
 returns c = let none = walk-end (c .before .loop .d) (c .before .before .args .last) (omega arith) in omega arith

@@ -1,5 +1,5 @@
 -- `falls_on` meets its contract: the month, then the day.
-use borrow.Author.Tests.{eq-eqb, ne-eqb}
+use Rattle.basics.proofs.Basics.{ne-eqb, eq-eqb}
 use Rattle.holidays.specs.Holidays.{fallsOn}
 use Rattle.holidays.proofs.falls_on.Statement.{statement}
 use Rattle.holidays.proofs.falls_on.Tie as tie

@@ -1,42 +1,25 @@
 -- `is_after_easter` meets its contract: three days after Easter Sunday, and none where there is no Easter.
-use mathlib.Core.Path.{_≡_, _∙_, sym}
-use mathlib.Core.Bool.{true}
-use Prim.Native.Nat.{ℕ, _+_}
-use lib.Dec.{eqb}
-use borrow.Author.Tests.{eq-eqb, ne-eqb}
-use Rattle.dates.specs.declared.{DayAnswer.DayAnswer}
+use Rattle.basics.proofs.Basics.{sym, _∙_, _+_, ne-eqb, eq-eqb, needs}
 use Rattle.holidays.specs.Holidays.{isAfterEaster}
-use borrow.Author.Needs.{needs}
 use Rattle.holidays.proofs.is_after_easter.Statement.{statement}
 use Rattle.holidays.proofs.is_after_easter.Tie as tie
 
--- the three days after Easter Sunday e
-module _ (n e : ℕ) where
-  first-day : n ≡ e + 1 → isAfterEaster n (DayAnswer.Day e) ≡ true
-  unfolding isAfterEaster
-  first-day h = rw (eq-eqb n (e + 1) h)
-
-  second-day : (n ≡ e + 1 → ⊥) → n ≡ e + 39 → isAfterEaster n (DayAnswer.Day e) ≡ true
-  unfolding isAfterEaster
-  second-day f h = rw (ne-eqb n (e + 1) f, eq-eqb n (e + 39) h)
-
-  third-day : (n ≡ e + 1 → ⊥) → (n ≡ e + 39 → ⊥) → isAfterEaster n (DayAnswer.Day e) ≡ eqb n (e + 50)
-  unfolding isAfterEaster
-  third-day f g = rw (ne-eqb n (e + 1) f, ne-eqb n (e + 39) g)
-
 returns-2 : tie.Need-returns-2
-returns-2 c =
-    let easter = sym (c .before .before .before .before .easter-day .ensures) ∙ c .before .before .answer .given .1 in
-    rw easter (sym (first-day _ _ (c .if1 .taken)))
+unfolding isAfterEaster
+returns-2 c = let c₂ = c .before .before in
+    rw (← c₂ .before .before .easter-day .ensures, c₂ .answer .given .1, eq-eqb _ (c₂ .answer .given .0 .0 + 1) (c .if1 .taken))
 
 returns-3 : tie.Need-returns-3
-returns-3 c = let easter = sym (c .before .before .before .before .before .easter-day .ensures) ∙
-    c .before .before .before .answer .given .1 in
-    rw easter (sym (second-day _ _ (c .before .if1 .left) (c .if2 .taken)))
+unfolding isAfterEaster
+returns-3 c = let c₃ = c .before .before .before in let e = c₃ .answer .given .0 .0 in
+    rw (← c₃ .before .before .easter-day .ensures, c₃ .answer .given .1)
+    (rw (ne-eqb _ (e + 1) (c .before .if1 .left), eq-eqb _ (e + 39) (c .if2 .taken)))
 
 returns-4 : tie.Need-returns-4
-returns-4 c = let easter = sym (c .before .before .before .before .before .easter-day .ensures) ∙
-    c .before .before .before .answer .given .1 in rw easter (sym (third-day _ _ (c .before .if1 .left) (c .if2 .left)))
+unfolding isAfterEaster
+returns-4 c = let c₃ = c .before .before .before in let e = c₃ .answer .given .0 .0 in
+    rw (← c₃ .before .before .easter-day .ensures, c₃ .answer .given .1)
+    (rw (ne-eqb _ (e + 1) (c .before .if1 .left), ne-eqb _ (e + 39) (c .if2 .left)))
 
 pub is-after-easter-spec : {M : Type 1} → statement M
 is-after-easter-spec = tie.close (tie.spec (λ c κs. search needs) (λ c. search needs) (λ c. search needs)

@@ -1,11 +1,7 @@
 -- `is_fixed_holiday` meets its contract: the rows passed do not fall on the date.
-use Prim.Native.Nat.{ℕ, _≤_, _-_}
-use mathlib.Core.Path.{_≡_, refl, _∙_, ap, sym}
-use native.Mathlib.Omega.{arith}
-use lib.ListN.{drop}
+use Rattle.basics.proofs.Basics.{_≡_, refl, sym, _∙_, _≤_, _-_, arith, drop, needs}
 use Rattle.holidays.specs.Holidays.{fixedHolidays, anyFallsOn, isFixedHoliday}
 use Rattle.holidays.proofs.FixedTable.{row-passed, row-met}
-use borrow.Author.Needs.{needs}
 use Rattle.holidays.proofs.is_fixed_holiday.Statement.{statement}
 use Rattle.holidays.proofs.is_fixed_holiday.Tie as tie
 
@@ -29,7 +25,7 @@ loop-again c = let loop = c .before .before .before .before .loop in
 returns-2 : tie.Need-returns-2 Inv-loop μ-loop
 unfolding isFixedHoliday
 returns-2 c = let end : c .before .loop .i ≡ 8 = omega arith in
-    sym (c .before .loop .inv .1 ∙ ap (λ (n : ℕ). anyFallsOn (drop n fixedHolidays) (c .before .before .args .x)) end)
+    sym (rw end at (c .before .loop .inv .1))
 
 pub is-fixed-holiday-spec : {M : Type 1} → statement M
 is-fixed-holiday-spec =

@@ -1,8 +1,6 @@
 -- `is_working` meets its contract: on the calendar, Monday to Friday, no holiday.
-use native.Mathlib.Omega.{arith}
-use borrow.Author.Tests.{le-leb, lt-leb, lt-ltb, le-ltb}
+use Rattle.basics.proofs.Basics.{arith, lt-ltb, le-leb, le-ltb, lt-leb, needs}
 use Rattle.holidays.specs.Working.{isWorking}
-use borrow.Author.Needs.{needs}
 use Rattle.holidays.proofs.is_working.Statement.{statement}
 use Rattle.holidays.proofs.is_working.Tie as tie
 

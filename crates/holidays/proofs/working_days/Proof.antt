@@ -1,8 +1,6 @@
 -- `working_days` meets its contract: past the calendar's end no day counts, so the walk may stop there.
-use mathlib.Core.Path.{_∙_, sym}
-use native.Mathlib.Omega.{arith}
+use Rattle.basics.proofs.Basics.{sym, _∙_, arith, needs}
 use Rattle.holidays.proofs.Counting.{past-days, past-cut}
-use borrow.Author.Needs.{needs}
 use Rattle.holidays.proofs.working_days.Statement.{statement}
 use Rattle.holidays.proofs.working_days.Tie as tie
 

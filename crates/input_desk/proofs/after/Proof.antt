@@ -1,18 +1,21 @@
--- The register opened, or the call done.
-use mathlib.Core.Path.{refl, ap}
-use Rattle.rules.specs.declared.{Outcome.Outcome}
+-- The register opened, or the call done; else nothing.
 use Rattle.input_desk.specs.Pinned.Desk.{deskAfter}
-use Rattle.input_desk.proofs.Openings.{opening-after, call-after}
-use borrow.Author.Needs.{needs}
+use Rattle.input_desk.proofs.Openings.{opening-after}
+use Rattle.basics.proofs.Basics.{needs}
 use Rattle.input_desk.proofs.after.Statement.{statement}
 use Rattle.input_desk.proofs.after.Tie as tie
 
-returns-2 : tie.Need-returns-2
-returns-2 c =
-    rw (c .before .before .before .m2 .given .1) (call-after _ _ _ (λ k. ap (λ (x : Outcome). x .register) (c .before .apply .ensures)))
+opens : tie.Need-returns-3
+opens c = let o = c .before .before in let i = o .before in
+    rw (i .before .before .m .given .1) (opening-after _ _ _ _ (i .if1 .left) (o .«open» .ensures) (c .is-accepted .ensures))
+
+calls : tie.Need-returns-2
+unfolding deskAfter
+calls c = let a = c .before in let i = a .before in rw (i .before .before .m2 .given .1, i .if2 .taken, a .apply .ensures)
 
 pub after-spec : {M : Type 1} → statement M
-after-spec = tie.close (tie.spec (λ c. search needs) (λ c κs. search needs) (λ c. search needs) (λ c κs. search needs)
-    (λ c. search needs)
-    (λ c. rw (c .before .before .before .m .given .1) (opening-after _ _ _ _ (c .before .«open» .ensures))) returns-2
-    (λ c. unfold deskAfter in rw (c .enum-told .given .1) (λ h. refl)))
+after-spec = tie.close (tie.spec (λ c. search needs)
+    (λ c. unfold deskAfter in rw (c .before .before .m .given .1, c .if1 .taken)) (λ c κs. search needs)
+    (λ c κs. search needs) (λ c. search needs) (λ c κs. search needs) calls (λ c. search needs) opens
+    (λ c. unfold deskAfter in rw (c .before .before .m2 .given .1, c .if2 .left))
+    (λ c. unfold deskAfter in rw (c .enum-told .given .1)))

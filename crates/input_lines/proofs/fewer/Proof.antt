@@ -1,8 +1,6 @@
-use borrow.Author.Needs.{needs}
+use Rattle.basics.proofs.Basics.{arith, ne-eqb, eq-eqb, needs}
 use Rattle.input_lines.proofs.fewer.Statement.{statement}
 use Rattle.input_lines.proofs.fewer.Tie as tie
-use borrow.Author.Tests.{eq-eqb, ne-eqb}
-use native.Mathlib.Omega.{arith}
 
 pub fewer-spec : {M : Type 1} → statement M
 fewer-spec = tie.close (tie.spec (λ c. rw (eq-eqb _ _ ((c .before .if1) .taken)) (omega arith)) (λ c. search needs)

@@ -1,11 +1,6 @@
-use borrow.Author.Needs.{needs}
+use Rattle.basics.proofs.Basics.{_≡_, sym, _∙_, _≤_, _-_, _+_, add-one, arith, length, drop, length-drop, needs}
 use Rattle.input_lines.proofs.fitting.Statement.{statement}
 use Rattle.input_lines.proofs.fitting.Tie as tie
-use Prim.Native.Nat.{_+_, _-_, _≤_}
-use mathlib.Core.Path.{_≡_, sym, _∙_}
-use lib.ListN.{length, drop, length-drop}
-use native.Mathlib.Omega.{arith}
-use native.Mathlib.Numerals.{add-one}
 use Rattle.input_lines.specs.Between.Feeds.{fitting}
 use Rattle.input_lines.proofs.Feeds.{fitting-all, fitting-over, fitting-next, fitting-le}
 
@@ -16,34 +11,18 @@ abbrev μ-loop : tie.MeasureT-loop
 μ-loop piece n left₀ i₀ left i = length piece - i
 
 returns-2 : tie.Need-returns-2 Inv-loop μ-loop
-returns-2 c = omega (
-  arith,
-  (c .before .before .before .before .loop) .inv .1,
-  fitting-over ((c .before .before .before .before .loop) .left)
-      ((c .before .before .before .before .before .before .before) .args .piece .now) ((c .before .before .before .before .loop) .i) (omega arith)
-      (sym ((c .before .is-over) .ensures) ∙ (c .if2) .taken),
-)
+returns-2 c = let c₄ = c .before .before .before .before in let l = c₄ .loop in let p = c₄ .before .before .before .args .piece .now in
+    omega (arith, l .inv .1, fitting-over (l .left) p (l .i) (omega arith) (sym (c .before .is-over .ensures) ∙ c .if2 .taken))
 
 loop-again : tie.Need-loop-again Inv-loop μ-loop
-loop-again c = (
-  omega arith,
-  rw (add-one ((c .before .before .before .before .before .loop) .i), (c .fewer) .ensures) (omega (
-    arith,
-    (c .before .before .before .before .before .loop) .inv .1,
-    fitting-next ((c .before .before .before .before .before .loop) .left)
-        ((c .before .before .before .before .before .before .before .before) .args .piece .now) ((c .before .before .before .before .before .loop) .i)
-        (omega arith) (sym ((c .before .before .is-over) .ensures) ∙ (c .before .if2) .left),
-  )),
-)
+loop-again c = let c₁ = c .before in let c₅ = c₁ .before .before .before .before in let l = c₅ .loop in
+    let p = c₅ .before .before .before .args .piece .now in
+    let next = fitting-next (l .left) p (l .i) (omega arith) (sym (c₁ .before .is-over .ensures) ∙ c₁ .if2 .left) in
+    (omega arith, rw (add-one (l .i), c .fewer .ensures) (omega (arith, l .inv .1)))
 
 returns-3 : tie.Need-returns-3 Inv-loop μ-loop
-returns-3 c = omega (
-  arith,
-  (c .before .loop) .inv,
-  fitting-le ((c .before .loop) .left)
-      (drop ((c .before .loop) .i) ((c .before .before .before .before) .args .piece .now)),
-  length-drop ((c .before .loop) .i) ((c .before .before .before .before) .args .piece .now),
-)
+returns-3 c = let l = c .before .loop in let p = c .before .before .before .before .args .piece .now in
+    omega (arith, l .inv, fitting-le (l .left) (drop (l .i) p), length-drop (l .i) p)
 
 pub fitting-spec : {M : Type 1} → statement M
 fitting-spec = tie.close (tie.spec Inv-loop μ-loop

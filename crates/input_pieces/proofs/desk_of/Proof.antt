@@ -1,5 +1,5 @@
 -- The register, put together.
-use borrow.Author.Needs.{needs}
+use Rattle.basics.proofs.Basics.{needs}
 use Rattle.input_pieces.proofs.desk_of.Statement.{statement}
 use Rattle.input_pieces.proofs.desk_of.Tie as tie
 

@@ -1,13 +1,8 @@
 -- As much of the piece as there is room for.
-use Prim.Native.Nat.{_/_}
-use mathlib.Core.Path.{sym}
-use lib.ListN.{length}
-use lib.Seq.{length-take-le}
-use native.Mathlib.Omega.{arith}
+use Rattle.basics.proofs.Basics.{sym, _/_, arith, length, length-take-le, needs}
 use Rattle.line_answers.specs.Answers.{longestAnswer}
 use Rattle.input_lines.proofs.Feeds.{fitting-le}
 use Rattle.input_pieces.proofs.Turns.{taken-room}
-use borrow.Author.Needs.{needs}
 use Rattle.input_pieces.proofs.feed.Statement.{statement}
 use Rattle.input_pieces.proofs.feed.Tie as tie
 

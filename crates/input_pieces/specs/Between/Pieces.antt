@@ -17,6 +17,7 @@ abbrev pub answered : Bool → Settings → ℕ → List Bool → List Fields �
 answered ready S day u fs ns ss l n = record { session = session ready S day u fs ns ss (begunOf l); written = n }
 
 -- The lines of a piece have been answered.
-abbrev pub AnsweredBy : Bool → Settings → ℕ → List Bool → List Fields → List ℕ → List Period → Begun → List ℕ → List ℕ → List ℕ → Answered → Type 0
+abbrev pub AnsweredBy : Bool → Settings → ℕ → List Bool → List Fields → List ℕ → List Period → Begun → List ℕ → List ℕ
+    → List ℕ → Answered → Type 0
 AnsweredBy ready S day u fs ns ss p piece before after r =
     RunTo (runFrom (session ready S day u fs ns ss p) piece) before after (r .session) (r .written)

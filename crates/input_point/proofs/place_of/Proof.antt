@@ -1,7 +1,6 @@
 -- The place, message by message.
-use native.Mathlib.Omega.{arith}
+use Rattle.basics.proofs.Basics.{arith, needs}
 use Rattle.input_point.specs.Between.Answers.{placeOf}
-use borrow.Author.Needs.{needs}
 use Rattle.input_point.proofs.place_of.Statement.{statement}
 use Rattle.input_point.proofs.place_of.Tie as tie
 

@@ -4,11 +4,13 @@ use mathlib.Core.Bool.{Bool, cond, _&&_}
 use mathlib.Core.List.{List}
 use Prim.Native.Nat.{ℕ, _+_, _-_, _*_, min}
 use lib.ListN.{getD}
-use Rattle.rules.specs.declared.{Fields.Fields, Period.Period, Settings.Settings, Action.Action, Answer.Answer, View.View}
+use Rattle.rules.specs.declared.{Fields.Fields, Period.Period, Settings.Settings, Action.Action, Answer.Answer}
+use Rattle.rules.specs.declared.{View.View}
 use Rattle.rules.specs.Answers.{isAccepted}
 use Rattle.rules.specs.Fields.{blank}
 use Rattle.rules.specs.Pinned.Register.{noPeriod}
-use Rattle.rules.specs.Rejections.{blankView, firstOf, notPoint, touches, isFull, anyPoint, shown, answerTo, openingAnswer}
+use Rattle.rules.specs.Rejections.{blankView, firstOf, notPoint, touches, isFull, anyPoint, shown, answerTo}
+use Rattle.rules.specs.Rejections.{openingAnswer}
 use Rattle.rules.specs.Effects.{failed}
 use Rattle.point_answers.specs.Between.{failureRows}
 use Rattle.point_effects.specs.Between.{rulingAt}
@@ -55,7 +57,8 @@ newestStart i n ss = getD ss (24 * i + (min n 24 - 1)) noPeriod .start
 
 abbrev pub shows : Settings → ℕ → ℕ → List Fields → List ℕ → List Period → ℕ → View
 shows S day t fs ns ss p =
-    viewOn S day t (seen (getD fs (p - 1) blank) (min (getD ns (p - 1) 0) 24) (newestStart (p - 1) (getD ns (p - 1) 0) ss))
+    viewOn S day t
+    (seen (getD fs (p - 1) blank) (min (getD ns (p - 1) 0) 24) (newestStart (p - 1) (getD ns (p - 1) 0) ss))
 
 -- Number 30 of a failure: "for call 2 any point it touches".
 unfoldable pub failureAnswer : Settings → ℕ → List Fields → List ℕ → List Period → ℕ → ℕ → Answer

@@ -1,45 +1,51 @@
--- A daily reading: what it is answered and what it stores, whatever the settings and contracts. Definitions only.
-use mathlib.Core.Path.{_≡_}
-use mathlib.Core.Bool.{Bool}
-use mathlib.Core.List.{List}
-use Prim.Native.Nat.{ℕ, _-_, min}
-use Rattle.rules.specs.declared.{Answer.Answer, Effect.Effect, Fields.Fields, Period.Period, PointAction.PointAction}
-use Rattle.rules.specs.declared.{Reading.Reading, Settings.Settings, Span.Span, View.View}
-use Rattle.rules.specs.Fields.{withReading}
-use Rattle.rules.specs.Pinned.Register.{period}
-use Rattle.point_effects.specs.declared.{Ruling.Ruling}
-use Rattle.point_effects.specs.Between.{rulingAt}
+-- A daily reading: which messages are one, and what it stores. Definitions only: proofs/DailyRules has it that this is
+-- what `saidBy` and `deedOf` say.
+use mathlib.Core.Bool.{Bool, false, cond, _&&_}
+use mathlib.Core.List.{[]}
+use Prim.Native.Nat.{ℕ}
+use lib.Dec.{eqb, ltb}
+use Rattle.rules.specs.declared.{Action.Action, Answer.Answer, Fields.Fields, Period.Period, PointAction.PointAction}
+use Rattle.rules.specs.Answers.{isAccepted}
+use Rattle.rules.specs.Fields.{reading}
+use Rattle.rules.specs.Volumes.{spanTo}
+use Rattle.point_volumes.specs.Between.{bookedNewest}
+use Rattle.point_answers.specs.Between.{answerAt}
 use Rattle.line_messages.specs.declared.{Message.Message}
-use Rattle.input_point.specs.declared.{answers.Said.Said, daily.Daily.Daily}
-use Rattle.input_point.specs.Between.Answers.{saidBy}
-use Rattle.input_point.specs.Between.Deeds.{slot, readingDeed, deedOf}
+use Rattle.input_point.specs.declared.{daily.Daily.Daily}
+use Rattle.input_point.specs.Between.Deeds.{liesIn}
 
--- The fields after it, and the slot.
-abbrev pub read : Fields → Reading → Fields
-read f now = withReading f (f .meter) now
+-- The answer to a reading of the register's own day, at a point with the fields f. Its rows look at no settings, no
+-- contracts and no periods.
+abbrev pub readingSaid : ℕ → ℕ → ℕ → ℕ → ℕ → Fields → Answer
+readingSaid day p d x z f =
+    answerAt (record { w = 0; a = 0; b = 0; default = 0; resort = 0 }) day [] day p (PointAction.Reading d x z)
+    (record { fields = f; marks = 0; marked = false })
 
-abbrev pub reads : Span → Fields → Ruling
-reads s f = record { answer = Answer.Accepted; effect = Effect.Read s f }
+unfoldable pub dailyRead : ℕ → ℕ → ℕ → ℕ → ℕ → ℕ → Fields → Period → Daily
+dailyRead day p d x z n f q =
+    cond (isAccepted (readingSaid day p d x z f) && liesIn n (q .start) (f .reading .day))
+    (Daily.Read day (reading d x) (bookedNewest (spanTo f d x z) q .volume)) Daily.Other
 
-pub record Rules (day : ℕ) (p : ℕ) (a : PointAction) (n : ℕ) (f : Fields) (q : Period) (t : ℕ) (now : Reading) (v : ℕ) : Type 0 where
-  pub span : Span
-  pub today : t ≡ day
-  pub ruling : (S : Settings) (u : List Bool) (w : View) → w .fields ≡ f → rulingAt S day u day p a w ≡ reads span (read f now)
-  pub stores : readingDeed day span (read f now) n q ≡ slot day (read f now) n (min n 24 - 1) (period (q .start) (q .holder) v)
+unfoldable pub dailyAt : ℕ → ℕ → PointAction → ℕ → Fields → Period → Daily
+dailyAt day p (PointAction.Reading d x z) n f q = dailyRead day p d x z n f q
+dailyAt day p (PointAction.Enrol b a x) n f q = Daily.Other
+dailyAt day p (PointAction.IntoService s k) n f q = Daily.Other
+dailyAt day p (PointAction.DefaultSupply k) n f q = Daily.Other
+dailyAt day p (PointAction.Request s k r) n f q = Daily.Other
+dailyAt day p (PointAction.Cancel s) n f q = Daily.Other
+dailyAt day p (PointAction.MeterChange x z b a y) n f q = Daily.Other
+dailyAt day p PointAction.OutOfService n f q = Daily.Other
+dailyAt day p (PointAction.Suspend m) n f q = Daily.Other
 
-abbrev pub DailyAt : ℕ → ℕ → PointAction → ℕ → Fields → Period → Daily → Type 0
-DailyAt day p a n f q (Daily.Read t now v) = Rules day p a n f q t now v
-DailyAt day p a n f q Daily.Other = Unit {0}
+unfoldable pub dailyIn : ℕ → Action → ℕ → Fields → Period → Daily
+dailyIn day (Action.At p a) n f q = dailyAt day p a n f q
+dailyIn day (Action.Contract s) n f q = Daily.Other
+dailyIn day (Action.Failure s) n f q = Daily.Other
+dailyIn day Action.Day n f q = Daily.Other
 
-abbrev pub DailyRead : ℕ → ℕ → ℕ → ℕ → ℕ → ℕ → Fields → Period → Daily → Type 0
-DailyRead day p d x z n f q r = DailyAt day p (PointAction.Reading d x z) n f q r
-
--- In the words of the loop: what is said, and what it stores.
-pub record Stores (ready : Bool) (day quiet : ℕ) (m : Message) (n : ℕ) (f : Fields) (q : Period) (t : ℕ) (now : Reading) (v : ℕ) : Type 0 where
-  pub span : Span
-  pub said : (S : Settings) (u : List Bool) → saidBy S day u ready m f n (q .start) ≡ Said.Ruled (reads span (read f now))
-  pub deed : deedOf quiet m (Said.Ruled (reads span (read f now))) n q ≡ slot t (read f now) n (min n 24 - 1) (period (q .start) (q .holder) v)
-
-abbrev pub DailyOf : Bool → ℕ → ℕ → Message → ℕ → Fields → Period → Daily → Type 0
-DailyOf ready day quiet m n f q (Daily.Read t now v) = Stores ready day quiet m n f q t now v
-DailyOf ready day quiet m n f q Daily.Other = Unit {0}
+-- The register is open, the call is of its day, and nothing falls due before the day quiet.
+unfoldable pub dailyOf : Bool → ℕ → ℕ → Message → ℕ → Fields → Period → Daily
+dailyOf ready day quiet (Message.Open o) n f q = Daily.Other
+dailyOf ready day quiet (Message.Ask c) n f q =
+    cond (ready && (eqb (c .today) day && ltb day quiet)) (dailyIn day (c .action) n f q) Daily.Other
+dailyOf ready day quiet Message.Unreadable n f q = Daily.Other

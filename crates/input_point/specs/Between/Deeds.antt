@@ -1,6 +1,6 @@
 -- What an accepted message stores in the tables, where nothing falls due by its day. Definitions only: proofs/Stored
 -- has it that this is what the register does.
-use mathlib.Core.Bool.{cond, _&&_}
+use mathlib.Core.Bool.{Bool, cond, _&&_}
 use Prim.Native.Nat.{ℕ, _+_, _-_, min}
 use lib.Dec.{eqb, leb, ltb}
 use Rattle.rules.specs.declared.{Action.Action, Effect.Effect, Fields.Fields, Period.Period, Span.Span}
@@ -21,10 +21,14 @@ namingDeed t f n q =
     cond (ltb 0 (min n 24) && eqb (q .start) t) (slot t f n (min n 24 - 1) (period t (f .supply .holder) (q .volume)))
     (cond (ltb (min n 24) 24) (slot t f (min n 24 + 1) (min n 24) (period t (f .supply .holder) 0)) (keptDeed t f n q))
 
+-- The days from a day on all lie in the newest of n periods.
+abbrev pub liesIn : ℕ → ℕ → ℕ → Bool
+liesIn n start from = ltb 0 (min n 24) && leb start from
+
 -- The days of a reading all lie in the newest period, or reach back behind it.
 unfoldable pub readingDeed : ℕ → Span → Fields → ℕ → Period → Deed
 readingDeed t s f n q =
-    cond (ltb 0 (min n 24) && leb (q .start) (s .from)) (slot t f n (min n 24 - 1) (bookedNewest s q)) (Deed.Back t s f)
+    cond (liesIn n (q .start) (s .from)) (slot t f n (min n 24 - 1) (bookedNewest s q)) (Deed.Back t s f)
 
 unfoldable pub effectDeed : ℕ → Effect → ℕ → Period → Deed
 effectDeed t (Effect.Keep f) n q = keptDeed t f n q

@@ -1,4 +1,4 @@
-use borrow.Author.Needs.{needs}
+use Rattle.basics.proofs.Basics.{needs}
 use Rattle.input_quiet.proofs.due_day.Statement.{statement}
 use Rattle.input_quiet.proofs.due_day.Tie as tie
 use Rattle.input_quiet.specs.Between.Quiet.{dueDay}

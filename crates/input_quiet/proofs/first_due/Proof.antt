@@ -1,10 +1,6 @@
-use borrow.Author.Needs.{needs}
+use Rattle.basics.proofs.Basics.{_≡_, _≤_, arith, length, drop, needs}
 use Rattle.input_quiet.proofs.first_due.Statement.{statement}
 use Rattle.input_quiet.proofs.first_due.Tie as tie
-use Prim.Native.Nat.{_≤_}
-use mathlib.Core.Path.{_≡_}
-use lib.ListN.{length, drop}
-use native.Mathlib.Omega.{arith}
 use Rattle.input_quiet.specs.Between.Quiet.{firstDue}
 use Rattle.input_quiet.proofs.Dues.{first-end, first-step, first-start}
 

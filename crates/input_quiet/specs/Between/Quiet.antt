@@ -1,14 +1,14 @@
 -- When something next falls due; and what the checks see of a point brought up to a day, told without its periods.
 -- Definitions only: proofs/Seen has it that this is the view of the point brought up.
-use mathlib.Core.Bool.{cond, not, _&&_}
+use mathlib.Core.Bool.{cond, _&&_}
 use mathlib.Core.List.{List, [], _∷_}
 use Prim.Native.Nat.{ℕ, _+_, min}
-use lib.Dec.{eqb, leb, ltb}
-use Rattle.dates.specs.Dates.{lastDay}
-use Rattle.rules.specs.declared.{Fields.Fields, Settings.Settings, Supply.Supply, SupplyKind.SupplyKind, Pending.Pending}
+use lib.Dec.{eqb, ltb}
+use Rattle.rules.specs.declared.{Fields.Fields, Settings.Settings, Supply.Supply, SupplyKind.SupplyKind}
+use Rattle.rules.specs.declared.{Pending.Pending}
 use Rattle.rules.specs.declared.{Due.Due, View.View}
-use Rattle.rules.specs.Fields.{supply, withSupply}
-use Rattle.rules.specs.Pinned.Register.{dueBy}
+use Rattle.rules.specs.Fields.{withSupply}
+use Rattle.point_effects.specs.Between.{dueIn}
 use Rattle.input_quiet.specs.declared.{seen.Seen.Seen}
 
 -- The first day past the calendar: nothing falls due on it.
@@ -46,16 +46,14 @@ namedSeen d f x =
 
 unfoldable pub happenedSeen : Due → Seen → Seen
 happenedSeen Due.Nothing x = x
-happenedSeen (Due.Switch d h k) x = namedSeen d (withSupply (x .fields) (supply h k Pending.Nothing)) x
-happenedSeen (Due.Fallback d h k) x = namedSeen d (withSupply (x .fields) (supply h k (x .fields .supply .pending))) x
-happenedSeen (Due.End d h k) x = namedSeen d (withSupply (x .fields) (supply h k Pending.Nothing)) x
+happenedSeen (Due.Naming d s) x = namedSeen d (withSupply (x .fields) s) x
 
 unfoldable pub nextSeen : Settings → ℕ → Seen → Seen
-nextSeen S t x = happenedSeen (dueBy S t (x .fields .supply .kind) (x .fields .supply .pending)) x
+nextSeen S t x = happenedSeen (dueIn S t (x .fields .supply .kind) (x .fields .supply .pending)) x
 
 abbrev pub viewIn : ℕ → Seen → View
 viewIn t x = record { fields = x .fields; marks = x .marks; marked = ltb 0 (x .marks) && eqb (x .start) t }
 
--- On the register's own day nothing is brought up, and past the calendar's end nothing falls due.
+-- On the register's own day nothing is brought up.
 unfoldable pub viewOn : Settings → ℕ → ℕ → Seen → View
-viewOn S day t x = viewIn t (cond (not (eqb day t) && leb t lastDay) (nextSeen S t (nextSeen S t x)) x)
+viewOn S day t x = viewIn t (cond (eqb day t) x (nextSeen S t (nextSeen S t x)))

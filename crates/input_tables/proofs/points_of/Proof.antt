@@ -1,13 +1,10 @@
 -- The points, joined in turn.
-use mathlib.Core.Path.{refl, sym}
-use Prim.Native.Nat.{_-_, _≤_}
-use native.Mathlib.Omega.{arith}
+use Rattle.basics.proofs.Basics.{refl, sym, _≤_, _-_, arith, needs}
 use Rattle.rules.specs.Fields.{blank}
 use Rattle.rules.specs.Pinned.Register.{noPoint, noPeriod}
 use Rattle.input_tables.specs.Between.Tables.{rowAt, pointsOf}
 use Rattle.input_tables.proofs.Points.{row-length, row-get, points-length, points-get}
 use Rattle.input_tables.proofs.Filled.{Filled, filled-next, filled-all}
-use borrow.Author.Needs.{needs}
 use Rattle.input_tables.proofs.points_of.Statement.{statement}
 use Rattle.input_tables.proofs.points_of.Tie as tie
 

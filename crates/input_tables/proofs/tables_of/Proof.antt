@@ -1,12 +1,9 @@
 -- The tables, filled in turn.
-use mathlib.Core.Path.{_≡_, refl}
-use Prim.Native.Nat.{_-_, _*_, _≤_}
-use native.Mathlib.Omega.{arith}
+use Rattle.basics.proofs.Basics.{_≡_, refl, _≤_, _-_, _*_, arith, needs}
 use Rattle.rules.specs.Pinned.Register.{noPoint, noPeriod}
 use Rattle.input_tables.specs.Between.Tables.{Sized, pointsOf}
 use Rattle.input_tables.proofs.Points.{points-length, pasted-points, pasted-sized}
 use Rattle.input_tables.proofs.Filled.{Filled, filled-next, filled-all, Pasted, pasted-start, pasted-next}
-use borrow.Author.Needs.{needs}
 use Rattle.input_tables.proofs.tables_of.Statement.{statement}
 use Rattle.input_tables.proofs.tables_of.Tie as tie
 
@@ -35,7 +32,8 @@ loop-again c = let l = c .before .before .before .before .before .before .before
     let k : c .before .loop2 .k ≡ 24 = omega arith in let row = rw k at (c .before .loop2 .inv .1) in (
       search needs,
       pasted-sized _ _ (search needs) (search needs) (l .inv .1) row,
-      rw (pasted-points _ _ (search needs) (search needs) (l .inv .1) row) (filled-next _ _ (l .i) noPoint (search needs) (l .inv .2) (rw (c .before .before .slots-in .ensures))),
+      rw (pasted-points _ _ (search needs) (search needs) (l .inv .1) row)
+          (filled-next _ _ (l .i) noPoint (search needs) (l .inv .2) (rw (c .before .before .slots-in .ensures))),
     )
 
 returns : tie.Need-returns Inv-loop2 μ-loop2 Inv-loop μ-loop

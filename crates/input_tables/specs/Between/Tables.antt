@@ -2,8 +2,12 @@
 use Prim.Native.Nat.{ℕ, _*_}
 use mathlib.Core.Path.{_≡_}
 use mathlib.Core.List.{List, [], _∷_}
+use mathlib.Core.Bool.{cond}
+use lib.Dec.{ltb}
 use lib.ListN.{length, take, drop}
-use Rattle.rules.specs.declared.{Fields.Fields, Period.Period, Point.Point}
+use lib.Seq.{paste}
+use Rattle.rules.specs.declared.{Fields.Fields, Period.Period, Point.Point, Span.Span}
+use Rattle.point_volumes.specs.Between.{bookedIfFair}
 use Rattle.input_tables.specs.declared.{Tables.Tables}
 
 -- A point of its parts.
@@ -19,6 +23,11 @@ unfoldable pub pointsOf : List Fields → List ℕ → List Period → List Poin
 pointsOf [] _ _ = []
 pointsOf (f ∷ fs) [] _ = []
 pointsOf (f ∷ fs) (n ∷ ns) ss = joined f n (take 24 ss) ∷ pointsOf fs ns (drop 24 ss)
+
+-- A reading booked over the n periods of the point at place i; no other place has one.
+unfoldable pub bookedAt : Span → ℕ → ℕ → List Period → List Period
+bookedAt s i n ss =
+    cond (ltb i 32) (paste ss (24 * i) (bookedIfFair s (record { count = n; periods = rowAt i ss }) .periods) 24) ss
 
 -- 32 places, and 24 slots for each.
 pub record Sized (fs : List Fields) (ns : List ℕ) (ss : List Period) : Type 0 where

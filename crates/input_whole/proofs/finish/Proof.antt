@@ -1,10 +1,6 @@
-use borrow.Author.Needs.{needs}
+use Rattle.basics.proofs.Basics.{sym, [], _∷_, arith, length-take-le, needs}
 use Rattle.input_whole.proofs.finish.Statement.{statement}
 use Rattle.input_whole.proofs.finish.Tie as tie
-use mathlib.Core.Path.{sym}
-use mathlib.Core.List.{[], _∷_}
-use lib.Seq.{length-take-le}
-use native.Mathlib.Omega.{arith}
 use Rattle.input_whole.proofs.Ends.{missing-taken}
 
 slice-aggregate-feed : tie.Need-slice-aggregate-feed

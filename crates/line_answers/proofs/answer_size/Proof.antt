@@ -1,8 +1,7 @@
 -- `line_answers::answer_size` meets its contract.
-use native.Mathlib.Omega.{arith}
+use Rattle.basics.proofs.Basics.{arith, needs}
 use Rattle.line_kinds.proofs.KindTable.{word-long}
 use Rattle.line_answers.proofs.LineTexts.{digits-few}
-use borrow.Author.Needs.{needs}
 use Rattle.line_answers.proofs.answer_size.Statement.{statement}
 use Rattle.line_answers.proofs.answer_size.Tie as tie
 

@@ -1,7 +1,7 @@
 -- `line_answers::day_shown` meets its contract: the first day past the calendar is written 00000000.
 use Rattle.dates.specs.Numbers.{dateAnswer}
 use Rattle.line_text.specs.Decimal.{fixed}
-use borrow.Author.Needs.{needs}
+use Rattle.basics.proofs.Basics.{needs}
 use Rattle.line_answers.proofs.day_shown.Statement.{statement}
 use Rattle.line_answers.proofs.day_shown.Tie as tie
 

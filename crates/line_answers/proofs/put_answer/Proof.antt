@@ -1,16 +1,11 @@
 -- `line_answers::put_answer` meets its contract: the line is put piece by piece, where there is room for all of it.
-use Prim.Native.Nat.{ℕ, _+_, _≤_}
-use mathlib.Core.Path.{ap, _∙_}
-use mathlib.Core.List.{List, [], _∷_}
-use native.Mathlib.Omega.{arith}
-use lib.ListN.{length}
+use Rattle.basics.proofs.Basics.{_∙_, ap, List, [], _∷_, _≤_, ℕ, _+_, arith, length, needs}
 use Rattle.rules.specs.Answers.{isAccepted, number, date}
 use Rattle.line_text.specs.Decimal.{decimal}
 use Rattle.line_text.proofs.Appends.{not-appended, rest-start, rest-next, rest-done}
 use Rattle.line_kinds.specs.Kinds.{word}
 use Rattle.line_answers.specs.Answers.{shownKind, verdict, dateShown, answerLine}
 use Rattle.line_answers.proofs.LineTexts.{answerPieces, answer-pieces, answer-size}
-use borrow.Author.Needs.{needs}
 use Rattle.line_answers.proofs.put_answer.Statement.{statement}
 use Rattle.line_answers.proofs.put_answer.Tie as tie
 

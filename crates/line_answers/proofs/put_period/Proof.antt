@@ -1,15 +1,10 @@
 -- `line_answers::put_period` meets its contract: the line is put piece by piece, where there is room for all of it.
-use Prim.Native.Nat.{_+_, _≤_}
-use mathlib.Core.Path.{ap}
-use mathlib.Core.List.{[], _∷_}
-use native.Mathlib.Omega.{arith}
-use lib.ListN.{length}
+use Rattle.basics.proofs.Basics.{ap, [], _∷_, _≤_, _+_, arith, length, needs}
 use Rattle.line_text.specs.Decimal.{decimal}
 use Rattle.line_text.specs.Days.{dayText}
 use Rattle.line_text.proofs.Appends.{not-appended, rest-start, rest-next, rest-done}
 use Rattle.line_answers.specs.Answers.{periodLine}
 use Rattle.line_answers.proofs.LineTexts.{periodPieces, period-pieces}
-use borrow.Author.Needs.{needs}
 use Rattle.line_answers.proofs.put_period.Statement.{statement}
 use Rattle.line_answers.proofs.put_period.Tie as tie
 

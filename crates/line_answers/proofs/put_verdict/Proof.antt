@@ -1,5 +1,5 @@
 -- `line_answers::put_verdict` meets its contract: three bytes.
-use borrow.Author.Needs.{needs}
+use Rattle.basics.proofs.Basics.{needs}
 use Rattle.line_answers.proofs.put_verdict.Statement.{statement}
 use Rattle.line_answers.proofs.put_verdict.Tie as tie
 

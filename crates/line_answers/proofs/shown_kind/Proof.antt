@@ -1,5 +1,5 @@
 -- `line_answers::shown_kind` meets its contract: only 31 hides the kind.
-use borrow.Author.Tests.{eq-eqb, ne-eqb}
+use Rattle.basics.proofs.Basics.{ne-eqb, eq-eqb}
 use Rattle.line_answers.proofs.shown_kind.Statement.{statement}
 use Rattle.line_answers.proofs.shown_kind.Tie as tie
 

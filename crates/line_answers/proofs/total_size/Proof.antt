@@ -1,27 +1,16 @@
 -- `line_answers::total_size` meets its contract.
-use native.Mathlib.Omega.{arith}
+use Rattle.basics.proofs.Basics.{arith, needs}
 use Rattle.line_answers.proofs.LineTexts.{digits-few, total-length}
-use borrow.Author.Needs.{needs}
 use Rattle.line_answers.proofs.total_size.Statement.{statement}
 use Rattle.line_answers.proofs.total_size.Tie as tie
 
 add-result : tie.Need-add-result
-add-result c = let a = c .before .before .args in omega (
-  arith,
-  c .before .digit-count .ensures,
-  c .digit-count2 .ensures,
-  digits-few (a .point) (omega arith),
-  digits-few (a .advance) (omega arith),
-)
+add-result c = let a = c .before .before .args in let point = digits-few (a .point) (omega arith) in
+    let advance = digits-few (a .advance) (omega arith) in omega (arith, c .before .digit-count .ensures, c .digit-count2 .ensures)
 
 add-result-2 : tie.Need-add-result-2
-add-result-2 c = let a = c .before .before .args in omega (
-  arith,
-  c .before .digit-count .ensures,
-  c .digit-count2 .ensures,
-  digits-few (a .point) (omega arith),
-  digits-few (a .advance) (omega arith),
-)
+add-result-2 c = let a = c .before .before .args in let point = digits-few (a .point) (omega arith) in
+    let advance = digits-few (a .advance) (omega arith) in omega (arith, c .before .digit-count .ensures, c .digit-count2 .ensures)
 
 returns : tie.Need-returns
 returns c = let a = c .before .before .args in

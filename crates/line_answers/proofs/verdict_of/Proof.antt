@@ -1,5 +1,5 @@
 -- `line_answers::verdict_of` meets its contract, answer by answer.
-use borrow.Author.Needs.{needs}
+use Rattle.basics.proofs.Basics.{needs}
 use Rattle.line_answers.proofs.verdict_of.Statement.{statement}
 use Rattle.line_answers.proofs.verdict_of.Tie as tie
 

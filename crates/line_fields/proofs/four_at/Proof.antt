@@ -1,7 +1,6 @@
 -- `line_fields::four_at` meets its contract: four bytes, one after the other.
-use native.Mathlib.Omega.{arith}
+use Rattle.basics.proofs.Basics.{arith, needs}
 use Rattle.line_fields.proofs.KnownDates.{four-bytes}
-use borrow.Author.Needs.{needs}
 use Rattle.line_fields.proofs.four_at.Statement.{statement}
 use Rattle.line_fields.proofs.four_at.Tie as tie
 

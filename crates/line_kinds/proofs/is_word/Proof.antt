@@ -1,8 +1,6 @@
 -- `line_kinds::is_word` meets its contract: the word is compared with the one that the code holds.
-use mathlib.Core.Path.{sym}
-use lib.Seq.{length-take-le}
+use Rattle.basics.proofs.Basics.{sym, length-take-le, needs}
 use Rattle.line_kinds.proofs.KindTable.{sound}
-use borrow.Author.Needs.{needs}
 use Rattle.line_kinds.proofs.is_word.Statement.{statement}
 use Rattle.line_kinds.proofs.is_word.Tie as tie
 

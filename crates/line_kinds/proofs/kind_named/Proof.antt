@@ -1,8 +1,8 @@
 -- `line_kinds::kind_named` meets its contract: only the kinds whose word is as long are left to compare.
-use mathlib.Core.Path.{sym, _∙_}
-use Rattle.line_kinds.specs.Pinned.Naming.{kinds, kindIn}
+use Rattle.basics.proofs.Basics.{sym, _∙_, needs}
+use Rattle.line_kinds.specs.Kinds.{kinds}
+use Rattle.line_kinds.specs.Pinned.Naming.{kindIn}
 use Rattle.line_kinds.proofs.Naming.{kind-of-length, kind-of-none}
-use borrow.Author.Needs.{needs}
 use Rattle.line_kinds.proofs.kind_named.Statement.{statement}
 use Rattle.line_kinds.proofs.kind_named.Tie as tie
 

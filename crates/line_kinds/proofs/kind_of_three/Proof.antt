@@ -1,6 +1,6 @@
 -- `line_kinds::kind_of_three` meets its contract: the last kind first.
 use Rattle.line_kinds.specs.Pinned.Naming.{kindIn}
-use borrow.Author.Needs.{needs}
+use Rattle.basics.proofs.Basics.{needs}
 use Rattle.line_kinds.proofs.kind_of_three.Statement.{statement}
 use Rattle.line_kinds.proofs.kind_of_three.Tie as tie
 

@@ -1,6 +1,5 @@
 -- `line_kinds::kind_or` meets its contract: the word is the kind's or not.
-use mathlib.Core.Path.{sym, _∙_}
-use borrow.Author.Needs.{needs}
+use Rattle.basics.proofs.Basics.{sym, _∙_, needs}
 use Rattle.line_kinds.proofs.kind_or.Statement.{statement}
 use Rattle.line_kinds.proofs.kind_or.Tie as tie
 

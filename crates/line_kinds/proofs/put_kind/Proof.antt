@@ -1,8 +1,6 @@
 -- `line_kinds::put_kind` meets its contract: the word that the code holds is copied.
-use mathlib.Core.Path.{sym}
-use lib.Seq.{length-take-le}
+use Rattle.basics.proofs.Basics.{sym, length-take-le, needs}
 use Rattle.line_kinds.proofs.KindTable.{sound}
-use borrow.Author.Needs.{needs}
 use Rattle.line_kinds.proofs.put_kind.Statement.{statement}
 use Rattle.line_kinds.proofs.put_kind.Tie as tie
 

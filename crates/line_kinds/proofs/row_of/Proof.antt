@@ -1,5 +1,5 @@
 -- `line_kinds::row_of` meets its contract, kind by kind.
-use borrow.Author.Needs.{needs}
+use Rattle.basics.proofs.Basics.{needs}
 use Rattle.line_kinds.proofs.row_of.Statement.{statement}
 use Rattle.line_kinds.proofs.row_of.Tie as tie
 

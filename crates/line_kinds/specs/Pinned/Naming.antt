@@ -6,13 +6,7 @@ use lib.Dec.{eqb}
 use lib.ListN.{length}
 use Rattle.line_values.specs.Pinned.Words.{isSame}
 use Rattle.line_kinds.specs.declared.{Kind.Kind}
-use Rattle.line_kinds.specs.Kinds.{word}
-
--- The kinds that a line can have.
-abbrev pub kinds : List Kind
-kinds =
-    Kind.Set ∷ Kind.Ctr ∷ Kind.Def ∷ Kind.Enr ∷ Kind.Demmespc ∷ Kind.I ∷ Kind.Demcf ∷ Kind.Adc ∷ Kind.Ri ∷ Kind.Cdt ∷
-    Kind.Demmhs ∷ Kind.Sus ∷ Kind.Jour ∷ []
+use Rattle.line_kinds.specs.Kinds.{kinds, word}
 
 -- Those of them whose word has n letters.
 abbrev pub ofLength : ℕ → List Kind → List Kind

@@ -1,8 +1,7 @@
 -- The points that fit, one behind the other.
-use native.Mathlib.Omega.{arith}
+use Rattle.basics.proofs.Basics.{arith, needs}
 use Rattle.line_text.proofs.Within.{within-length}
 use Rattle.line_listing.proofs.Rising.{listed}
-use borrow.Author.Needs.{needs}
 use Rattle.line_listing.proofs.put_listing.Statement.{statement}
 use Rattle.line_listing.proofs.put_listing.Tie as tie
 

@@ -1,11 +1,8 @@
 -- The lines of the periods passed so far stand behind the position.
-use borrow.Author.Needs.{needs}
+use Rattle.basics.proofs.Basics.{_≡_, _≤_, _-_, _+_, _*_, arith, needs}
 use Rattle.line_text.specs.Between.Appending.{AppendedWithin}
 use Rattle.line_listing.proofs.put_periods.Statement.{statement}
 use Rattle.line_listing.proofs.put_periods.Tie as tie
-use Prim.Native.Nat.{_+_, _-_, _*_, _≤_}
-use mathlib.Core.Path.{_≡_}
-use native.Mathlib.Omega.{arith}
 use Rattle.line_listing.specs.Pinned.Listing.{periodLines}
 use Rattle.line_text.proofs.Within.{within-none, within-more, within-length}
 use Rattle.line_listing.proofs.Growing.{lines-next, lines-none}

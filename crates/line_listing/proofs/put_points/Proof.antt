@@ -1,15 +1,10 @@
 -- The lines of the points passed so far stand at the start of the buffer.
-use Prim.Native.Nat.{_+_, _-_, _*_, _≤_}
-use mathlib.Core.Path.{_≡_}
-use lib.ListN.{take, drop}
-use lib.Seq.{getD-drop}
-use native.Mathlib.Omega.{arith}
+use Rattle.basics.proofs.Basics.{_≡_, _≤_, _-_, _+_, _*_, arith, drop, take, getD-drop, needs}
 use Rattle.rules.specs.Pinned.Register.{noPoint}
 use Rattle.line_text.specs.Between.Appending.{AppendedWithin}
 use Rattle.line_listing.specs.Pinned.Listing.{listingFrom}
 use Rattle.line_text.proofs.Within.{within-none, within-more, within-length, within-end}
 use Rattle.line_listing.proofs.Rising.{listing-none, listing-next}
-use borrow.Author.Needs.{needs}
 use Rattle.line_listing.proofs.put_points.Statement.{statement}
 use Rattle.line_listing.proofs.put_points.Tie as tie
 

@@ -1,5 +1,5 @@
 -- As many points as there are left, or as surely fit.
-use native.Mathlib.Omega.{arith}
+use Rattle.basics.proofs.Basics.{arith}
 use Rattle.line_listing.proofs.taken_from.Statement.{statement}
 use Rattle.line_listing.proofs.taken_from.Tie as tie
 

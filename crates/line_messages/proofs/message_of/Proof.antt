@@ -1,6 +1,6 @@
 -- `line_messages::message_of` meets its contract, kind by kind.
 
-use borrow.Author.Needs.{needs}
+use Rattle.basics.proofs.Basics.{needs}
 use Rattle.line_messages.proofs.message_of.Statement.{statement}
 use Rattle.line_messages.proofs.message_of.Tie as tie
 

@@ -1,33 +1,30 @@
 -- `line_messages::read_line` meets its contract, step by step.
-use mathlib.Core.Path.{sym, _∙_}
-use borrow.Author.Tests.{lt-leb, not-true, not-false}
-use lib.Seq.{length-take-le}
+use Rattle.basics.proofs.Basics.{sym, _∙_, length-take-le, lt-leb, not-true, not-false, needs}
 use Rattle.line_fields.proofs.KnownStays.{first-is-known}
 use Rattle.line_messages.specs.Pinned.Reading.{readLine}
 use Rattle.line_messages.proofs.LineTexts.{line-bad, line-more, line-all}
-use borrow.Author.Needs.{needs}
 use Rattle.line_messages.proofs.read_line.Statement.{statement}
 use Rattle.line_messages.proofs.read_line.Tie as tie
 
 returns-2 : tie.Need-returns-2
 returns-2 c = let c₀ = c .before .before .before in let c₄ = c₀ .before .before .before .before in
     let c₈ = c₄ .before .before .before .before in
-    c .unreadable2 .ensures ∙ line-bad (c₈ .before .before .args .line .now) _ _ _ _ _ _ (c₈ .if1 .left) (c₄ .before .before .before .word-end .ensures .0)
-    (c₄ .before .kind-named .ensures) (c₄ .row-of .ensures) (c₀ .read-fields .ensures)
+    c .unreadable2 .ensures ∙ line-bad (c₈ .before .before .args .line .now) _ _ _ _ _ _ (c₈ .if1 .left)
+    (c₄ .before .before .before .word-end .ensures .0) (c₄ .before .kind-named .ensures) (c₄ .row-of .ensures) (c₀ .read-fields .ensures)
     (first-is-known _ (c₀ .before .before .first-known .ensures)) (not-true _ (c .before .if2 .taken))
 
 returns-3 : tie.Need-returns-3
 returns-3 c = let c₀ = c .before .before .before .before .before in let c₄ = c₀ .before .before .before .before in
     let c₈ = c₄ .before .before .before .before in
-    c .unreadable3 .ensures ∙ line-more (c₈ .before .before .args .line .now) _ _ _ _ _ _ (c₈ .if1 .left) (c₄ .before .before .before .word-end .ensures .0)
-    (c₄ .before .kind-named .ensures) (c₄ .row-of .ensures) (c₀ .read-fields .ensures)
+    c .unreadable3 .ensures ∙ line-more (c₈ .before .before .args .line .now) _ _ _ _ _ _ (c₈ .if1 .left)
+    (c₄ .before .before .before .word-end .ensures .0) (c₄ .before .kind-named .ensures) (c₄ .row-of .ensures) (c₀ .read-fields .ensures)
     (first-is-known _ (c₀ .before .before .first-known .ensures)) (not-false _ (c .before .before .before .if2 .left)) (c .before .if3 .taken)
 
 returns-4 : tie.Need-returns-4
 returns-4 c = let c₀ = c .before .before .before .before .before in let c₄ = c₀ .before .before .before .before in
     let c₈ = c₄ .before .before .before .before in
-    line-all (c₈ .before .before .args .line .now) _ _ _ _ _ _ (c₈ .if1 .left) (c₄ .before .before .before .word-end .ensures .0)
-    (c₄ .before .kind-named .ensures) (c₄ .row-of .ensures) (c₀ .read-fields .ensures)
+    line-all (c₈ .before .before .args .line .now) _ _ _ _ _ _ (c₈ .if1 .left)
+    (c₄ .before .before .before .word-end .ensures .0) (c₄ .before .kind-named .ensures) (c₄ .row-of .ensures) (c₀ .read-fields .ensures)
     (first-is-known _ (c₀ .before .before .first-known .ensures)) (not-false _ (c .before .before .before .if2 .left)) (c .before .if3 .left) _
     (c .message-of .ensures)
 

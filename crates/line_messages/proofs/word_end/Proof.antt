@@ -1,11 +1,7 @@
 -- `line_messages::word_end` meets its contract: the bytes passed, and the word's end from here on, are the word's end.
-use Prim.Native.Nat.{_≤_, _+_, _-_}
-use mathlib.Core.Path.{_≡_}
-use native.Mathlib.Omega.{arith}
-use lib.ListN.{length, drop}
+use Rattle.basics.proofs.Basics.{_≡_, _≤_, _-_, _+_, arith, length, drop, needs}
 use Rattle.line_messages.specs.Pinned.Reading.{wordEnd}
 use Rattle.line_messages.proofs.WordEnds.{end-here, end-past, end-none}
-use borrow.Author.Needs.{needs}
 use Rattle.line_messages.proofs.word_end.Statement.{statement}
 use Rattle.line_messages.proofs.word_end.Tie as tie
 

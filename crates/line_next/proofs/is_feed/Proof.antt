@@ -1,7 +1,6 @@
 -- `line_next::is_feed` meets its contract: the byte at the position, where there is one.
-use mathlib.Core.Path.{sym}
+use Rattle.basics.proofs.Basics.{sym, needs}
 use Rattle.line_next.proofs.NextLines.{feed-off, feed-at}
-use borrow.Author.Needs.{needs}
 use Rattle.line_next.proofs.is_feed.Statement.{statement}
 use Rattle.line_next.proofs.is_feed.Tie as tie
 

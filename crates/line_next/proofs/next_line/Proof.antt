@@ -1,15 +1,11 @@
 -- `line_next::next_line` meets its contract: by its fields where they end at a line feed, else by its end.
-use mathlib.Core.Path.{_≡_, sym, _∙_}
+use Rattle.basics.proofs.Basics.{_≡_, sym, _∙_, false, _&&_, arith, drop, length-drop, needs}
 use mathlib.Core.Logic.{⊎-elim}
-use mathlib.Core.Bool.{false, _&&_}
 use Rattle.line_next.specs.Between.NextLine.{feedFirst}
 use Rattle.line_next.proofs.Handed.{next-off, next-by-end, next-by-fields}
-use borrow.Author.Needs.{needs}
 use Rattle.line_next.proofs.next_line.Statement.{statement}
 use Rattle.line_next.proofs.next_line.Tie as tie
 use Rattle.input_lines.proofs.Feeds.{until-le}
-use lib.ListN.{drop, length-drop}
-use native.Mathlib.Omega.{arith}
 
 returns-2 : tie.Need-returns-2
 returns-2 c = let c₅ = c .before .before .before .before .before in let c₈ = c₅ .before .before .before in

@@ -1,11 +1,7 @@
 -- `line_next::word_end_from` meets its contract, byte by byte.
-use Prim.Native.Nat.{_≤_, _+_, _-_}
-use mathlib.Core.Path.{_≡_, refl}
-use native.Mathlib.Omega.{arith}
-use lib.ListN.{length, drop}
+use Rattle.basics.proofs.Basics.{_≡_, refl, _≤_, _-_, _+_, arith, length, drop, needs}
 use Rattle.line_next.specs.Between.NextLine.{stopAt}
 use Rattle.line_next.proofs.NextLines.{stop-here, stop-feed, stop-past, stop-none}
-use borrow.Author.Needs.{needs}
 use Rattle.line_next.proofs.word_end_from.Statement.{statement}
 use Rattle.line_next.proofs.word_end_from.Tie as tie
 

@@ -1,6 +1,5 @@
 -- `line_values::digit` meets its contract.
-use native.Mathlib.Omega.{arith}
-use borrow.Author.Needs.{needs}
+use Rattle.basics.proofs.Basics.{arith, needs}
 use Rattle.line_values.proofs.digit.Statement.{statement}
 use Rattle.line_values.proofs.digit.Tie as tie
 

@@ -1,13 +1,8 @@
 -- `line_writing::fit_all` meets its contract: whether the fields left fit says whether all do.
-use Prim.Native.Nat.{_≤_, _-_}
-use mathlib.Core.Path.{_≡_, sym, ap, _∙_}
-use native.Mathlib.Omega.{arith}
-use borrow.Author.Tests.{not-true, not-false}
-use lib.ListN.{length}
+use Rattle.basics.proofs.Basics.{_≡_, sym, _∙_, ap, _≤_, _-_, arith, length, not-true, not-false, needs}
 use Rattle.line_fields.specs.Fields.{fitAll}
 use Rattle.line_fields.specs.Between.Shapes.{fieldsFrom}
 use Rattle.line_writing.proofs.FieldLoops.{fields-next, fields-none}
-use borrow.Author.Needs.{needs}
 use Rattle.line_writing.proofs.fit_all.Statement.{statement}
 use Rattle.line_writing.proofs.fit_all.Tie as tie
 

@@ -1,5 +1,5 @@
 -- `line_writing::fits` meets its contract, sort by sort.
-use borrow.Author.Needs.{needs}
+use Rattle.basics.proofs.Basics.{needs}
 use Rattle.line_writing.proofs.fits.Statement.{statement}
 use Rattle.line_writing.proofs.fits.Tie as tie
 

@@ -1,13 +1,11 @@
 -- `line_writing::is_writable` meets its contract: the fields fit.
-use mathlib.Core.Path.{_≡_, sym, ap, _∙_}
+use Rattle.basics.proofs.Basics.{_≡_, sym, _∙_, ap, arith, needs}
 use mathlib.Core.Logic.{⊎-elim}
-use native.Mathlib.Omega.{arith}
 use Rattle.line_fields.specs.Fields.{fitAll}
 use Rattle.line_messages.specs.declared.{Message.Message}
 use Rattle.line_messages.specs.Writing.{isWritable}
 use Rattle.line_messages.proofs.OneLine.{writable-is}
 use Rattle.line_writing.proofs.WrittenLines.{few-values, values-are}
-use borrow.Author.Needs.{needs}
 use Rattle.line_writing.proofs.is_writable.Statement.{statement}
 use Rattle.line_writing.proofs.is_writable.Tie as tie
 

@@ -1,6 +1,6 @@
 -- `line_writing::point_values` meets its contract, call by call.
 
-use borrow.Author.Needs.{needs}
+use Rattle.basics.proofs.Basics.{needs}
 use Rattle.line_writing.proofs.point_values.Statement.{statement}
 use Rattle.line_writing.proofs.point_values.Tie as tie
 

@@ -1,6 +1,6 @@
 -- `line_writing::put_field` meets its contract: the `;`, and then what the sort asks for.
 use Rattle.line_writing.proofs.FieldLoops.{field-put}
-use borrow.Author.Needs.{needs}
+use Rattle.basics.proofs.Basics.{needs}
 use Rattle.line_writing.proofs.put_field.Statement.{statement}
 use Rattle.line_writing.proofs.put_field.Tie as tie
 

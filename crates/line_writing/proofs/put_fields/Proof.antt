@@ -1,14 +1,9 @@
 -- `line_writing::put_fields` meets its contract: of the text, that of the fields left is still to be put.
-use Prim.Native.Nat.{_≤_, _-_}
-use mathlib.Core.Path.{_≡_, ap, _∙_}
-use mathlib.Core.List.{[]}
-use native.Mathlib.Omega.{arith}
-use lib.ListN.{length, getD, length-append}
+use Rattle.basics.proofs.Basics.{_≡_, _∙_, ap, [], _≤_, _-_, arith, length, getD, length-append, needs}
 use Rattle.line_text.proofs.Appends.{Rest, rest-start, rest-next, rest-none}
 use Rattle.line_fields.specs.Fields.{fieldText, fieldsText}
 use Rattle.line_fields.specs.Between.Shapes.{sortAt, fieldsFrom}
 use Rattle.line_writing.proofs.FieldLoops.{text-next, fields-none}
-use borrow.Author.Needs.{needs}
 use Rattle.line_writing.proofs.put_fields.Statement.{statement}
 use Rattle.line_writing.proofs.put_fields.Tie as tie
 

@@ -1,6 +1,6 @@
 -- `line_writing::values_of` meets its contract, message by message.
 
-use borrow.Author.Needs.{needs}
+use Rattle.basics.proofs.Basics.{needs}
 use Rattle.line_writing.proofs.values_of.Statement.{statement}
 use Rattle.line_writing.proofs.values_of.Tie as tie
 

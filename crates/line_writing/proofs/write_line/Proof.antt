@@ -1,10 +1,8 @@
 -- `line_writing::write_line` meets its contract: the word, and then the fields, in front of zeros.
-use mathlib.Core.Path.{sym, _∙_}
-use borrow.Author.Tests.{not-true, not-false}
+use Rattle.basics.proofs.Basics.{sym, _∙_, not-true, not-false, needs}
 use Rattle.line_messages.specs.Writing.{textOf}
 use Rattle.line_writing.specs.Between.Written.{writtenLine}
 use Rattle.line_writing.proofs.WrittenLines.{fields-room, line-written}
-use borrow.Author.Needs.{needs}
 use Rattle.line_writing.proofs.write_line.Statement.{statement}
 use Rattle.line_writing.proofs.write_line.Tie as tie
 

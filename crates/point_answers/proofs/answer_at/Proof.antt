@@ -1,6 +1,5 @@
 -- Call by call.
-use mathlib.Core.Path.{refl}
-use borrow.Author.Needs.{needs}
+use Rattle.basics.proofs.Basics.{refl, needs}
 use Rattle.point_answers.proofs.answer_at.Statement.{statement}
 use Rattle.point_answers.proofs.answer_at.Tie as tie
 

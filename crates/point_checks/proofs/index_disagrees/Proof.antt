@@ -1,5 +1,5 @@
 -- Number 28: the definition's tests, by cases of the zero mark.
-use borrow.Author.Tests.{le-leb, lt-leb}
+use Rattle.basics.proofs.Basics.{le-leb, lt-leb}
 use Rattle.point_checks.proofs.Tests.{at-zero, at-one, at-other}
 use Rattle.point_checks.proofs.index_disagrees.Statement.{statement}
 use Rattle.point_checks.proofs.index_disagrees.Tie as tie

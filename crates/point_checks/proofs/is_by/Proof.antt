@@ -1,5 +1,5 @@
 -- The pending request is by s.
-use borrow.Author.Needs.{needs}
+use Rattle.basics.proofs.Basics.{needs}
 use Rattle.point_checks.proofs.is_by.Statement.{statement}
 use Rattle.point_checks.proofs.is_by.Tie as tie
 

@@ -1,5 +1,5 @@
 -- Number 2: no point, or not enrolled.
-use borrow.Author.Needs.{needs}
+use Rattle.basics.proofs.Basics.{needs}
 use Rattle.point_checks.proofs.not_enrolled.Statement.{statement}
 use Rattle.point_checks.proofs.not_enrolled.Tie as tie
 

@@ -1,5 +1,5 @@
 -- The wheels of a meter: before the comma and after it.
-use borrow.Author.Needs.{needs}
+use Rattle.basics.proofs.Basics.{needs}
 use Rattle.point_checks.proofs.not_wheels.Statement.{statement}
 use Rattle.point_checks.proofs.not_wheels.Tie as tie
 

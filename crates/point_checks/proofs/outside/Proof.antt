@@ -1,5 +1,5 @@
 -- A number is outside its range: the definition's two tests.
-use borrow.Author.Tests.{lt-ltb, le-ltb}
+use Rattle.basics.proofs.Basics.{lt-ltb, le-ltb}
 use Rattle.point_checks.proofs.outside.Statement.{statement}
 use Rattle.point_checks.proofs.outside.Tie as tie
 

@@ -1,5 +1,5 @@
 -- A holder is named, and the fields stand beside it.
-use borrow.Author.Needs.{needs}
+use Rattle.basics.proofs.Basics.{needs}
 use Rattle.point_effects.proofs.named_point.Statement.{statement}
 use Rattle.point_effects.proofs.named_point.Tie as tie
 

@@ -1,6 +1,6 @@
 -- Effect by effect.
 use Rattle.point_effects.specs.Between.{noted}
-use borrow.Author.Needs.{needs}
+use Rattle.basics.proofs.Basics.{needs}
 use Rattle.point_effects.proofs.note.Statement.{statement}
 use Rattle.point_effects.proofs.note.Tie as tie
 

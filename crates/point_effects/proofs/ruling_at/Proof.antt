@@ -1,13 +1,10 @@
 -- The answer, and what an accepted call does.
-use mathlib.Core.Path.{_≡_, refl}
-use mathlib.Core.Bool.{Bool, true}
-use native.Mathlib.Omega.{arith}
+use Rattle.basics.proofs.Basics.{_≡_, refl, true, Bool, arith, needs}
 use Rattle.rules.specs.declared.{Answer.Answer}
 use Rattle.rules.specs.Answers.{isAccepted}
 use Rattle.point_effects.specs.Between.{rulingAt}
 use Rattle.rules.proofs.Views.{passed-at}
 use Rattle.point_answers.specs.Between.{answerAt}
-use borrow.Author.Needs.{needs}
 use Rattle.point_effects.proofs.ruling_at.Statement.{statement}
 use Rattle.point_effects.proofs.ruling_at.Tie as tie
 

@@ -1,8 +1,6 @@
 -- The next slot is written where there is one.
-use native.Mathlib.Omega.{arith}
+use Rattle.basics.proofs.Basics.{arith, lt-ltb, le-ltb, needs}
 use Rattle.rules.specs.Pinned.Register.{appended}
-use borrow.Author.Tests.{lt-ltb, le-ltb}
-use borrow.Author.Needs.{needs}
 use Rattle.point_periods.proofs.appended.Statement.{statement}
 use Rattle.point_periods.proofs.appended.Tie as tie
 

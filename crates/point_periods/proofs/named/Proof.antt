@@ -1,8 +1,7 @@
 -- A holder is named: the newest period is replaced where it starts on the day, else a period is appended.
-use mathlib.Core.Path.{sym, _∙_}
+use Rattle.basics.proofs.Basics.{sym, _∙_, needs}
 use Rattle.rules.specs.Pinned.Register.{named}
 use Rattle.point_periods.proofs.Starts.{starts-some}
-use borrow.Author.Needs.{needs}
 use Rattle.point_periods.proofs.named.Statement.{statement}
 use Rattle.point_periods.proofs.named.Tie as tie
 

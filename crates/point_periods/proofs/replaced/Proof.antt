@@ -1,6 +1,6 @@
 -- The newest slot is written anew with its volume kept.
 use Rattle.rules.specs.Pinned.Register.{replaced}
-use borrow.Author.Needs.{needs}
+use Rattle.basics.proofs.Basics.{needs}
 use Rattle.point_periods.proofs.replaced.Statement.{statement}
 use Rattle.point_periods.proofs.replaced.Tie as tie
 

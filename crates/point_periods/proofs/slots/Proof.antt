@@ -1,5 +1,5 @@
 -- `slots` meets its contract: a count past 24 counts as 24.
-use native.Mathlib.Omega.{arith}
+use Rattle.basics.proofs.Basics.{arith}
 use Rattle.point_periods.proofs.slots.Statement.{statement}
 use Rattle.point_periods.proofs.slots.Tie as tie
 

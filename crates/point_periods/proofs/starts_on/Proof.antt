@@ -1,8 +1,6 @@
 -- The newest period starts on the day: none does where no slot is in use.
-use native.Mathlib.Omega.{arith}
+use Rattle.basics.proofs.Basics.{arith, lt-ltb, le-ltb, needs}
 use Rattle.rules.specs.Pinned.Register.{startsOn}
-use borrow.Author.Tests.{lt-ltb, le-ltb}
-use borrow.Author.Needs.{needs}
 use Rattle.point_periods.proofs.starts_on.Statement.{statement}
 use Rattle.point_periods.proofs.starts_on.Tie as tie
 

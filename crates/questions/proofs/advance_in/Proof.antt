@@ -1,5 +1,5 @@
 -- The volumes of all the periods in use, added up.
-use borrow.Author.Needs.{needs}
+use Rattle.basics.proofs.Basics.{needs}
 use Rattle.questions.proofs.advance_in.Statement.{statement}
 use Rattle.questions.proofs.advance_in.Tie as tie
 

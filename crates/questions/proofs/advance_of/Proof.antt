@@ -1,8 +1,7 @@
 -- The advance question: off its range, or the sum of the point's volumes.
-use mathlib.Core.Path.{sym, _∙_}
+use Rattle.basics.proofs.Basics.{sym, _∙_, needs}
 use Rattle.questions.specs.Pinned.Questions.{advanceAnswer}
 use Rattle.questions.proofs.Asked.{asked-in}
-use borrow.Author.Needs.{needs}
 use Rattle.questions.proofs.advance_of.Statement.{statement}
 use Rattle.questions.proofs.advance_of.Tie as tie
 

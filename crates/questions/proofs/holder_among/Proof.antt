@@ -1,10 +1,7 @@
 -- The periods are looked at from the newest down: what is left to look at decides.
-use mathlib.Core.Path.{_≡_, refl, sym, _∙_, ap}
-use Prim.Native.Nat.{ℕ, _≤_}
-use native.Mathlib.Omega.{arith}
+use Rattle.basics.proofs.Basics.{_≡_, refl, sym, _∙_, _≤_, arith, needs}
 use Rattle.questions.specs.Pinned.Questions.{holderAmong}
 use Rattle.questions.proofs.Walks.{among-found, among-passed, among-none}
-use borrow.Author.Needs.{needs}
 use Rattle.questions.proofs.holder_among.Statement.{statement}
 use Rattle.questions.proofs.holder_among.Tie as tie
 
@@ -15,21 +12,16 @@ abbrev μ-loop : tie.MeasureT-loop
 μ-loop d n ps i₀ i = i
 
 returns : tie.Need-returns Inv-loop μ-loop
-returns c =
-    sym (among-found (c .before .before .before .before .before .args .d) (c .before .before .before .before .before .args .t3)
-    (c .before .before .before .before .loop .i) (omega arith) (c .if1 .taken)) ∙ c .before .before .before .before .loop .inv .1
+returns c = let c₄ = c .before .before .before .before in let a = c₄ .before .args in
+    sym (among-found (a .d) (a .t3) (c₄ .loop .i) (omega arith) (c .if1 .taken)) ∙ c₄ .loop .inv .1
 
 loop-again : tie.Need-loop-again Inv-loop μ-loop
-loop-again c = (
-  search needs,
-  sym (among-passed (c .before .before .before .before .before .args .d) (c .before .before .before .before .before .args .t3)
-      (c .before .before .before .before .loop .i) (omega arith) (c .if1 .left)) ∙ c .before .before .before .before .loop .inv .1,
-)
+loop-again c = let c₄ = c .before .before .before .before in let a = c₄ .before .args in
+    (search needs, sym (among-passed (a .d) (a .t3) (c₄ .loop .i) (omega arith) (c .if1 .left)) ∙ c₄ .loop .inv .1)
 
 returns-2 : tie.Need-returns-2 Inv-loop μ-loop
-returns-2 c = let z : c .before .loop .i ≡ 0 = omega arith in
-    sym (among-none (c .before .before .args .d) (c .before .before .args .t3)) ∙
-    ap (λ (k : ℕ). holderAmong (c .before .before .args .d) k (c .before .before .args .t3)) (sym z) ∙ c .before .loop .inv .1
+returns-2 c = let a = c .before .before .args in let z : c .before .loop .i ≡ 0 = omega arith in
+    sym (among-none (a .d) (a .t3)) ∙ rw z at (c .before .loop .inv .1)
 
 pub holder-among-spec : {M : Type 1} → statement M
 holder-among-spec =

@@ -1,14 +1,12 @@
 -- No point, or one that is not enrolled.
-use mathlib.Core.Path.{sym, _∙_}
-use native.Mathlib.Omega.{arith}
-use Rattle.questions.proofs.Asked.{range-in}
-use borrow.Author.Needs.{needs}
+use Rattle.basics.proofs.Basics.{arith, needs}
+use Rattle.questions.proofs.Asked.{told-in}
 use Rattle.questions.proofs.is_unasked.Statement.{statement}
 use Rattle.questions.proofs.is_unasked.Tie as tie
 
 pub is-unasked-spec : {M : Type 1} → statement M
 is-unasked-spec = tie.close (tie.spec (λ c κs. search needs) (λ c. rw (← (c .before .outside .ensures), c .if1 .taken))
-    (λ c. let i = range-in 1 32 (c .before .before .args .p) (sym (c .before .outside .ensures) ∙ c .if1 .left) in omega (arith, i .0, i .1))
-    (λ c. let i = range-in 1 32 (c .before .before .args .p) (sym (c .before .outside .ensures) ∙ c .if1 .left) in omega (arith, i .0, i .1))
-    (λ c. let i = range-in 1 32 (c .before .before .args .p) (sym (c .before .outside .ensures) ∙ c .if1 .left) in omega (arith, i .0, i .1))
+    (λ c. omega (arith, told-in 1 32 (c .before .before .args .p) _ (c .before .outside .ensures) (c .if1 .left)))
+    (λ c. omega (arith, told-in 1 32 (c .before .before .args .p) _ (c .before .outside .ensures) (c .if1 .left)))
+    (λ c. omega (arith, told-in 1 32 (c .before .before .args .p) _ (c .before .outside .ensures) (c .if1 .left)))
     (λ c. let k = c .before .before .before in rw (← (k .before .outside .ensures), k .if1 .left)))

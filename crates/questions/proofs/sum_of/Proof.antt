@@ -1,10 +1,7 @@
 -- The volumes passed so far, added up.
-use mathlib.Core.Path.{_≡_, sym, _∙_, ap}
-use Prim.Native.Nat.{ℕ, _≤_, _-_}
-use native.Mathlib.Omega.{arith}
+use Rattle.basics.proofs.Basics.{_≡_, sym, _≤_, _-_, arith, needs}
 use Rattle.questions.specs.Pinned.Questions.{sumOf}
 use Rattle.questions.proofs.Walks.{sum-next, sum-none}
-use borrow.Author.Needs.{needs}
 use Rattle.questions.proofs.sum_of.Statement.{statement}
 use Rattle.questions.proofs.sum_of.Tie as tie
 
@@ -15,17 +12,11 @@ abbrev μ-loop : tie.MeasureT-loop
 μ-loop n ps sum₀ i₀ sum i = n - i
 
 loop-again : tie.Need-loop-again Inv-loop μ-loop
-loop-again c = (
-  search needs,
-  rw (
-    sum-next (c .before .before .before .loop .i) (c .before .before .before .before .args .t2),
-    ← (c .before .before .before .loop .inv .1),
-  ) (c .wrapping-add-u64 .ensures),
-)
+loop-again c = let c₃ = c .before .before .before in
+    (search needs, rw (sum-next (c₃ .loop .i) (c₃ .before .args .t2), ← c₃ .loop .inv .1) (c .wrapping-add-u64 .ensures))
 
 returns : tie.Need-returns Inv-loop μ-loop
-returns c =
-    let z : c .before .loop .i ≡ c .before .before .args .n = omega arith in c .before .loop .inv .1 ∙ ap (λ (k : ℕ). sumOf k (c .before .before .args .t2)) z
+returns c = let z : c .before .loop .i ≡ c .before .before .args .n = omega arith in rw z at (c .before .loop .inv .1)
 
 pub sum-of-spec : {M : Type 1} → statement M
 sum-of-spec =

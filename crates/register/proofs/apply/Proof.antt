@@ -1,5 +1,5 @@
 -- Each call by its function.
-use borrow.Author.Needs.{needs}
+use Rattle.basics.proofs.Basics.{needs}
 use Rattle.register.proofs.apply.Statement.{statement}
 use Rattle.register.proofs.apply.Tie as tie
 

@@ -1,9 +1,6 @@
 -- A call that names a point, on the register: the point is found, ruled on, and stored where the call is accepted.
-use mathlib.Core.Path.{sym, _∙_}
-use native.Mathlib.Omega.{arith}
-use borrow.Author.Tests.{not-true, not-false}
+use Rattle.basics.proofs.Basics.{sym, _∙_, arith, not-true, not-false, needs}
 use Rattle.register.proofs.AtPoint.{ruling-refused, ruling-in, ruling-accepted}
-use borrow.Author.Needs.{needs}
 use Rattle.register.proofs.at.Statement.{statement}
 use Rattle.register.proofs.at.Tie as tie
 
@@ -15,24 +12,21 @@ returns c = let k = c .before .before in let g = k .before .before .before in le
 
 sub-i : tie.Need-sub-i
 sub-i c = let k = c .before .before .before in let g = k .before .before .before in
-    let a = g .before .before .before .args in omega (
-      arith,
-      ruling-in (a .r) (a .today) (a .p) (a .a) _ _ _ (g .point-on .ensures) (k .before .before .view-of .ensures) (k .before .ruling-at .ensures) (sym (k .is-accepted .ensures) ∙ not-false _ (c .before .before .if1 .left)) .1,
-    )
+    let a = g .before .before .before .args in
+    let w = ruling-in (a .r) (a .today) (a .p) (a .a) _ _ _ (g .point-on .ensures) (k .before .before .view-of .ensures)
+    (k .before .ruling-at .ensures) (sym (k .is-accepted .ensures) ∙ not-false _ (c .before .before .if1 .left)) in omega (arith, w .1)
 
 cast-note : tie.Need-cast-note
 cast-note c = let k = c .before .before .before in let g = k .before .before .before in
-    let a = g .before .before .before .args in omega (
-      arith,
-      ruling-in (a .r) (a .today) (a .p) (a .a) _ _ _ (g .point-on .ensures) (k .before .before .view-of .ensures) (k .before .ruling-at .ensures) (sym (k .is-accepted .ensures) ∙ not-false _ (c .before .before .if1 .left)) .0,
-    )
+    let a = g .before .before .before .args in
+    let w = ruling-in (a .r) (a .today) (a .p) (a .a) _ _ _ (g .point-on .ensures) (k .before .before .view-of .ensures)
+    (k .before .ruling-at .ensures) (sym (k .is-accepted .ensures) ∙ not-false _ (c .before .before .if1 .left)) in omega (arith, w .0)
 
 mul-t21 : tie.Need-mul-t21
 mul-t21 c = let k = c .before .before .before .before in let g = k .before .before .before in
-    let a = g .before .before .before .args in omega (
-      arith,
-      ruling-in (a .r) (a .today) (a .p) (a .a) _ _ _ (g .point-on .ensures) (k .before .before .view-of .ensures) (k .before .ruling-at .ensures) (sym (k .is-accepted .ensures) ∙ not-false _ (c .before .before .before .if1 .left)) .2,
-    )
+    let a = g .before .before .before .args in
+    let w = ruling-in (a .r) (a .today) (a .p) (a .a) _ _ _ (g .point-on .ensures) (k .before .before .view-of .ensures)
+    (k .before .ruling-at .ensures) (sym (k .is-accepted .ensures) ∙ not-false _ (c .before .before .before .if1 .left)) in omega (arith, w .2)
 
 element-set-from-next : tie.Need-element-set-from-next
 element-set-from-next c = let k = c .before .before .before .before in let g = k .before .before .before in

@@ -1,11 +1,8 @@
 -- A contract: refused by its rows, or signed on the register brought up to today.
-use mathlib.Core.Path.{sym, _∙_}
-use native.Mathlib.Omega.{arith}
-use borrow.Author.Tests.{not-true, not-false}
+use Rattle.basics.proofs.Basics.{sym, _∙_, arith, not-true, not-false, needs}
 use Rattle.rules.specs.declared.{Action.Action}
 use Rattle.rules.specs.Pinned.Register.{done}
 use Rattle.register.proofs.Plain.{plain-refused, plain-accepted, contract-in}
-use borrow.Author.Needs.{needs}
 use Rattle.register.proofs.contract.Statement.{statement}
 use Rattle.register.proofs.contract.Tie as tie
 

@@ -1,9 +1,6 @@
 -- A failure: the rows before number 30, number 30, then last resort at each of its points.
-use mathlib.Core.Path.{sym, _∙_}
-use native.Mathlib.Omega.{arith}
-use borrow.Author.Tests.{not-true, not-false}
+use Rattle.basics.proofs.Basics.{sym, _∙_, arith, not-true, not-false, needs}
 use Rattle.register.proofs.Failing.{failure-refused, failure-in, failure-full, failure-done}
-use borrow.Author.Needs.{needs}
 use Rattle.register.proofs.fail.Statement.{statement}
 use Rattle.register.proofs.fail.Tie as tie
 
@@ -19,17 +16,15 @@ returns-2 c = let b = c .before .before in let n = b .before .before in let k = 
 
 element-write-next : tie.Need-element-write-next
 element-write-next c = let n = c .before .before .before in let k = n .before .before in
-    let a = k .before .before .before .before .args in omega (
-      arith,
-      failure-in (a .today) (a .s) (a .r) _ (k .before .failure-rows .ensures) (sym (k .is-accepted .ensures) ∙ not-false _ (n .before .if1 .left)) _ (n .brought-up .ensures) .1,
-    )
+    let a = k .before .before .before .before .args in
+    let w = failure-in (a .today) (a .s) (a .r) _ (k .before .failure-rows .ensures)
+    (sym (k .is-accepted .ensures) ∙ not-false _ (n .before .if1 .left)) _ (n .brought-up .ensures) in omega (arith, w .1)
 
 cast-all-failed : tie.Need-cast-all-failed
 cast-all-failed c = let n = c .before .before .before in let k = n .before .before in
-    let a = k .before .before .before .before .args in omega (
-      arith,
-      failure-in (a .today) (a .s) (a .r) _ (k .before .failure-rows .ensures) (sym (k .is-accepted .ensures) ∙ not-false _ (n .before .if1 .left)) _ (n .brought-up .ensures) .2,
-    )
+    let a = k .before .before .before .before .args in
+    let w = failure-in (a .today) (a .s) (a .r) _ (k .before .failure-rows .ensures)
+    (sym (k .is-accepted .ensures) ∙ not-false _ (n .before .if1 .left)) _ (n .brought-up .ensures) in omega (arith, w .2)
 
 returns-3 : tie.Need-returns-3
 returns-3 c = let b = c .before .before .before in let n = b .before .before in let k = n .before .before in

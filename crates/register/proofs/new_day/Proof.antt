@@ -1,9 +1,8 @@
 -- A day: the register brought up to it, or refused.
-use mathlib.Core.Path.{sym, _∙_}
+use Rattle.basics.proofs.Basics.{sym, _∙_, needs}
 use Rattle.rules.specs.declared.{Action.Action}
 use Rattle.rules.specs.Pinned.Register.{done}
 use Rattle.register.proofs.Plain.{plain-refused, plain-accepted}
-use borrow.Author.Needs.{needs}
 use Rattle.register.proofs.new_day.Statement.{statement}
 use Rattle.register.proofs.new_day.Tie as tie
 

@@ -1,10 +1,6 @@
 -- The closing lines: what a call wrote stands within the buffer, and each call but the last leaves fewer points.
-use Prim.Native.Nat.{_-_}
-use mathlib.Core.Path.{_≡_, sym}
-use lib.ListN.{length}
-use lib.Seq.{length-take-le}
+use Rattle.basics.proofs.Basics.{_≡_, sym, _-_, length, length-take-le, needs}
 use Rattle.input_whole.proofs.Ends.{closed-within}
-use borrow.Author.Needs.{needs}
 use Rattle.registre.proofs.write_closing.Statement.{statement}
 use Rattle.registre.proofs.write_closing.Tie as tie
 

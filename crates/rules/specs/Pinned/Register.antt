@@ -10,16 +10,14 @@
 -- applied   a call: its answer and the whole register after it
 use mathlib.Core.Bool.{Bool, true, false, cond, not, _&&_}
 use mathlib.Core.List.{List, [], _∷_, map}
-use Prim.Native.Nat.{ℕ, zero, suc, _+_, _-_, _*_, _%_, _^_, min}
+use Prim.Native.Nat.{ℕ, zero, suc, _+_, _-_, _%_, _^_, min}
 use lib.Dec.{eqb, leb, ltb}
 use lib.ListN.{getD, set, replicate}
 use Rattle.rules.specs.declared.{Period.Period, History.History, Point.Point, Register.Register}
 use Rattle.rules.specs.declared.{Settings.Settings, SupplyKind.SupplyKind, Pending.Pending, Due.Due, Span.Span}
 use Rattle.rules.specs.declared.{Opening.Opening, Call.Call, Action.Action, PointAction.PointAction}
 use Rattle.rules.specs.declared.{Answer.Answer, Outcome.Outcome, Effect.Effect, View.View}
-use Rattle.rules.specs.declared.Pending.the-variants as pending
-use Rattle.rules.specs.declared.Due.the-variants as event
-use Rattle.rules.specs.Fields.{supply, withSupply, blank}
+use Rattle.rules.specs.Fields.{supply, unsupplied, withSupply, blank}
 use Rattle.rules.specs.Effects.{fieldsOf, names, spansIn, effectOf, failed}
 use Rattle.rules.specs.Volumes.{given}
 use Rattle.rules.specs.Answers.{isAccepted}
@@ -81,16 +79,18 @@ abbrev pub entered : ℕ → Effect → History → Point
 entered d e h =
     record {
       fields = fieldsOf e;
-      history = cond (names e) (named d (fieldsOf e .supply .holder) (bookedAll (spansIn e) h)) (bookedAll (spansIn e) h);
+      history =
+          cond (names e) (named d (fieldsOf e .supply .holder) (bookedAll (spansIn e) h)) (bookedAll (spansIn e) h);
     }
 
--- What ends a supply kind by day t.
-unfoldable pub expiryBy : Settings → ℕ → SupplyKind → Due
-expiryBy S t SupplyKind.None = event.Nothing
-expiryBy S t SupplyKind.Contract = event.Nothing
-expiryBy S t (SupplyKind.Default d) =
-    cond (leb d t) (event.Fallback d (S .resort) (SupplyKind.LastResort (d + S .b))) event.Nothing
-expiryBy S t (SupplyKind.LastResort d) = cond (leb d t) (event.End d 0 SupplyKind.None) event.Nothing
+-- What ends a supply kind by day t, where q is pending: default supply goes over to last resort, and the request stays;
+-- last resort ends, and it is dropped.
+unfoldable pub expiryBy : Settings → ℕ → SupplyKind → Pending → Due
+expiryBy S t SupplyKind.None q = Due.Nothing
+expiryBy S t SupplyKind.Contract q = Due.Nothing
+expiryBy S t (SupplyKind.Default d) q =
+    cond (leb d t) (Due.Naming d (supply (S .resort) (SupplyKind.LastResort (d + S .b)) q)) Due.Nothing
+expiryBy S t (SupplyKind.LastResort d) q = cond (leb d t) (Due.Naming d unsupplied) Due.Nothing
 
 -- A supply kind ends before day e.
 unfoldable pub endsBefore : SupplyKind → ℕ → Bool
@@ -101,16 +101,14 @@ endsBefore (SupplyKind.LastResort d) e = ltb d e
 
 -- What falls due first by day t; a request and a deadline on one day: the request.
 unfoldable pub dueBy : Settings → ℕ → SupplyKind → Pending → Due
-dueBy S t k pending.Nothing = expiryBy S t k
-dueBy S t k (pending.Request s e) =
-    cond (leb e t && not (endsBefore k e)) (event.Switch e s SupplyKind.Contract) (expiryBy S t k)
+dueBy S t k Pending.Nothing = expiryBy S t k Pending.Nothing
+dueBy S t k (Pending.Request s e) =
+    cond (leb e t && not (endsBefore k e)) (Due.Naming e (supply s SupplyKind.Contract Pending.Nothing))
+    (expiryBy S t k (Pending.Request s e))
 
 unfoldable pub happened : Due → Point → Point
-happened event.Nothing g = g
-happened (event.Switch d h k) g = entered d (Effect.Name (withSupply (g .fields) (supply h k pending.Nothing))) (g .history)
-happened (event.Fallback d h k) g =
-    entered d (Effect.Name (withSupply (g .fields) (supply h k (g .fields .supply .pending)))) (g .history)
-happened (event.End d h k) g = entered d (Effect.Name (withSupply (g .fields) (supply h k pending.Nothing))) (g .history)
+happened Due.Nothing g = g
+happened (Due.Naming d s) g = entered d (Effect.Name (withSupply (g .fields) s)) (g .history)
 
 unfoldable pub nextEvent : Settings → ℕ → Point → Point
 nextEvent S t g = happened (dueBy S t (g .fields .supply .kind) (g .fields .supply .pending)) g

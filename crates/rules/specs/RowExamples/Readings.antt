@@ -115,8 +115,8 @@ pub record ReadingExamples : Type 0 where
       on 30 (Action.At 2 (PointAction.Reading 14 994 0)) gives Answer.Accepted ∷ []) 2
       (period 10 0 2000 ∷ period 12 5 2000 ∷ period 16 0 0 ∷ []) 4000
   -- another point's reading books nothing here
-  pub other-point-not-booked : ThenShows (on 20 (Action.At 1 (PointAction.Reading 20 10 1)) gives Answer.Accepted ∷ []) 2
-      (period 10 0 0 ∷ []) 0
+  pub other-point-not-booked : ThenShows
+      (on 20 (Action.At 1 (PointAction.Reading 20 10 1)) gives Answer.Accepted ∷ []) 2 (period 10 0 0 ∷ []) 0
   -- the second reading is split like the first, also where a period holds days of both: 4 units, then 6, over holders
   -- 0, 5 and 0
   pub two-readings : ThenShows

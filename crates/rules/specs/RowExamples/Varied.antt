@@ -147,7 +147,7 @@ pub record VariedExamples : Type 0 where
       Answer.Accepted ∷ [])) 5
       (period 10 0 200 ∷ []) 200
   -- another point's reading books nothing here, whichever of the two has the higher number
-  pub other-reading-not-booked : ThenShows (on 20 (Action.At 2 (PointAction.Reading 20 10 1)) gives Answer.Accepted ∷ [])
-      1 (period 10 5 0 ∷ []) 0
+  pub other-reading-not-booked : ThenShows
+      (on 20 (Action.At 2 (PointAction.Reading 20 10 1)) gives Answer.Accepted ∷ []) 1 (period 10 5 0 ∷ []) 0
   pub other-reading-not-booked-either : ThenShows (on 20 (Action.At 2 (PointAction.Reading 20 10 1)) gives
       Answer.Accepted ∷ []) 3 (period 10 7 0 ∷ []) 0

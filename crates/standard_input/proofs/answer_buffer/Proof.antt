@@ -1,7 +1,5 @@
 -- The buffer has the length that its type says.
-use Prim.Native.Nat.{ℕ}
-use mathlib.Core.Path.{sym}
-use lib.ListN.{length-replicate}
+use Rattle.basics.proofs.Basics.{sym, ℕ, length-replicate}
 use Rattle.standard_input.proofs.answer_buffer.Statement.{statement}
 use Rattle.standard_input.proofs.answer_buffer.Tie as tie
 

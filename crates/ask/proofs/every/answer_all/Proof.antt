@@ -1,8 +1,5 @@
 -- What waits stands within the buffer.
-use Prim.Native.Nat.{_-_, _≤_}
-use mathlib.Core.Path.{_≡_}
-use lib.ListN.{length}
-use borrow.Author.Needs.{needs}
+use Rattle.basics.proofs.Basics.{_≡_, _≤_, _-_, length, needs}
 use Rattle.ask.proofs.every.answer_all.Statement.{statement}
 use Rattle.ask.proofs.every.answer_all.Tie as tie
 

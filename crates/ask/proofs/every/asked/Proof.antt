@@ -1,7 +1,6 @@
 -- Put or not, the line ends within the buffer.
-use native.Mathlib.Omega.{arith}
+use Rattle.basics.proofs.Basics.{arith, needs}
 use Rattle.line_text.proofs.Within.{appended-within}
-use borrow.Author.Needs.{needs}
 use Rattle.ask.proofs.every.asked.Statement.{statement}
 use Rattle.ask.proofs.every.asked.Tie as tie
 

@@ -1,8 +1,5 @@
 -- What waits stands within the buffer.
-use mathlib.Core.Path.{sym}
-use native.Mathlib.Omega.{arith}
-use lib.Seq.{length-take-le}
-use borrow.Author.Needs.{needs}
+use Rattle.basics.proofs.Basics.{sym, arith, length-take-le, needs}
 use Rattle.ask.proofs.every.flushed.Statement.{statement}
 use Rattle.ask.proofs.every.flushed.Tie as tie
 

@@ -1,8 +1,5 @@
 -- What waits stands within the buffer, whose length stays; the days go up.
-use Prim.Native.Nat.{_-_, _≤_}
-use mathlib.Core.Path.{_≡_}
-use lib.ListN.{length}
-use borrow.Author.Needs.{needs}
+use Rattle.basics.proofs.Basics.{_≡_, _≤_, _-_, length, needs}
 use Rattle.ask.proofs.every.of_days.Statement.{statement}
 use Rattle.ask.proofs.every.of_days.Tie as tie
 

@@ -1,7 +1,6 @@
 -- Put or not, the text ends within the buffer.
-use native.Mathlib.Omega.{arith}
+use Rattle.basics.proofs.Basics.{arith, needs}
 use Rattle.line_text.proofs.Within.{appended-within}
-use borrow.Author.Needs.{needs}
 use Rattle.ask.proofs.every.put_field.Statement.{statement}
 use Rattle.ask.proofs.every.put_field.Tie as tie
 

@@ -1,6 +1,5 @@
 -- `compare::easter_sundays` is safe and ends. The measure is the number of lines left.
-use Prim.Native.Nat.{_≤_, _-_}
-use borrow.Author.Needs.{needs}
+use Rattle.basics.proofs.Basics.{_≤_, _-_, needs}
 use Rattle.calendar_data.proofs.compare.easter_sundays.Statement.{statement}
 use Rattle.calendar_data.proofs.compare.easter_sundays.Tie as tie
 

@@ -1,6 +1,5 @@
 -- `compare::holidays_of_the_code` is safe and ends. The measure is the number of days left.
-use Prim.Native.Nat.{_≤_, _-_}
-use borrow.Author.Needs.{needs}
+use Rattle.basics.proofs.Basics.{_≤_, _-_, needs}
 use Rattle.calendar_data.proofs.compare.holidays_of_the_code.Statement.{statement}
 use Rattle.calendar_data.proofs.compare.holidays_of_the_code.Tie as tie
 

@@ -1,6 +1,5 @@
 -- `compare::holidays_of_the_file` is safe and ends. The measure is the number of lines left.
-use Prim.Native.Nat.{_≤_, _-_}
-use borrow.Author.Needs.{needs}
+use Rattle.basics.proofs.Basics.{_≤_, _-_, needs}
 use Rattle.calendar_data.proofs.compare.holidays_of_the_file.Statement.{statement}
 use Rattle.calendar_data.proofs.compare.holidays_of_the_file.Tie as tie
 

@@ -1,6 +1,5 @@
 -- `text::number_of_line` is safe and ends. The measure is the number of digits left.
-use Prim.Native.Nat.{_≤_, _-_}
-use borrow.Author.Needs.{needs}
+use Rattle.basics.proofs.Basics.{_≤_, _-_, needs}
 use Rattle.calendar_data.proofs.text.number_of_line.Statement.{statement}
 use Rattle.calendar_data.proofs.text.number_of_line.Tie as tie
 

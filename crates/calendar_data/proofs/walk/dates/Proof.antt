@@ -1,6 +1,5 @@
 -- `walk::dates` is safe and ends. The measure is the number of dates left.
-use Prim.Native.Nat.{_≤_, _-_}
-use borrow.Author.Needs.{needs}
+use Rattle.basics.proofs.Basics.{_≤_, _-_, needs}
 use Rattle.calendar_data.proofs.walk.dates.Statement.{statement}
 use Rattle.calendar_data.proofs.walk.dates.Tie as tie
 

@@ -1,9 +1,7 @@
 -- `month::length` meets its contract: the code's table is the definition's.
-use mathlib.Core.Path.{_≡_}
-use native.Mathlib.Omega.{arith}
+use Rattle.basics.proofs.Basics.{_≡_, arith, needs}
 use Rattle.dates.specs.Dates.{monthLength}
 use Rattle.dates.proofs.Months.{length-bounds}
-use borrow.Author.Needs.{needs}
 use Rattle.dates.proofs.month.length.Statement.{statement}
 use Rattle.dates.proofs.month.length.Tie as tie
 

@@ -1,9 +1,7 @@
 -- `month::of_day` meets its contract: the day lies between the first days of two months.
-use native.Mathlib.Omega.{arith}
-use native.Mathlib.Numerals.{add-one}
+use Rattle.basics.proofs.Basics.{add-one, arith, needs}
 use Rattle.dates.specs.Numbers.{monthStart}
 use Rattle.dates.proofs.Months.{month-kept, month-after, year-length}
-use borrow.Author.Needs.{needs}
 use Rattle.dates.proofs.month.of_day.Statement.{statement}
 use Rattle.dates.proofs.month.of_day.Tie as tie
 

@@ -1,8 +1,6 @@
 -- `month::start` meets its contract: the code's table is that of the sums of the lengths.
-use mathlib.Core.Path.{_≡_}
-use native.Mathlib.Omega.{arith}
+use Rattle.basics.proofs.Basics.{_≡_, arith, needs}
 use Rattle.dates.proofs.Months.{startAt, start-is}
-use borrow.Author.Needs.{needs}
 use Rattle.dates.proofs.month.start.Statement.{statement}
 use Rattle.dates.proofs.month.start.Tie as tie
 

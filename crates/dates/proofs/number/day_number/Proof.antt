@@ -1,9 +1,6 @@
 -- `number::day_number` meets its contract: the sum of the parts is the definition's.
-use mathlib.Core.Path.{_≡_}
-use Prim.Native.Nat.{_+_, _-_}
-use native.Mathlib.Omega.{arith}
+use Rattle.basics.proofs.Basics.{_≡_, _-_, _+_, arith, needs}
 use Rattle.dates.specs.Numbers.{dayNumber}
-use borrow.Author.Needs.{needs}
 use Rattle.dates.proofs.number.day_number.Statement.{statement}
 use Rattle.dates.proofs.number.day_number.Tie as tie
 

@@ -1,7 +1,6 @@
 -- `number::on_or_last` meets its contract: the smaller day of the month is the definition's.
-use native.Mathlib.Omega.{arith}
+use Rattle.basics.proofs.Basics.{arith, needs}
 use Rattle.dates.proofs.ThreeMonths.{kept-or-last}
-use borrow.Author.Needs.{needs}
 use Rattle.dates.proofs.number.on_or_last.Statement.{statement}
 use Rattle.dates.proofs.number.on_or_last.Tie as tie
 

@@ -1,11 +1,7 @@
 -- `year::of_day` meets its contract: the day lies between the first days of two years.
-use mathlib.Core.Path.{ap}
-use Prim.Native.Nat.{suc, _+_, _/_, _<_}
-use native.Mathlib.Omega.{arith}
-use native.Mathlib.Numerals.{add-one}
+use Rattle.basics.proofs.Basics.{ap, _+_, _<_, suc, _/_, add-one, arith, needs}
 use Rattle.dates.specs.Numbers.{yearStart}
 use Rattle.dates.proofs.Years.{year-is}
-use borrow.Author.Needs.{needs}
 use Rattle.dates.proofs.year.of_day.Statement.{statement}
 use Rattle.dates.proofs.year.of_day.Tie as tie
 

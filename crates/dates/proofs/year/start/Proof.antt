@@ -1,7 +1,6 @@
 -- `year::start` meets its contract: its formula is the sum of the years before.
-use native.Mathlib.Omega.{arith}
+use Rattle.basics.proofs.Basics.{arith, needs}
 use Rattle.dates.proofs.Years.{year-is}
-use borrow.Author.Needs.{needs}
 use Rattle.dates.proofs.year.start.Statement.{statement}
 use Rattle.dates.proofs.year.start.Tie as tie
 

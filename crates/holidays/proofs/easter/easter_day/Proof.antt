@@ -1,8 +1,6 @@
 -- `easter_day` meets its contract: the day of 22 March, where there is one, and the table's entry of days on.
-use mathlib.Core.Path.{_∙_, sym}
-use native.Mathlib.Omega.{arith}
+use Rattle.basics.proofs.Basics.{sym, _∙_, arith, needs}
 use Rattle.holidays.proofs.EasterTable.{easter-none, easter-years, march-22-in, easter-found}
-use borrow.Author.Needs.{needs}
 use Rattle.holidays.proofs.easter.easter_day.Statement.{statement}
 use Rattle.holidays.proofs.easter.easter_day.Tie as tie
 

@@ -1,5 +1,5 @@
 -- `easter::offset` meets its contract: each entry of the table follows the computus.
-use borrow.Author.Needs.{needs}
+use Rattle.basics.proofs.Basics.{needs}
 use Rattle.holidays.proofs.EasterTable.{table-follows}
 use Rattle.holidays.proofs.easter.offset.Statement.{statement}
 use Rattle.holidays.proofs.easter.offset.Tie as tie

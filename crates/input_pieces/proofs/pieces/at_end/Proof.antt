@@ -1,5 +1,5 @@
 -- What is left is kept.
-use borrow.Author.Needs.{needs}
+use Rattle.basics.proofs.Basics.{needs}
 use Rattle.input_pieces.proofs.pieces.at_end.Statement.{statement}
 use Rattle.input_pieces.proofs.pieces.at_end.Tie as tie
 

@@ -1,4 +1,4 @@
-use borrow.Author.Needs.{needs}
+use Rattle.basics.proofs.Basics.{needs}
 use Rattle.input_pieces.proofs.pieces.line_message.Statement.{statement}
 use Rattle.input_pieces.proofs.pieces.line_message.Tie as tie
 use Rattle.input_pieces.proofs.Capped.{read-whole, read-joined}

@@ -1,5 +1,5 @@
 -- The points of the tables, and the rest as it is.
-use borrow.Author.Needs.{needs}
+use Rattle.basics.proofs.Basics.{needs}
 use Rattle.input_pieces.proofs.pieces.register_of.Statement.{statement}
 use Rattle.input_pieces.proofs.pieces.register_of.Tie as tie
 

@@ -1,6 +1,6 @@
 -- The answer, message by message.
 use Rattle.input_point.specs.Between.Answers.{saidBy}
-use borrow.Author.Needs.{needs}
+use Rattle.basics.proofs.Basics.{needs}
 use Rattle.input_point.proofs.answers.answer_of.Statement.{statement}
 use Rattle.input_point.proofs.answers.answer_of.Tie as tie
 

@@ -1,16 +1,11 @@
 -- The points are looked at in turn: what is left to look at decides.
-use mathlib.Core.Path.{_≡_, refl, sym, _∙_, ap}
-use mathlib.Core.Bool.{Bool, true, _&&_}
-use mathlib.Core.List.{List}
-use Prim.Native.Nat.{ℕ, _≤_, _-_, _+_}
-use native.Mathlib.Omega.{arith}
+use Rattle.basics.proofs.Basics.{_≡_, refl, sym, _∙_, ap, true, Bool, _&&_, List, _≤_, ℕ, _-_, _+_, arith, needs}
 use Rattle.rules.specs.declared.{Fields.Fields, Period.Period, Settings.Settings}
 use Rattle.rules.specs.Effects.{failed}
 use Rattle.rules.specs.Rejections.{anyPoint, shown, touches, isFull}
 use Rattle.register.proofs.Search.{any-found, any-passed, any-none}
 use Rattle.input_point.specs.Between.Answers.{shows, failureAnswer}
 use Rattle.input_point.proofs.Settled.{shown-next}
-use borrow.Author.Needs.{needs}
 use Rattle.input_point.proofs.answers.failure_answer.Statement.{statement}
 use Rattle.input_point.proofs.answers.failure_answer.Tie as tie
 

@@ -1,7 +1,6 @@
 -- The rows before number 30.
-use mathlib.Core.Path.{sym, _∙_}
+use Rattle.basics.proofs.Basics.{sym, _∙_, needs}
 use Rattle.input_point.specs.Between.Answers.{failureSaid}
-use borrow.Author.Needs.{needs}
 use Rattle.input_point.proofs.answers.failure_said.Statement.{statement}
 use Rattle.input_point.proofs.answers.failure_said.Tie as tie
 

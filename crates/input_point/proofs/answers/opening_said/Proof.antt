@@ -1,5 +1,5 @@
 -- A later opening is none.
-use borrow.Author.Needs.{needs}
+use Rattle.basics.proofs.Basics.{needs}
 use Rattle.input_point.proofs.answers.opening_said.Statement.{statement}
 use Rattle.input_point.proofs.answers.opening_said.Tie as tie
 

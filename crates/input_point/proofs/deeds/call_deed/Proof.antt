@@ -1,7 +1,6 @@
 -- The deed, call by call.
-use borrow.Author.Tests.{lt-ltb, le-ltb}
+use Rattle.basics.proofs.Basics.{lt-ltb, le-ltb, needs}
 use Rattle.input_point.specs.Between.Deeds.{callDeed}
-use borrow.Author.Needs.{needs}
 use Rattle.input_point.proofs.deeds.call_deed.Statement.{statement}
 use Rattle.input_point.proofs.deeds.call_deed.Tie as tie
 

@@ -1,7 +1,6 @@
 -- The deed, message by message.
-use borrow.Author.Tests.{lt-ltb, le-ltb}
+use Rattle.basics.proofs.Basics.{lt-ltb, le-ltb, needs}
 use Rattle.input_point.specs.Between.Deeds.{deedOf}
-use borrow.Author.Needs.{needs}
 use Rattle.input_point.proofs.deeds.deed_of.Statement.{statement}
 use Rattle.input_point.proofs.deeds.deed_of.Tie as tie
 

@@ -1,6 +1,6 @@
 -- The deed, effect by effect.
 use Rattle.input_point.specs.Between.Deeds.{effectDeed}
-use borrow.Author.Needs.{needs}
+use Rattle.basics.proofs.Basics.{needs}
 use Rattle.input_point.proofs.deeds.effect_deed.Statement.{statement}
 use Rattle.input_point.proofs.deeds.effect_deed.Tie as tie
 

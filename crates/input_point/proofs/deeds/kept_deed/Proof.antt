@@ -1,5 +1,5 @@
 -- The newest slot is stored as it is.
-use borrow.Author.Needs.{needs}
+use Rattle.basics.proofs.Basics.{needs}
 use Rattle.input_point.proofs.deeds.kept_deed.Statement.{statement}
 use Rattle.input_point.proofs.deeds.kept_deed.Tie as tie
 

@@ -1,7 +1,5 @@
 -- The days lie in the newest period: none do where there is none.
-use native.Mathlib.Omega.{arith}
-use Prim.Native.Nat.{min}
-use borrow.Author.Tests.{lt-ltb, le-ltb}
+use Rattle.basics.proofs.Basics.{min, arith, lt-ltb, le-ltb}
 use Rattle.input_point.proofs.deeds.lies_in.Statement.{statement}
 use Rattle.input_point.proofs.deeds.lies_in.Tie as tie
 

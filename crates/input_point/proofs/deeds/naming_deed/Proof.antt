@@ -1,10 +1,6 @@
 -- The newest period gets the holder, or a new one, or none where all slots are taken.
-use Prim.Native.Nat.{min}
-use mathlib.Core.Path.{_≡_, sym, _∙_}
-use native.Mathlib.Omega.{arith}
-use borrow.Author.Tests.{lt-ltb, le-ltb}
+use Rattle.basics.proofs.Basics.{_≡_, sym, _∙_, min, arith, lt-ltb, le-ltb, needs}
 use Rattle.input_point.specs.Between.Deeds.{namingDeed}
-use borrow.Author.Needs.{needs}
 use Rattle.input_point.proofs.deeds.naming_deed.Statement.{statement}
 use Rattle.input_point.proofs.deeds.naming_deed.Tie as tie
 

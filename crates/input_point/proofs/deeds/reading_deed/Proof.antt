@@ -1,7 +1,6 @@
 -- The newest period is booked, or the reading reaches back.
-use mathlib.Core.Path.{sym, _∙_}
+use Rattle.basics.proofs.Basics.{sym, _∙_, needs}
 use Rattle.input_point.specs.Between.Deeds.{readingDeed}
-use borrow.Author.Needs.{needs}
 use Rattle.input_point.proofs.deeds.reading_deed.Statement.{statement}
 use Rattle.input_point.proofs.deeds.reading_deed.Tie as tie
 

@@ -1,6 +1,6 @@
 -- The deed of a ruling.
 use Rattle.input_point.specs.Between.Deeds.{ruledDeed}
-use borrow.Author.Needs.{needs}
+use Rattle.basics.proofs.Basics.{needs}
 use Rattle.input_point.proofs.deeds.ruled_deed.Statement.{statement}
 use Rattle.input_point.proofs.deeds.ruled_deed.Tie as tie
 

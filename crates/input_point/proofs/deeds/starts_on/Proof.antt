@@ -1,7 +1,5 @@
 -- The newest period starts on the day: none does where there is none.
-use native.Mathlib.Omega.{arith}
-use Prim.Native.Nat.{min}
-use borrow.Author.Tests.{lt-ltb, le-ltb}
+use Rattle.basics.proofs.Basics.{min, arith, lt-ltb, le-ltb}
 use Rattle.input_point.proofs.deeds.starts_on.Statement.{statement}
 use Rattle.input_point.proofs.deeds.starts_on.Tie as tie
 

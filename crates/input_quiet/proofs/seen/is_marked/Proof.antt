@@ -1,7 +1,5 @@
 -- The newest period starts on the day: none does where there is none.
-use native.Mathlib.Omega.{arith}
-use borrow.Author.Tests.{lt-ltb, le-ltb}
-use borrow.Author.Needs.{needs}
+use Rattle.basics.proofs.Basics.{arith, lt-ltb, le-ltb, needs}
 use Rattle.input_quiet.proofs.seen.is_marked.Statement.{statement}
 use Rattle.input_quiet.proofs.seen.is_marked.Tie as tie
 

@@ -1,8 +1,6 @@
 -- A holder named: the newest period's, a new one's, or none where all slots are taken.
-use borrow.Author.Tests.{lt-ltb, le-ltb}
+use Rattle.basics.proofs.Basics.{sym, _∙_, lt-ltb, le-ltb, needs}
 use Rattle.input_quiet.specs.Between.Quiet.{namedSeen}
-use mathlib.Core.Path.{sym, _∙_}
-use borrow.Author.Needs.{needs}
 use Rattle.input_quiet.proofs.seen.named_seen.Statement.{statement}
 use Rattle.input_quiet.proofs.seen.named_seen.Tie as tie
 

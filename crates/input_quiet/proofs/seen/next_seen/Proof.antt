@@ -1,6 +1,6 @@
 -- The event that falls due first.
 use Rattle.input_quiet.specs.Between.Quiet.{nextSeen}
-use borrow.Author.Needs.{needs}
+use Rattle.basics.proofs.Basics.{needs}
 use Rattle.input_quiet.proofs.seen.next_seen.Statement.{statement}
 use Rattle.input_quiet.proofs.seen.next_seen.Tie as tie
 

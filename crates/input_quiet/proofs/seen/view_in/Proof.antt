@@ -1,5 +1,5 @@
 -- What is seen, with today's mark.
-use borrow.Author.Needs.{needs}
+use Rattle.basics.proofs.Basics.{needs}
 use Rattle.input_quiet.proofs.seen.view_in.Statement.{statement}
 use Rattle.input_quiet.proofs.seen.view_in.Tie as tie
 

@@ -1,12 +1,7 @@
 -- `line_text::write::digit_count` meets its contract: the digits counted and those left are the digits in all.
-use Prim.Native.Nat.{_<_, _+_, _^_}
-use mathlib.Core.Path.{_≡_}
-use mathlib.Core.List.{[]}
-use native.Mathlib.Omega.{arith}
-use lib.ListN.{length}
+use Rattle.basics.proofs.Basics.{_≡_, [], _+_, _<_, _^_, arith, length, needs}
 use Rattle.line_text.specs.Decimal.{decimal}
 use Rattle.line_text.proofs.Spelling.{count-one, count-step, count-some, decimal-length}
-use borrow.Author.Needs.{needs}
 use Rattle.line_text.proofs.write.digit_count.Statement.{statement}
 use Rattle.line_text.proofs.write.digit_count.Tie as tie
 

@@ -1,9 +1,6 @@
 -- `line_text::write::put_byte` meets its contract: one store, or none.
-use mathlib.Core.Path.{refl}
-use mathlib.Core.List.{[], _∷_}
-use native.Mathlib.Omega.{arith}
+use Rattle.basics.proofs.Basics.{refl, [], _∷_, arith, needs}
 use Rattle.line_text.proofs.Appends.{put-sets, appended, not-appended}
-use borrow.Author.Needs.{needs}
 use Rattle.line_text.proofs.write.put_byte.Statement.{statement}
 use Rattle.line_text.proofs.write.put_byte.Tie as tie
 

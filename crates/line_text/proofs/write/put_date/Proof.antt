@@ -1,12 +1,9 @@
 -- `line_text::write::put_date` meets its contract: eight stores, or none.
-use mathlib.Core.List.{[]}
-use native.Mathlib.Omega.{arith}
-use lib.ListN.{length-set}
+use Rattle.basics.proofs.Basics.{[], arith, length-set, needs}
 use Rattle.line_text.specs.Days.{dateText}
 use Rattle.line_text.proofs.DayTexts.{date-length}
 use Rattle.line_text.proofs.DigitSteps.{date-put}
 use Rattle.line_text.proofs.Appends.{appended, not-appended}
-use borrow.Author.Needs.{needs}
 use Rattle.line_text.proofs.write.put_date.Statement.{statement}
 use Rattle.line_text.proofs.write.put_date.Tie as tie
 

@@ -1,7 +1,6 @@
 -- `line_text::write::put_day` meets its contract: the calendar's answer, written.
-use mathlib.Core.Path.{sym, _∙_}
+use Rattle.basics.proofs.Basics.{sym, _∙_, needs}
 use Rattle.line_text.specs.Decimal.{fixed}
-use borrow.Author.Needs.{needs}
 use Rattle.line_text.proofs.write.put_day.Statement.{statement}
 use Rattle.line_text.proofs.write.put_day.Tie as tie
 

@@ -1,8 +1,7 @@
 -- The rows of a contract, in order.
-use mathlib.Core.Path.{refl}
+use Rattle.basics.proofs.Basics.{refl, needs}
 use Rattle.rules.specs.Rejections.{rows, accepted, answerTo}
 use Rattle.point_answers.proofs.Folded.{through, allRefuse, folded}
-use borrow.Author.Needs.{needs}
 use Rattle.point_answers.proofs.calls.contract_answer.Statement.{statement}
 use Rattle.point_answers.proofs.calls.contract_answer.Tie as tie
 

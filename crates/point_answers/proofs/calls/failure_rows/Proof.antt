@@ -1,9 +1,8 @@
 -- The rows of a failure, in order, but for the last.
-use mathlib.Core.Path.{refl}
+use Rattle.basics.proofs.Basics.{refl, needs}
 use Rattle.rules.specs.Rejections.{rows}
 use Rattle.point_answers.specs.Between.{failureRows}
 use Rattle.point_answers.proofs.Folded.{through, allRefuse, folded}
-use borrow.Author.Needs.{needs}
 use Rattle.point_answers.proofs.calls.failure_rows.Statement.{statement}
 use Rattle.point_answers.proofs.calls.failure_rows.Tie as tie
 

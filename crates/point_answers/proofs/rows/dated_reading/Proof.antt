@@ -1,6 +1,6 @@
 -- The rows of a reading behind 22, 20 and 21, in order: what they look at is in the fields.
 use Rattle.rules.specs.Rejections.{firstOf, rowsAt}
-use borrow.Author.Needs.{needs}
+use Rattle.basics.proofs.Basics.{needs}
 use Rattle.point_answers.proofs.rows.dated_reading.Statement.{statement}
 use Rattle.point_answers.proofs.rows.dated_reading.Tie as tie
 

@@ -1,8 +1,5 @@
 -- The rows of default supply, in order.
-use mathlib.Core.Path.{refl, _≡_}
-use Prim.Native.Nat.{_+_}
-use native.Mathlib.Omega.{arith}
-use borrow.Author.Needs.{needs}
+use Rattle.basics.proofs.Basics.{_≡_, refl, _+_, arith, needs}
 use Rattle.rules.specs.Effects.{effectOf}
 use Rattle.rules.specs.Rejections.{rowsAt}
 use Rattle.point_answers.specs.Between.{answerAt}

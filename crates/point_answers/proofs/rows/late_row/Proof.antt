@@ -1,6 +1,6 @@
 -- Number 26, counted where the answer is still open.
 use Rattle.point_answers.specs.Between.{after}
-use borrow.Author.Needs.{needs}
+use Rattle.basics.proofs.Basics.{needs}
 use Rattle.point_answers.proofs.rows.late_row.Statement.{statement}
 use Rattle.point_answers.proofs.rows.late_row.Tie as tie
 

@@ -1,6 +1,6 @@
 -- Number 8, kind by kind.
 use Rattle.point_answers.proofs.Folded.{passed-by}
-use borrow.Author.Needs.{needs}
+use Rattle.basics.proofs.Basics.{needs}
 use Rattle.point_answers.proofs.rows.near_row.Statement.{statement}
 use Rattle.point_answers.proofs.rows.near_row.Tie as tie
 

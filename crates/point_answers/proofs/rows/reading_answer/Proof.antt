@@ -1,20 +1,20 @@
 -- The rows of a reading, in order: 22, 20 and 21, then the others.
-use borrow.Author.Tests.{lt-ltb, le-ltb}
+use Rattle.basics.proofs.Basics.{_≡_, sym, _∙_, true, lt-ltb, le-ltb, needs}
 use Rattle.rules.specs.Effects.{effectOf}
-use Rattle.rules.specs.Rejections.{firstOf, rowsAt}
+use Rattle.rules.specs.Rejections.{notMark, isPast, firstOf, rowsAt}
 use Rattle.point_answers.specs.Between.{answerAt}
-use borrow.Author.Needs.{needs}
 use Rattle.point_answers.proofs.rows.reading_answer.Statement.{statement}
 use Rattle.point_answers.proofs.rows.reading_answer.Tie as tie
 
 returns : tie.Need-returns
 unfolding answerAt rowsAt firstOf
-returns c = λ S u v e. rw (← (c .before .outside .ensures), c .if1 .taken)
+returns c = λ S u v e. let h : notMark (c .before .before .args .z) ≡ true = sym (c .before .outside .ensures) ∙ c .if1 .taken in rw h
 
 returns-2 : tie.Need-returns-2
 unfolding answerAt rowsAt firstOf
 returns-2 c = λ S u v e. let p = c .before .before .before in let z = p .before in
-    rw (← (z .before .outside .ensures), z .if1 .left, ← (p .is-past .ensures), ← (c .before .before .is-past2 .ensures))
+    let h : c .before .before .is-past2 .result ≡ isPast (z .before .before .args .d) = c .before .before .is-past2 .ensures in
+    rw (← (z .before .outside .ensures), z .if1 .left, ← (p .is-past .ensures), ← h)
     (rw (← (c .before .or .ensures), c .if2 .taken))
 
 returns-3 : tie.Need-returns-3

@@ -1,5 +1,5 @@
 -- The first refusal stays.
-use borrow.Author.Needs.{needs}
+use Rattle.basics.proofs.Basics.{needs}
 use Rattle.point_answers.specs.Between.{after}
 use Rattle.point_answers.proofs.Folded.{passed-by}
 use Rattle.point_answers.proofs.rows.refuse.Statement.{statement}

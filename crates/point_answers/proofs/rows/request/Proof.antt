@@ -1,12 +1,9 @@
 -- The rows of a request, in order; row 3 sees to it that the day that the answer carries is e.
-use mathlib.Core.Path.{refl, _∙_}
-use mathlib.Core.Bool.{true}
-use mathlib.Core.List.{[], _∷_}
+use Rattle.basics.proofs.Basics.{refl, _∙_, true, [], _∷_, needs}
 use Rattle.rules.specs.Effects.{effectOf}
 use Rattle.rules.specs.Rejections.{_⇒_, badDay, rowsAt}
 use Rattle.point_answers.specs.Between.{answerAt}
 use Rattle.point_answers.proofs.Folded.{through, allRefuse, near-refuses, folded, carried, awaited}
-use borrow.Author.Needs.{needs}
 use Rattle.point_answers.proofs.rows.request.Statement.{statement}
 use Rattle.point_answers.proofs.rows.request.Tie as tie
 

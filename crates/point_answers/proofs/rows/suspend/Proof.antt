@@ -1,6 +1,5 @@
 -- The rows of a suspension, in order.
-use mathlib.Core.Path.{refl}
-use borrow.Author.Needs.{needs}
+use Rattle.basics.proofs.Basics.{refl, needs}
 use Rattle.rules.specs.Effects.{effectOf}
 use Rattle.rules.specs.Rejections.{rowsAt}
 use Rattle.point_answers.specs.Between.{answerAt}

@@ -1,7 +1,6 @@
 -- Number 3: the definition's three tests, one after the other.
-use borrow.Author.Tests.{lt-ltb, le-ltb}
+use Rattle.basics.proofs.Basics.{lt-ltb, le-ltb, needs}
 use Rattle.point_checks.proofs.Tests.{past-capped}
-use borrow.Author.Needs.{needs}
 use Rattle.point_checks.proofs.days.bad_day.Statement.{statement}
 use Rattle.point_checks.proofs.days.bad_day.Tie as tie
 

@@ -1,7 +1,6 @@
 -- e, the larger of the two days, as long as it lies in the calendar.
-use native.Mathlib.Omega.{arith}
+use Rattle.basics.proofs.Basics.{arith, needs}
 use Rattle.rules.specs.Effects.{effectiveDay}
-use borrow.Author.Needs.{needs}
 use Rattle.point_checks.proofs.days.effective_day.Statement.{statement}
 use Rattle.point_checks.proofs.days.effective_day.Tie as tie
 

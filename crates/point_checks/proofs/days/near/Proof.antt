@@ -1,9 +1,6 @@
 -- Number 8: the deadline is at most the notice away.
-use Prim.Native.Nat.{_+_}
-use native.Mathlib.Omega.{arith}
-use borrow.Author.Tests.{le-leb}
+use Rattle.basics.proofs.Basics.{_+_, arith, le-leb, needs}
 use Rattle.point_checks.proofs.Tests.{near-less}
-use borrow.Author.Needs.{needs}
 use Rattle.point_checks.proofs.days.near.Statement.{statement}
 use Rattle.point_checks.proofs.days.near.Tie as tie
 

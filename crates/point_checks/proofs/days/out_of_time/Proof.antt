@@ -1,5 +1,5 @@
 -- Number 27: the definition's two tests.
-use borrow.Author.Tests.{le-leb, lt-leb}
+use Rattle.basics.proofs.Basics.{le-leb, lt-leb}
 use Rattle.point_checks.proofs.days.out_of_time.Statement.{statement}
 use Rattle.point_checks.proofs.days.out_of_time.Tie as tie
 

@@ -1,7 +1,6 @@
 -- A sum past the calendar's end, without adding.
-use borrow.Author.Tests.{lt-ltb, le-ltb}
+use Rattle.basics.proofs.Basics.{lt-ltb, le-ltb, needs}
 use Rattle.point_checks.proofs.Tests.{past-sum}
-use borrow.Author.Needs.{needs}
 use Rattle.point_checks.proofs.days.sum_past.Statement.{statement}
 use Rattle.point_checks.proofs.days.sum_past.Tie as tie
 

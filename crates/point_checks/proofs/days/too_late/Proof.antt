@@ -1,7 +1,6 @@
 -- Number 26: the working days between today and e, counted; none where e is not ahead.
-use mathlib.Core.Path.{refl}
+use Rattle.basics.proofs.Basics.{refl, needs}
 use Rattle.holidays.proofs.Counting.{between-counted, between-none}
-use borrow.Author.Needs.{needs}
 use Rattle.point_checks.proofs.days.too_late.Statement.{statement}
 use Rattle.point_checks.proofs.days.too_late.Tie as tie
 

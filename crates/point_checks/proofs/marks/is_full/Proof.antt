@@ -1,6 +1,5 @@
 -- Number 30: a holder named marks a cell more, unless today's has one.
-use native.Mathlib.Nat.{add-zero}
-use borrow.Author.Needs.{needs}
+use Rattle.basics.proofs.Basics.{add-zero, needs}
 use Rattle.point_checks.proofs.Tests.{kept-room, named-room}
 use Rattle.point_checks.proofs.marks.is_full.Statement.{statement}
 use Rattle.point_checks.proofs.marks.is_full.Tie as tie

@@ -1,7 +1,5 @@
 -- `kind_due` meets its contract, kind by kind.
-use mathlib.Core.Path.{refl}
-use native.Mathlib.Omega.{arith}
-use borrow.Author.Needs.{needs}
+use Rattle.basics.proofs.Basics.{refl, arith, needs}
 use Rattle.point_checks.proofs.marks.kind_due.Statement.{statement}
 use Rattle.point_checks.proofs.marks.kind_due.Tie as tie
 

@@ -1,7 +1,5 @@
 -- What the checks see: no cell is marked where no slot is in use.
-use native.Mathlib.Omega.{arith}
-use borrow.Author.Needs.{needs}
-use borrow.Author.Tests.{lt-ltb}
+use Rattle.basics.proofs.Basics.{arith, lt-ltb, needs}
 use Rattle.rules.specs.Pinned.Register.{startsOn}
 use Rattle.point_checks.proofs.marks.view_of.Statement.{statement}
 use Rattle.point_checks.proofs.marks.view_of.Tie as tie

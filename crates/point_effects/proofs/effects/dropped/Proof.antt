@@ -1,6 +1,5 @@
 -- The request that is left.
-use borrow.Author.Tests.{eq-eqb, ne-eqb}
-use borrow.Author.Needs.{needs}
+use Rattle.basics.proofs.Basics.{ne-eqb, eq-eqb, needs}
 use Rattle.point_effects.proofs.effects.dropped.Statement.{statement}
 use Rattle.point_effects.proofs.effects.dropped.Tie as tie
 

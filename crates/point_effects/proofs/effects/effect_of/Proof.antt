@@ -1,9 +1,8 @@
 -- What an accepted call does, call by call.
-use native.Mathlib.Omega.{arith}
+use Rattle.basics.proofs.Basics.{arith, needs}
 use Rattle.rules.specs.Effects.{effectOf}
 use Rattle.point_effects.proofs.Accepted.{today-fits, enrol-fits, service-fits, default-fits, request-fits}
 use Rattle.point_effects.proofs.Accepted.{reading-fits, change-fits, suspend-fits}
-use borrow.Author.Needs.{needs}
 use Rattle.point_effects.proofs.effects.effect_of.Statement.{statement}
 use Rattle.point_effects.proofs.effects.effect_of.Tie as tie
 

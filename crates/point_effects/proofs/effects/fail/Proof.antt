@@ -1,8 +1,7 @@
 -- A failure at one point: last resort where the supplier holds it, and its request dropped.
-use borrow.Author.Tests.{eq-eqb, ne-eqb, le-leb, lt-leb}
+use Rattle.basics.proofs.Basics.{le-leb, lt-leb, ne-eqb, eq-eqb, needs}
 use Rattle.rules.specs.Effects.{failed}
 use Rattle.point_effects.specs.Between.{failedBy}
-use borrow.Author.Needs.{needs}
 use Rattle.point_effects.proofs.effects.fail.Statement.{statement}
 use Rattle.point_effects.proofs.effects.fail.Tie as tie
 

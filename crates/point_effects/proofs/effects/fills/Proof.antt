@@ -1,7 +1,6 @@
 -- Number 30 of a failure at one point: where the supplier holds it, where it has a request there, and elsewhere.
-use borrow.Author.Tests.{eq-eqb, ne-eqb}
+use Rattle.basics.proofs.Basics.{ne-eqb, eq-eqb, needs}
 use Rattle.rules.specs.Effects.{failed}
-use borrow.Author.Needs.{needs}
 use Rattle.point_effects.proofs.effects.fills.Statement.{statement}
 use Rattle.point_effects.proofs.effects.fills.Tie as tie
 

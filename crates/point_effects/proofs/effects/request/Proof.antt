@@ -1,8 +1,6 @@
 -- A request waits for e.
-use mathlib.Core.Path.{_≡_, _∙_}
-use native.Mathlib.Omega.{arith}
+use Rattle.basics.proofs.Basics.{_≡_, _∙_, arith, needs}
 use Rattle.rules.specs.Effects.{effectiveDay}
-use borrow.Author.Needs.{needs}
 use Rattle.point_effects.proofs.effects.request.Statement.{statement}
 use Rattle.point_effects.proofs.effects.request.Tie as tie
 

@@ -1,6 +1,6 @@
 -- A supply kind ends before a day, kind by kind.
 use Rattle.rules.specs.Pinned.Register.{endsBefore}
-use borrow.Author.Needs.{needs}
+use Rattle.basics.proofs.Basics.{needs}
 use Rattle.point_effects.proofs.events.ends_before.Statement.{statement}
 use Rattle.point_effects.proofs.events.ends_before.Tie as tie
 

@@ -1,7 +1,6 @@
 -- What ends a supply kind by a day, kind by kind.
-use borrow.Author.Tests.{le-leb, lt-leb}
+use Rattle.basics.proofs.Basics.{le-leb, lt-leb, needs}
 use Rattle.rules.specs.Pinned.Register.{expiryBy}
-use borrow.Author.Needs.{needs}
 use Rattle.point_effects.proofs.events.expiry_by.Statement.{statement}
 use Rattle.point_effects.proofs.events.expiry_by.Tie as tie
 

@@ -1,11 +1,8 @@
 -- A fair reading is booked over the slots in use; another changes nothing.
-use mathlib.Core.Path.{sym, _∙_}
-use native.Mathlib.Omega.{arith}
-use borrow.Author.Tests.{not-true, not-false}
+use Rattle.basics.proofs.Basics.{sym, _∙_, arith, not-true, not-false, needs}
 use Rattle.rules.specs.Pinned.Register.{booked}
 use Rattle.point_volumes.specs.Between.{bookedIfFair}
 use Rattle.point_volumes.proofs.Fairness.{fair}
-use borrow.Author.Needs.{needs}
 use Rattle.point_volumes.proofs.booking.book.Statement.{statement}
 use Rattle.point_volumes.proofs.booking.book.Tie as tie
 

@@ -1,9 +1,7 @@
 -- All of a fair reading goes to the newest period; another changes nothing.
-use mathlib.Core.Path.{sym, _∙_}
-use borrow.Author.Tests.{not-true, not-false}
+use Rattle.basics.proofs.Basics.{sym, _∙_, not-true, not-false, needs}
 use Rattle.point_volumes.specs.Between.{bookedNewest}
 use Rattle.point_volumes.proofs.Fairness.{fair}
-use borrow.Author.Needs.{needs}
 use Rattle.point_volumes.proofs.booking.book_newest.Statement.{statement}
 use Rattle.point_volumes.proofs.booking.book_newest.Tie as tie
 

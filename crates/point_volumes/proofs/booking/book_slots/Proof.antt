@@ -1,11 +1,8 @@
 -- The loop over the slots: what is left to book from here is what was to be booked from the start.
-use mathlib.Core.Path.{_≡_, refl, sym, _∙_, ap}
-use Prim.Native.Nat.{ℕ, _≤_}
-use native.Mathlib.Omega.{arith}
+use Rattle.basics.proofs.Basics.{_≡_, refl, sym, _∙_, ap, _≤_, ℕ, arith, needs}
 use Rattle.rules.specs.Volumes.{given}
 use Rattle.rules.specs.Pinned.Register.{bookedSlots}
 use Rattle.point_volumes.proofs.Slots.{slots-last, slots-on, slots-none}
-use borrow.Author.Needs.{needs}
 use Rattle.point_volumes.proofs.booking.book_slots.Statement.{statement}
 use Rattle.point_volumes.proofs.booking.book_slots.Tie as tie
 
@@ -17,13 +14,15 @@ abbrev μ-loop : tie.MeasureT-loop
 
 returns : tie.Need-returns Inv-loop μ-loop
 returns c = let l = c .before .before .before .before .before in rw (c .before .before .booked-period .ensures)
-    (sym (slots-last (given (l .before .args .s)) (l .before .args .s .from) (l .loop .end) (l .loop .i) (l .loop .out) (omega arith) (c .if1 .taken)) ∙ l .loop .inv .1)
+    (sym (slots-last (given (l .before .args .s)) (l .before .args .s .from) (l .loop .end) (l .loop .i) (l .loop .out) (omega arith)
+    (c .if1 .taken)) ∙ l .loop .inv .1)
 
 loop-again : tie.Need-loop-again Inv-loop μ-loop
 loop-again c = let l = c .before .before .before .before .before in (
   search needs,
   rw (c .before .before .booked-period .ensures)
-      (sym (slots-on (given (l .before .args .s)) (l .before .args .s .from) (l .loop .end) (l .loop .i) (l .loop .out) (omega arith) (c .if1 .left)) ∙ l .loop .inv .1),
+      (sym (slots-on (given (l .before .args .s)) (l .before .args .s .from) (l .loop .end) (l .loop .i) (l .loop .out) (omega arith)
+      (c .if1 .left)) ∙ l .loop .inv .1),
 )
 
 returns-2 : tie.Need-returns-2 Inv-loop μ-loop

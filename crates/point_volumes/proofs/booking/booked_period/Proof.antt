@@ -1,6 +1,6 @@
 -- A period gets the difference of what was given, with a sum that wraps as the definition's does.
 use Rattle.rules.specs.Pinned.Register.{bookedPeriod}
-use borrow.Author.Needs.{needs}
+use Rattle.basics.proofs.Basics.{needs}
 use Rattle.point_volumes.proofs.booking.booked_period.Statement.{statement}
 use Rattle.point_volumes.proofs.booking.booked_period.Tie as tie
 

@@ -1,8 +1,6 @@
 -- What a reading has given before a day: nothing up to its first, all from its last on, else the floor.
-use mathlib.Core.Path.{sym}
-use native.Mathlib.Omega.{arith}
+use Rattle.basics.proofs.Basics.{sym, arith, needs}
 use Rattle.point_volumes.proofs.Given.{given-none, given-all, given-part, part-most, product-small}
-use borrow.Author.Needs.{needs}
 use Rattle.point_volumes.proofs.booking.given.Statement.{statement}
 use Rattle.point_volumes.proofs.booking.given.Tie as tie
 

@@ -1,7 +1,5 @@
 -- `is_fair` is the definition's test, one comparison after the other.
-use native.Mathlib.Nat.{mul-le-mul}
-use native.Mathlib.Omega.{arith}
-use borrow.Author.Tests.{lt-ltb, le-ltb, le-leb, lt-leb}
+use Rattle.basics.proofs.Basics.{mul-le-mul, arith, lt-ltb, le-leb, le-ltb, lt-leb}
 use Rattle.point_volumes.proofs.booking.is_fair.Statement.{statement}
 use Rattle.point_volumes.proofs.booking.is_fair.Tie as tie
 

@@ -1,6 +1,6 @@
 -- 10^w, with at most 8 and 3 wheels.
 use Rattle.rules.specs.Volumes.{fullTurn}
-use borrow.Author.Needs.{needs}
+use Rattle.basics.proofs.Basics.{needs}
 use Rattle.point_volumes.proofs.meter.full_turn.Statement.{statement}
 use Rattle.point_volumes.proofs.meter.full_turn.Tie as tie
 

@@ -1,9 +1,7 @@
 -- Each arm is its power of ten; the last is that of 11.
 use Rattle.point_volumes.proofs.meter.power.Statement.{statement}
 use Rattle.point_volumes.proofs.meter.power.Tie as tie
-use mathlib.Core.Path.{_≡_, sym, ap}
-use Prim.Native.Nat.{ℕ, _^_, _≤_}
-use native.Mathlib.Omega.{arith}
+use Rattle.basics.proofs.Basics.{_≡_, sym, ap, _≤_, ℕ, _^_, arith}
 
 returns-12 : tie.Need-returns-12
 returns-12 c = let r = c .match .rest in let low = r .0 .0 .0 .0 .0 in let lo : 6 ≤ c .before .args .n =

@@ -1,9 +1,6 @@
 -- 10^(3 - wheels after the comma).
-use mathlib.Core.Path.{_≡_, ap}
-use Prim.Native.Nat.{ℕ, _-_, _^_}
-use native.Mathlib.Omega.{arith}
+use Rattle.basics.proofs.Basics.{_≡_, ap, ℕ, _-_, _^_, arith, needs}
 use Rattle.rules.specs.Volumes.{unitOf}
-use borrow.Author.Needs.{needs}
 use Rattle.point_volumes.proofs.meter.unit_of.Statement.{statement}
 use Rattle.point_volumes.proofs.meter.unit_of.Tie as tie
 

@@ -1,8 +1,6 @@
 -- V, by cases of the zero mark.
-use mathlib.Core.Path.{_≡_}
-use native.Mathlib.Omega.{arith}
+use Rattle.basics.proofs.Basics.{_≡_, arith, needs}
 use Rattle.rules.specs.Volumes.{advanceOf}
-use borrow.Author.Needs.{needs}
 use Rattle.point_volumes.proofs.reading.advance.Statement.{statement}
 use Rattle.point_volumes.proofs.reading.advance.Tie as tie
 

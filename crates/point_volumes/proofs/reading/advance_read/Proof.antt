@@ -1,6 +1,5 @@
 -- V where the wheels have the index, else nothing.
-use borrow.Author.Tests.{lt-ltb, le-ltb, le-leb, lt-leb}
-use borrow.Author.Needs.{needs}
+use Rattle.basics.proofs.Basics.{lt-ltb, le-leb, le-ltb, lt-leb, needs}
 use Rattle.point_volumes.proofs.reading.advance_read.Statement.{statement}
 use Rattle.point_volumes.proofs.reading.advance_read.Tie as tie
 

@@ -1,5 +1,5 @@
 -- `less` meets its contract: below 0 a difference is 0.
-use native.Mathlib.Omega.{arith}
+use Rattle.basics.proofs.Basics.{arith}
 use Rattle.point_volumes.proofs.reading.less.Statement.{statement}
 use Rattle.point_volumes.proofs.reading.less.Tie as tie
 

@@ -1,7 +1,7 @@
 -- A reading's span, field by field.
 use Rattle.point_volumes.specs.Between.{spanRead}
 use Rattle.point_volumes.proofs.Powers.{turn-most}
-use borrow.Author.Needs.{needs}
+use Rattle.basics.proofs.Basics.{needs}
 use Rattle.point_volumes.proofs.reading.span_to.Statement.{statement}
 use Rattle.point_volumes.proofs.reading.span_to.Tie as tie
 

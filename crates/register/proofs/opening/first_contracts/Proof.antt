@@ -1,6 +1,6 @@
 -- The two suppliers of the opening are under contract.
 use Rattle.rules.specs.Opening.{firstContracts}
-use borrow.Author.Needs.{needs}
+use Rattle.basics.proofs.Basics.{needs}
 use Rattle.register.proofs.opening.first_contracts.Statement.{statement}
 use Rattle.register.proofs.opening.first_contracts.Tie as tie
 

@@ -1,5 +1,5 @@
 -- A newly opened register, field by field.
-use borrow.Author.Needs.{needs}
+use Rattle.basics.proofs.Basics.{needs}
 use Rattle.register.proofs.opening.new_register.Statement.{statement}
 use Rattle.register.proofs.opening.new_register.Tie as tie
 

@@ -1,6 +1,6 @@
 -- What stands where no register is open, field by field.
 use Rattle.register.specs.Pinned.Opens.{noRegister}
-use borrow.Author.Needs.{needs}
+use Rattle.basics.proofs.Basics.{needs}
 use Rattle.register.proofs.opening.no_register.Statement.{statement}
 use Rattle.register.proofs.opening.no_register.Tie as tie
 

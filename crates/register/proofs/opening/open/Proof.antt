@@ -1,11 +1,9 @@
 -- An opening: the numbers of an accepted one fit; a refused one leaves the register as it came.
-use native.Mathlib.Omega.{arith}
-use mathlib.Core.Path.{sym, _∙_, ap}
+use Rattle.basics.proofs.Basics.{sym, _∙_, ap, arith, needs}
 use Rattle.rules.specs.Answers.{isAccepted}
 use Rattle.rules.specs.Pinned.Register.{opened}
 use Rattle.register.specs.Pinned.Opens.{openedOver}
 use Rattle.register.proofs.Opens.{opening-in-range}
-use borrow.Author.Needs.{needs}
 use Rattle.register.proofs.opening.open.Statement.{statement}
 use Rattle.register.proofs.opening.open.Tie as tie
 

@@ -1,10 +1,5 @@
-use lib.ListN.{length}
-use Prim.Native.Nat.{_≤_}
+use Rattle.basics.proofs.Basics.{refl, sym, true, _≤_, length, set-out, needs}
 -- A place beyond the array changes nothing.
-use mathlib.Core.Path.{refl, sym}
-use mathlib.Core.Bool.{true}
-use lib.Seq.{set-out}
-use borrow.Author.Needs.{needs}
 use Rattle.register.proofs.opening.signed.Statement.{statement}
 use Rattle.register.proofs.opening.signed.Tie as tie
 

@@ -1,9 +1,7 @@
 -- Every point is caught up in turn.
-use mathlib.Core.Path.{_≡_, refl, _∙_}
-use Prim.Native.Nat.{_≤_, _-_}
+use Rattle.basics.proofs.Basics.{_≡_, refl, _∙_, _≤_, _-_, needs}
 use Rattle.point_effects.specs.Between.{caughtUp}
 use Rattle.register.proofs.Sweep.{swept, swept-more, swept-all}
-use borrow.Author.Needs.{needs}
 use Rattle.register.proofs.points.all_caught_up.Statement.{statement}
 use Rattle.register.proofs.points.all_caught_up.Tie as tie
 

@@ -1,9 +1,7 @@
 -- The failure goes over every point in turn.
-use mathlib.Core.Path.{_≡_, refl, _∙_}
-use Prim.Native.Nat.{_≤_, _-_}
+use Rattle.basics.proofs.Basics.{_≡_, refl, _∙_, _≤_, _-_, needs}
 use Rattle.register.specs.Between.Calls.{failedOn}
 use Rattle.register.proofs.Sweep.{swept, swept-more, swept-all}
-use borrow.Author.Needs.{needs}
 use Rattle.register.proofs.points.all_failed.Statement.{statement}
 use Rattle.register.proofs.points.all_failed.Tie as tie
 

@@ -1,14 +1,10 @@
 -- The points are looked at in turn: what is left to look at decides.
-use mathlib.Core.Bool.{Bool}
-use mathlib.Core.Path.{_≡_, refl, sym, _∙_, ap}
-use Prim.Native.Nat.{ℕ, _≤_, _-_, _+_}
-use native.Mathlib.Omega.{arith}
+use Rattle.basics.proofs.Basics.{_≡_, refl, sym, _∙_, ap, Bool, _≤_, ℕ, _-_, _+_, arith, needs}
 use Rattle.rules.specs.declared.{Settings.Settings}
 use Rattle.rules.specs.Rejections.{anyPoint}
 use Rattle.rules.specs.Pinned.Register.{pointAt}
 use Rattle.register.specs.Between.Calls.{failureFills}
 use Rattle.register.proofs.Search.{point-next, any-found, any-passed, any-none}
-use borrow.Author.Needs.{needs}
 use Rattle.register.proofs.points.any_filled.Statement.{statement}
 use Rattle.register.proofs.points.any_filled.Tie as tie
 

@@ -1,7 +1,5 @@
 -- The register brought up to a day: as it is past the calendar or where the day is not new, else every point caught up.
-use mathlib.Core.Path.{sym}
-use native.Mathlib.Omega.{arith}
-use borrow.Author.Needs.{needs}
+use Rattle.basics.proofs.Basics.{sym, arith, needs}
 use Rattle.register.proofs.Advanced.{advanced-off, advanced-same, advanced-new}
 use Rattle.register.proofs.points.brought_up.Statement.{statement}
 use Rattle.register.proofs.points.brought_up.Tie as tie

@@ -1,9 +1,7 @@
 -- Point p as a call finds it: blank off 1 to 32, else caught up where the day is new.
-use native.Mathlib.Omega.{arith}
-use borrow.Author.Tests.{lt-ltb, le-ltb}
+use Rattle.basics.proofs.Basics.{arith, lt-ltb, le-ltb, needs}
 use Rattle.register.specs.Between.Calls.{pointOn}
 use Rattle.register.proofs.Advanced.{advanced-off, advanced-same, advanced-new, point-caughtUp}
-use borrow.Author.Needs.{needs}
 use Rattle.register.proofs.points.point_on.Statement.{statement}
 use Rattle.register.proofs.points.point_on.Tie as tie
 
@@ -39,7 +37,8 @@ unfolding pointOn
 returns-5 c = rw (
   le-ltb (c .before .before .before .before .before .before .before .args .p) 1 (c .before .before .before .before .before .before .if1 .left),
   le-ltb 32 (c .before .before .before .before .before .before .before .args .p) (c .before .before .before .before .before .if2 .left),
-  advanced-new (c .before .before .before .before .before .before .before .args .today) (c .before .before .before .before .before .before .before .args .t3) (omega arith) (c .before .before .if4 .left),
+  advanced-new (c .before .before .before .before .before .before .before .args .today)
+      (c .before .before .before .before .before .before .before .args .t3) (omega arith) (c .before .before .if4 .left),
   point-caughtUp,
 ) (c .catch-up .ensures)
 

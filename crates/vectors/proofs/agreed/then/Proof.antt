@@ -1,7 +1,5 @@
 -- `agreed::then` is safe and ends. The measure is the number of bytes left of the text.
-use Prim.Native.Nat.{_≤_, _-_}
-use borrow.Author.Needs.{needs}
-use lib.ListN.{length}
+use Rattle.basics.proofs.Basics.{_≤_, _-_, length, needs}
 use Rattle.vectors.proofs.agreed.then.Statement.{statement}
 use Rattle.vectors.proofs.agreed.then.Tie as tie
 

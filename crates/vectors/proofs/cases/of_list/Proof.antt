@@ -1,8 +1,5 @@
 -- `cases::of_list` is safe and ends. The measure is the number of bytes left of the list.
-use Prim.Native.Nat.{_+_, _≤_, _-_}
-use native.Mathlib.Omega.{arith}
-use borrow.Author.Needs.{needs}
-use lib.ListN.{length}
+use Rattle.basics.proofs.Basics.{_≤_, _-_, _+_, arith, length, needs}
 use Rattle.vectors.proofs.Within.{line-within}
 use Rattle.vectors.proofs.cases.of_list.Statement.{statement}
 use Rattle.vectors.proofs.cases.of_list.Tie as tie

@@ -1,8 +1,5 @@
 -- `files::read` is safe: a path that is put into its buffer ends within it.
-use mathlib.Core.Path.{sym}
-use native.Mathlib.Omega.{arith}
-use borrow.Author.Needs.{needs}
-use lib.Seq.{length-take-le}
+use Rattle.basics.proofs.Basics.{sym, arith, length-take-le, needs}
 use Rattle.vectors.proofs.Within.{appended-within}
 use Rattle.vectors.proofs.files.read.Statement.{statement}
 use Rattle.vectors.proofs.files.read.Tie as tie

@@ -1,11 +1,6 @@
 -- `ways::answered` is safe and ends: what is written lies in the buffer, and what is taken in the piece. The measure is
 -- the number of bytes left of the input, which falls because a turn that takes none is the last.
-use Prim.Native.Nat.{_≤_, _-_}
-use mathlib.Core.Path.{_≡_, sym}
-use native.Mathlib.Omega.{arith}
-use borrow.Author.Needs.{needs}
-use lib.ListN.{length}
-use lib.Seq.{length-take-le}
+use Rattle.basics.proofs.Basics.{_≡_, sym, _≤_, _-_, arith, length, length-take-le, needs}
 use Rattle.input_pieces.proofs.Within.{fed-within}
 use Rattle.vectors.proofs.Within.{next-within}
 use Rattle.vectors.proofs.ways.answered.Statement.{statement}

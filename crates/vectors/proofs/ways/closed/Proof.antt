@@ -1,10 +1,6 @@
 -- `ways::closed` is safe and ends: what is written lies in the buffer. The measure is the number of points left, which
 -- falls because a turn that lists none is the last.
-use Prim.Native.Nat.{_-_}
-use mathlib.Core.Path.{_≡_, sym}
-use borrow.Author.Needs.{needs}
-use lib.ListN.{length}
-use lib.Seq.{length-take-le}
+use Rattle.basics.proofs.Basics.{_≡_, sym, _-_, length, length-take-le, needs}
 use Rattle.input_whole.proofs.Ends.{closed-within}
 use Rattle.vectors.proofs.ways.closed.Statement.{statement}
 use Rattle.vectors.proofs.ways.closed.Tie as tie

@@ -1,7 +1,5 @@
 -- `ways::last_line` is safe: what is written lies in the buffer.
-use mathlib.Core.Path.{sym}
-use borrow.Author.Needs.{needs}
-use lib.Seq.{length-take-le}
+use Rattle.basics.proofs.Basics.{sym, length-take-le, needs}
 use Rattle.input_pieces.proofs.Within.{fed-within}
 use Rattle.vectors.proofs.ways.last_line.Statement.{statement}
 use Rattle.vectors.proofs.ways.last_line.Tie as tie

@@ -1,0 +1,1 @@
+// The words that proofs are written in: proofs/Basics.antt. There is no code here.

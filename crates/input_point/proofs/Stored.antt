@@ -1,6 +1,6 @@
 -- What a deed stores in the tables is what the message does to the register.
-use Rattle.basics.proofs.Basics.{_≡_, refl, sym, _∙_, ap, true, false, Bool, cond, _&&_, false≢true, true≢false, List}
-use Rattle.basics.proofs.Basics.{_≤_, ℕ, _-_, _+_, _<_, _*_, min, arith, eqb, ltb, leb, length, getD, set, length-set}
+use Rattle.basics.proofs.Basics.{_≡_, refl, sym, _∙_, ap, true, false, Bool, cond, false≢true, true≢false, List}
+use Rattle.basics.proofs.Basics.{_≤_, ℕ, _-_, _+_, _<_, _*_, min, arith, eqb, ltb, length, getD, set, length-set}
 use Rattle.basics.proofs.Basics.{set-getD, length-paste, lt-ltb, le-ltb, ltb-true}
 use Rattle.rules.specs.declared.{Effect.Effect, Fields.Fields, Period.Period, Point.Point, Span.Span}
 use Rattle.rules.specs.declared.{Register.Register, Settings.Settings, View.View, Action.Action, PointAction.PointAction}

@@ -1,12 +1,12 @@
 -- Number 3: the definition's three tests, one after the other.
-use Rattle.basics.proofs.Basics.{lt-ltb, le-ltb, needs}
+use Rattle.basics.proofs.Basics.{_≤_, lt-ltb, le-ltb, needs}
 use Rattle.point_checks.proofs.Tests.{past-capped}
 use Rattle.point_checks.proofs.days.bad_day.Statement.{statement}
 use Rattle.point_checks.proofs.days.bad_day.Tie as tie
 
 returns-3 : tie.Need-returns-3
-returns-3 c = let m = c .before .before in
-    rw (le-ltb _ _ (m .before .if1 .left), ← (m .three-months-after .ensures), le-ltb _ _ (c .before .if2 .left))
+returns-3 c = let m = c .before .before in let by : m .before .before .args .r ≤ m .three-months-after .result = c .before .if2 .left in
+    rw (le-ltb _ _ (m .before .if1 .left), ← (m .three-months-after .ensures), le-ltb _ _ by)
     (past-capped _ _ (c .effective-day .ensures))
 
 pub bad-day-spec : {M : Type 1} → statement M

@@ -1,11 +1,12 @@
 -- `is_fair` is the definition's test, one comparison after the other.
-use Rattle.basics.proofs.Basics.{mul-le-mul, arith, lt-ltb, le-leb, le-ltb, lt-leb}
+use Rattle.basics.proofs.Basics.{_≤_, mul-le-mul, arith, lt-ltb, le-leb, le-ltb, lt-leb}
 use Rattle.point_volumes.proofs.booking.is_fair.Statement.{statement}
 use Rattle.point_volumes.proofs.booking.is_fair.Tie as tie
 
 returns-4 : tie.Need-returns-4
-returns-4 c = let u = c .before .before in let t = u .before .before in
-    rw (lt-ltb _ _ (t .before .before .if1 .left), le-leb _ _ (t .if2 .left), le-leb _ _ (u .if3 .left), lt-leb _ _ (c .if4 .taken))
+returns-4 c = let u = c .before .before in let t = u .before .before in let s = t .before .before .before .before .args .s in
+    let unit : s .unit ≤ 1000 = u .if3 .left in
+    rw (lt-ltb _ _ (t .before .before .if1 .left), le-leb _ _ (t .if2 .left), le-leb _ _ unit, lt-leb _ _ (c .if4 .taken))
 
 mul-result : tie.Need-mul-result
 mul-result c = let a = c .before in let u = a .before .before in

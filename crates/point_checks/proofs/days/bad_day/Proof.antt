@@ -5,9 +5,9 @@ use Rattle.point_checks.proofs.days.bad_day.Statement.{statement}
 use Rattle.point_checks.proofs.days.bad_day.Tie as tie
 
 returns-3 : tie.Need-returns-3
-returns-3 c = let m = c .before .before in let by : m .before .before .args .r ≤ m .three-months-after .result = c .before .if2 .left in
-    rw (le-ltb _ _ (m .before .if1 .left), ← (m .three-months-after .ensures), le-ltb _ _ by)
-    (past-capped _ _ (c .effective-day .ensures))
+returns-3 c = let m = c .before .before in let a = m .before .before .args in let from : a .t ≤ a .r = m .before .if1 .left in
+    let by : a .r ≤ m .three-months-after .result = c .before .if2 .left in
+    rw (le-ltb _ _ from, ← (m .three-months-after .ensures), le-ltb _ _ by) (past-capped _ _ (c .effective-day .ensures))
 
 pub bad-day-spec : {M : Type 1} → statement M
 bad-day-spec = tie.close (tie.spec (λ c. rw (lt-ltb _ _ (c .if1 .taken))) (λ c κs. search needs) (λ c. search needs)

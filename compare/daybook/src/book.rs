@@ -564,6 +564,12 @@ impl DayBook {
         Some(u64::from(self.cells[(day - self.first_day) as usize][p as usize].holder))
     }
 
+    /// F-1: how many periods of a point start after a day, plus one.
+    pub fn probes(&self, p: u64, day: u64) -> u64 {
+        let later = self.cells.iter().skip((day + 1 - self.first_day) as usize).filter(|row| row[p as usize].marked);
+        later.count() as u64 + 1
+    }
+
     /// Question: the registered advance of a point, the sum of V times U.
     pub fn advance(&self, p: u64) -> Option<u64> {
         self.point(p)?;

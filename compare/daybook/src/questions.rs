@@ -41,7 +41,8 @@ pub fn answer(book: Option<&DayBook>, calendar: &Calendar, question: Question) -
 const REFUSED: &str = "refused;22";
 
 fn holder(book: &DayBook, point: u64, day: u64) -> String {
-    book.holder_on(point, day).map_or(REFUSED.to_string(), |holder| format!("ok;{holder}"))
+    let told = book.holder_on(point, day);
+    told.map_or(format!("{REFUSED};0"), |holder| format!("ok;{holder};{}", book.probes(point, day)))
 }
 
 /// The periods of a point; a point that is not enrolled has none.

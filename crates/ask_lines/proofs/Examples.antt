@@ -11,6 +11,7 @@ unfolding leapRow monthLength next dateOf dateAnswer spell fixed holderReply per
 lines-examples =
     record {
       holder-5 = refl;
+      holder-0-of-the-oldest = refl;
       holder-refused = refl;
       period-of-16000 = refl;
       period-off-the-calendar = refl;

@@ -2,9 +2,9 @@
 use Prim.Native.Nat.{ℕ}
 use mathlib.Core.Path.{_≡_}
 use mathlib.Core.List.{List, [], _∷_, _++_}
-use Rattle.questions.specs.declared.HolderAnswer.the-variants as holder
 use Rattle.questions.specs.declared.PeriodAnswer.the-variants as period
 use Rattle.questions.specs.declared.AdvanceAnswer.the-variants as advance
+use Rattle.questions.specs.Pinned.Questions.{held, refusedHolder}
 use Rattle.line_text.specs.Ascii.{ascii}
 use Rattle.ask_lines.specs.Lines.{holderReply, periodReply, advanceReply}
 
@@ -12,8 +12,9 @@ abbrev pub ended : List ℕ → List ℕ
 ended l = l ++ (10 ∷ [])
 
 pub record LinesExamples : Type 0 where
-  pub holder-5 : holderReply (holder.Holder 5) ≡ ended (ascii "ok;5")
-  pub holder-refused : holderReply holder.OffRange ≡ ended (ascii "refused;22")
+  pub holder-5 : holderReply (held 5 1) ≡ ended (ascii "ok;5;1")
+  pub holder-0-of-the-oldest : holderReply (held 0 24) ≡ ended (ascii "ok;0;24")
+  pub holder-refused : holderReply refusedHolder ≡ ended (ascii "refused;22;0")
   pub period-of-16000 : periodReply (period.Of (record { start = 7674; holder = 5; volume = 16000 })) ≡
       ended (ascii "ok;20210104;5;16000")
   -- a day off the calendar, on which no period that calls make starts

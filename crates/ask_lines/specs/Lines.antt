@@ -3,13 +3,12 @@
 use Prim.Native.Nat.{ℕ}
 use mathlib.Core.List.{List, [], _∷_, _++_}
 use Rattle.rules.specs.declared.{Register.Register}
-use Rattle.questions.specs.declared.{HolderAnswer.HolderAnswer, PeriodAnswer.PeriodAnswer}
+use Rattle.questions.specs.declared.{Held.Held, HolderAnswer.HolderAnswer, PeriodAnswer.PeriodAnswer}
 use Rattle.questions.specs.declared.{AdvanceAnswer.AdvanceAnswer}
-use Rattle.questions.specs.declared.HolderAnswer.the-variants as holder
 use Rattle.questions.specs.declared.PeriodAnswer.the-variants as period
 use Rattle.questions.specs.declared.AdvanceAnswer.the-variants as advance
 use Rattle.questions.specs.Pinned.Questions.{holderAnswer, periodAnswer, advanceAnswer}
-use Rattle.questions.specs.Pinned.Questions.{holderNumber, periodNumber, advanceNumber}
+use Rattle.questions.specs.Pinned.Questions.{heldNumber, periodNumber, advanceNumber}
 use Rattle.line_text.specs.Ascii.{ascii}
 use Rattle.line_text.specs.Decimal.{decimal}
 use Rattle.line_text.specs.Days.{dayText}
@@ -27,6 +26,9 @@ dateField d end = dayText d (end ∷ [])
 abbrev pub one : List ℕ → ℕ → ℕ → List ℕ
 one w v end = w ++ field v end
 
+abbrev pub two : List ℕ → ℕ → ℕ → List ℕ
+two w u v = one w u 59 ++ field v 10
+
 -- `ok;` and the value.
 abbrev pub okOne : ℕ → List ℕ
 okOne v = one (ascii "ok;") v 10
@@ -40,9 +42,13 @@ abbrev pub refusal : ℕ → List ℕ
 refusal n = one (ascii "refused;") n 10
 
 -- 01: "A question off its range, or on a point not enrolled, gives 22." The number is that of the answer.
+-- 02, F-1: the holder question "shall .. report how many periods it looked at ..; a refusal reports 0".
+abbrev pub heldReply : Held → ℕ → List ℕ
+heldReply (Held.Holder s) n = two (ascii "ok;") s n
+heldReply Held.OffRange n = two (ascii "refused;") (heldNumber Held.OffRange) n
+
 unfoldable pub holderReply : HolderAnswer → List ℕ
-holderReply (holder.Holder s) = okOne s
-holderReply holder.OffRange = refusal (holderNumber holder.OffRange)
+holderReply a = heldReply (a .held) (a .probes)
 
 unfoldable pub periodReply : PeriodAnswer → List ℕ
 periodReply (period.Of q) = okPeriod (q .start) (q .holder) (q .volume)

@@ -5,6 +5,7 @@ use line_text::write::put_day;
 use line_text::write::put_number;
 use line_text::write::put_word;
 use questions::AdvanceAnswer;
+use questions::Held;
 use questions::HolderAnswer;
 use questions::PeriodAnswer;
 use questions::advance_of;
@@ -14,7 +15,7 @@ use rules::Register;
 ghost use Prim.Native.Nat.{_+_, _≤_};
 ghost use lib.ListN.{length};
 ghost use Rattle.line_text.specs.Between.Appending.{Appended, AppendedWithin};
-ghost use Rattle.ask_lines.specs.Lines.{field, dateField, one, okOne, okPeriod, refusal};
+ghost use Rattle.ask_lines.specs.Lines.{field, dateField, one, two, okOne, okPeriod, refusal};
 ghost use Rattle.ask_lines.specs.Lines.{holderReply, periodReply, advanceReply, reply};
 
 // The number of a question off its range.
@@ -45,9 +46,10 @@ fn put_holder(out: &mut [u8], at: usize, answer: HolderAnswer) -> usize
     requires { ⌜ at + 66 ≤ length (now out) ⌝ }
     ensures { λ x. ⌜ AppendedWithin 66 at (holderReply answer) (now (out .entry)) (now (out .exit)) x ⌝ }
 {
-    match answer {
-        HolderAnswer::Holder(s) => put_ok(out, at, s as u64),
-        HolderAnswer::OffRange => put_refusal(out, at, OFF_RANGE),
+    let held = answer.held;
+    match held {
+        Held::Holder(s) => put_two(out, at, b"ok;", s as u64, answer.probes),
+        Held::OffRange => put_two(out, at, b"refused;", OFF_RANGE, answer.probes),
     }
 }
 
@@ -85,6 +87,18 @@ fn put_ok(out: &mut [u8], at: usize, v: u64) -> usize
     ensures { λ x. ⌜ AppendedWithin 66 at (okOne v) (now (out .entry)) (now (out .exit)) x ⌝ }
 {
     put_one(out, at, b"ok;", v, b'\n')
+}
+
+// A word and two numbers.
+fn put_two(out: &mut [u8], at: usize, word: &[u8], v: u64, w: u64) -> usize
+    requires { ⌜ at + (length (now word) + 42) ≤ length (now out) ⌝ }
+    ensures { λ x. ⌜
+        AppendedWithin (length (now (word .entry)) + 42) at (two (now (word .entry)) v w) (now (out .entry))
+        (now (out .exit)) x
+        ⌝ }
+{
+    let next = put_one(out, at, word, v, b';');
+    put_field(out, next, w, b'\n')
 }
 
 // `ok;`, a period's start as a date, its holder and its volume.

@@ -4,16 +4,15 @@ use Rattle.basics.proofs.Basics.{none, List, [], _∷_, _≤_, ℕ, _-_, _<_, s
 use Rattle.basics.proofs.Basics.{eqb, ltb, leb, length, lt-ltb, le-leb, le-ltb, lt-leb, ne-eqb, not-true, not-false}
 use Rattle.basics.proofs.Basics.{cases}
 use Rattle.rules.specs.declared.{Opening.Opening, Call.Call, Register.Register, Span.Span, Point.Point}
-use Rattle.questions.specs.declared.{HolderAnswer.HolderAnswer, PeriodAnswer.PeriodAnswer, AdvanceAnswer.AdvanceAnswer}
-use Rattle.questions.specs.declared.HolderAnswer.the-variants as holder
+use Rattle.questions.specs.declared.{Held.Held, PeriodAnswer.PeriodAnswer, AdvanceAnswer.AdvanceAnswer}
 use Rattle.questions.specs.declared.PeriodAnswer.the-variants as period
 use Rattle.questions.specs.declared.AdvanceAnswer.the-variants as advance
 use Rattle.rules.specs.Volumes.{volume, registered}
 use Rattle.rules.specs.Answers.{isAccepted}
-use Rattle.questions.specs.Pinned.Questions.{holderNumber, holderTold, periodNumber, periodTold, advanceNumber, advanceTold}
+use Rattle.questions.specs.Pinned.Questions.{heldNumber, heldTold, holderNumber, holderTold, periodNumber, periodTold, advanceNumber, advanceTold}
 use Rattle.rules.specs.Rejections.{openingAnswer, notPoint}
 use Rattle.rules.specs.Pinned.Register.{used, pointAt}
-use Rattle.questions.specs.Pinned.Questions.{unasked, holderAmong, holderAnswer, periodAnswer, advanceAnswer}
+use Rattle.questions.specs.Pinned.Questions.{unasked, refusedHolder, holderAmong, holderAnswer, periodAnswer, advanceAnswer}
 use Rattle.rules.specs.DayBook.{opened, readings, enrolments, Page}
 use Rattle.rules.specs.Periods.{periodsOf, holderOn, book, register}
 use Rattle.agreement.proofs.Tally.{oldest}
@@ -22,18 +21,20 @@ use Rattle.agreement.proofs.Tied.{Tied}
 use Rattle.agreement.proofs.Run.{run-agrees}
 use Rattle.agreement.proofs.Theorem.{day-book-agrees}
 use Rattle.questions.proofs.Seen.{pending-unseen, request-unseen}
-use Rattle.questions.specs.ByBook.{nth, askedNumber, sinceEnrolment, bookPeriods, bookHolder, bookPeriod, bookAdvance}
+use Rattle.questions.specs.ByBook.{nth, askedNumber, sinceEnrolment, bookPeriods, bookHolder, bookProbes, bookPeriod, bookAdvance}
+use Rattle.questions.specs.Latest.{Rising}
 use Rattle.questions.specs.Asking.{Asking}
 use Rattle.questions.proofs.Asked.{range-in, asked-in}
 use Rattle.rules.proofs.Accept.{neither}
 use Rattle.questions.proofs.Calendar.{run-day}
 use Rattle.questions.proofs.Covers.{Tells, among-covered, among-before, sum-exact}
+use Rattle.questions.proofs.Latest.{searched, probes-told, newest-one, falling-rise}
 use Rattle.questions.proofs.ByBook.{periods-told, nth-in, nth-past}
 
 -- A number is 22 exactly where nothing is told.
-holder-number : (a : HolderAnswer) → holderNumber a ≡ askedNumber (holderTold a)
-holder-number (holder.Holder h) = refl
-holder-number holder.OffRange = refl
+held-number : (x : Held) → heldNumber x ≡ askedNumber (heldTold x)
+held-number (Held.Holder h) = refl
+held-number Held.OffRange = refl
 
 period-number : (a : PeriodAnswer) → periodNumber a ≡ askedNumber (periodTold a)
 period-number (period.Of q) = refl
@@ -70,6 +71,10 @@ module _ (o : Opening) (ok : isAccepted (openingAnswer o) ≡ true) (calls : Lis
 
     pub point-sized : Sized (pointAt p (r .points) .history)
     point-sized = tied .point .firm .sized
+
+    pub rising : Rising (pointAt p (r .points) .history)
+    rising = let f = tied .point .firm in
+        falling-rise (point .history) (suc (r .day)) (rw (used-count (point .history) (f .sized)) (f .falling))
 
     -- the periods that the register keeps are the day book's
     pub periods-are : periodsOf (pointAt p (r .points)) ≡ bookPeriods o calls p
@@ -116,21 +121,21 @@ module _ (o : Opening) (ok : isAccepted (openingAnswer o) ≡ true) (calls : Lis
     slots : point .history .count ≤ length (point .history .periods)
     slots = omega (arith, h .point .firm .sized .slots, h .point .firm .sized .some)
 
-    holder-walk : (d : ℕ) → holderAnswer r p d ≡ cond (ltb (r .day) d) holder.OffRange (holderAmong d (point .history .count) (point .history .periods))
+    holder-walk : (d : ℕ) → holderAnswer r p d ≡ cond (ltb (r .day) d) refusedHolder (holderAmong d 0 (point .history .count) (point .history .periods))
     unfolding holderAnswer
     holder-walk d = rw (on, used-all)
 
     holder-asked : (d : ℕ) → born ≤ d → d ≤ r .day → Tells d (holderAnswer r p d) (holderOn d (g .cells))
     holder-asked d le due = let a = day-book-agrees o ok calls .points p (here .0) (here .1) in rw (holder-walk d, le-ltb (r .day) d due)
-        (among-covered d (point .history .count) (point .history .periods) _ slots (a .covered born d since le due))
+        (among-covered d 0 (point .history .count) (point .history .periods) _ slots (a .covered born d since le due))
 
-    holder-late : (d : ℕ) → r .day < d → holderAnswer r p d ≡ holder.OffRange
+    holder-late : (d : ℕ) → r .day < d → holderAnswer r p d ≡ refusedHolder
     holder-late d lt = rw (holder-walk d, lt-ltb (r .day) d lt)
 
-    holder-early : (d : ℕ) → d < born → holderAnswer r p d ≡ holder.OffRange
+    holder-early : (d : ℕ) → d < born → holderAnswer r p d ≡ refusedHolder
     holder-early d lt = elim (decLe d (r .day)) [
       | yes due ↦ rw (holder-walk d, le-ltb (r .day) d due)
-          (among-before d (point .history .count) (point .history .periods) (suc (r .day)) (h .point .firm .falling) (omega arith))
+          (among-before d 0 (point .history .count) (point .history .periods) (suc (r .day)) (h .point .firm .falling) (omega arith))
       | no late ↦ holder-late d (omega arith)
     ]
 
@@ -170,6 +175,12 @@ module _ (o : Opening) (ok : isAccepted (openingAnswer o) ≡ true) (calls : Lis
         | no le ↦ rw (lt-leb e d (omega arith)) (ap holderTold (holder-early on d (omega arith)))
       ])))
 
+  probes-is : (d : ℕ) → holderAnswer r p d .probes ≡ bookProbes o calls p d
+  unfolding bookProbes
+  probes-is d = rw (← (holder-is d)) (cases (unasked r p) (λ off. unfold holderAnswer in rw off)
+      (λ on. let k = here on in let a = day-book-agrees o ok calls .points p (k .0) (k .1) in
+      rw (← (a .starts), ← (used-all on)) (probes-told r p d (omega (arith, h on .point .firm .sized .slots)) (rising (k .0) (k .1)))))
+
   period-is : (m : ℕ) → periodTold (periodAnswer r p m) ≡ bookPeriod o calls p m
   unfolding bookPeriod
   period-is m = cases (unasked r p) (λ off. rw (none-kept off (eqb m 0) (m - 1)) (unfold periodAnswer in rw off))
@@ -190,13 +201,15 @@ asking =
     record {
       agree = λ o ok calls. record {
         holder = holder-is o ok calls;
-        holder-number = λ p d. holder-number (holderAnswer (register o calls) p d) ∙ ap askedNumber (holder-is o ok calls p d);
+        holder-number = λ p d. held-number (holderAnswer (register o calls) p d .held) ∙ ap askedNumber (holder-is o ok calls p d);
+        probes = probes-is o ok calls;
         period = period-is o ok calls;
         period-number = λ p n. period-number (periodAnswer (register o calls) p n) ∙ ap askedNumber (period-is o ok calls p n);
         advance = advance-is o ok calls;
         advance-number = λ p. advance-number (advanceAnswer (register o calls) p) ∙ ap askedNumber (advance-is o ok calls p);
         answered = answered-on o ok calls;
       };
+      latest = record { search = searched; recent = newest-one; rising = rising };
       unseen = pending-unseen;
       requests = request-unseen;
     }

@@ -1,13 +1,12 @@
 -- The walk over a point's periods finds the one that the day lies in, and their sum does not wrap.
 use Rattle.basics.proofs.Basics.{_≡_, refl, sym, _∙_, ap, true, _&&_, some, Option, none, List, [], _∷_, _++_}
-use Rattle.basics.proofs.Basics.{append-nil, map, _≤_, ℕ, _<_, suc, zero, _^_, mod-eq-of-lt, decLe, arith, leb, length}
-use Rattle.basics.proofs.Basics.{take, getD, take-suc, append-snoc, lt-ltb, le-leb, lt-leb, cases}
+use Rattle.basics.proofs.Basics.{append-nil, map, _≤_, ℕ, _+_, _<_, suc, zero, _^_, mod-eq-of-lt, decLe, arith, leb}
+use Rattle.basics.proofs.Basics.{length, take, getD, take-suc, append-snoc, lt-ltb, le-leb, lt-leb, cases}
 use Rattle.rules.specs.declared.{Period.Period}
 use Rattle.questions.specs.declared.{HolderAnswer.HolderAnswer}
-use Rattle.questions.specs.declared.HolderAnswer.the-variants as holder
 use Rattle.questions.specs.Pinned.Questions.{holderNumber, holderTold}
 use Rattle.rules.specs.Pinned.Register.{noPeriod}
-use Rattle.questions.specs.Pinned.Questions.{holderAmong, sumOf}
+use Rattle.questions.specs.Pinned.Questions.{refusedHolder, holderAmong, sumOf}
 use Rattle.rules.specs.Periods.{covering, isBeforeNext}
 use Rattle.agreement.proofs.Tally.{sumVolumes, oldest, Desc, desc-up, oldest-le}
 use Rattle.agreement.proofs.Slots.{recent}
@@ -40,32 +39,32 @@ module _ (d : ℕ) where
   abbrev pub Tells : HolderAnswer → Option ℕ → Type 0
   Tells a x = (holderTold a ≡ x) × (holderNumber a ≡ 0)
 
-  among-covers : (n : ℕ) (ps l : List Period) (x : Option ℕ) → n ≤ length ps → Ahead l
-      → holders (covering d (take n ps ++ l)) ≡ x ∷ [] → Tells (holderAmong d n ps) x
+  among-covers : (k n : ℕ) (ps l : List Period) (x : Option ℕ) → n ≤ length ps → Ahead l
+      → holders (covering d (take n ps ++ l)) ≡ x ∷ [] → Tells (holderAmong d k n ps) x
   unfolding holderAmong lastOf
-  among-covers zero ps l x le k q =
-      let z : [] ≡ x ∷ [] = sym (ap holders (k .1)) ∙ q in let w : _≡_ {A = ℕ} 0 1 = cc z in absurd (omega arith)
-  among-covers (suc n) ps l x le k q = let p : Period = getD ps n noPeriod in
+  among-covers k zero ps l x le a q =
+      let z : [] ≡ x ∷ [] = sym (ap holders (a .1)) ∙ q in let w : _≡_ {A = ℕ} 0 1 = cc z in absurd (omega arith)
+  among-covers k (suc n) ps l x le a q = let p : Period = getD ps n noPeriod in
       let r : holders (covering d (take n ps ++ p ∷ l)) ≡ x ∷ [] =
       rw (take-suc ps n noPeriod le, append-snoc (take n ps) p l) at q in elim (decLe (p .start) d) [
-        | yes y ↦ rw (le-leb _ _ y) (sym (last-covers (take n ps) l p none y k) ∙ ap (lastOf none) r, refl)
+        | yes y ↦ rw (le-leb _ _ y) (sym (last-covers (take n ps) l p none y a) ∙ ap (lastOf none) r, refl)
         | no y ↦ rw (lt-leb (p .start) d (omega arith))
-            (among-covers n ps (p ∷ l) x (omega arith) (ahead-cons p l (omega arith) k) r)
+            (among-covers (k + 1) n ps (p ∷ l) x (omega arith) (ahead-cons p l (omega arith) a) r)
       ]
 
-  pub among-covered : (n : ℕ) (ps : List Period) (x : Option ℕ) → n ≤ length ps → holders (covering d (take n ps)) ≡ x ∷ []
-      → Tells (holderAmong d n ps) x
+  pub among-covered : (k n : ℕ) (ps : List Period) (x : Option ℕ) → n ≤ length ps → holders (covering d (take n ps)) ≡ x ∷ []
+      → Tells (holderAmong d k n ps) x
   unfolding covering
-  among-covered n ps x le q = among-covers n ps [] x le (refl, refl) (rw (append-nil (take n ps)) q)
+  among-covered k n ps x le q = among-covers k n ps [] x le (refl, refl) (rw (append-nil (take n ps)) q)
 
   -- where the oldest period begins after day d, all do
-  pub among-before : (n : ℕ) (ps : List Period) (e : ℕ) → Desc e (recent n ps) → d < oldest (recent n ps) e
-      → holderAmong d n ps ≡ holder.OffRange
+  pub among-before : (k n : ℕ) (ps : List Period) (e : ℕ) → Desc e (recent n ps) → d < oldest (recent n ps) e
+      → holderAmong d k n ps ≡ refusedHolder
   unfolding holderAmong recent oldest
-  among-before zero ps e r o = refl
-  among-before (suc n) ps e r o = let p : Period = getD ps n noPeriod in
-      let k = oldest-le (p .start) (recent n ps) (desc-up (recent n ps) (omega arith) (r .1)) in
-      rw (lt-leb (p .start) d (omega (arith, o, k))) (among-before n ps (p .start) (r .1) o)
+  among-before k zero ps e r o = refl
+  among-before k (suc n) ps e r o = let p : Period = getD ps n noPeriod in
+      let w = oldest-le (p .start) (recent n ps) (desc-up (recent n ps) (omega arith) (r .1)) in
+      rw (lt-leb (p .start) d (omega (arith, o, w))) (among-before (k + 1) n ps (p .start) (r .1) o)
 
 pub sum-exact : (n : ℕ) (ps : List Period) → sumVolumes (recent n ps) < 2 ^ 64 → sumOf n ps ≡ sumVolumes (recent n ps)
 unfolding sumOf recent sumVolumes

@@ -8,7 +8,18 @@ pub question-examples : QuestionExamples
 unfolding computes holderAmong holderAnswer periodAnswer sumOf advanceAnswer
 question-examples =
     record {
+      newest-on-registers-day = refl;
+      newest-on-its-start = refl;
+      second-on-its-last-day = refl;
+      second-on-its-start = refl;
+      oldest-on-its-last-day = refl;
+      oldest-on-its-start = refl;
+      day-before-enrolment = refl;
+      day-after-the-registers = refl;
+      another-point = refl;
+      starts-that-fall = refl;
       holder-before-enrolment = refl;
+      before-enrolment-no-look = refl;
       holder-on-enrolment = refl;
       holder-on-14 = refl;
       holder-on-15 = refl;

@@ -2,6 +2,7 @@ pub mod Asked
 pub mod Asking
 pub mod Calendar
 pub mod Covers
+pub mod Latest
 pub mod ByBook
 pub mod Walks
 pub mod Seen

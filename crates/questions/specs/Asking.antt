@@ -14,13 +14,15 @@ use Rattle.questions.specs.Pinned.Questions.{holderAnswer, periodAnswer,
 use Rattle.rules.specs.DayBook.{opened, enrolments}
 use Rattle.rules.specs.Periods.{register}
 use Rattle.questions.specs.Seen.{PendingUnseen, RequestUnseen}
-use Rattle.questions.specs.ByBook.{askedNumber, bookHolder, bookPeriod, bookAdvance}
+use Rattle.questions.specs.ByBook.{askedNumber, bookHolder, bookProbes, bookPeriod, bookAdvance}
+use Rattle.questions.specs.Latest.{LatestFirst}
 
 -- Every question after a list of calls, of any point, day and number: what it tells and its number are the day book's.
 pub record Asked (o : Opening) (calls : List Call) : Type 0 where
   pub holder : (p d : ℕ) → holderTold (holderAnswer (register o calls) p d) ≡ bookHolder o calls p d
   pub holder-number : (p d : ℕ)
       → holderNumber (holderAnswer (register o calls) p d) ≡ askedNumber (bookHolder o calls p d)
+  pub probes : (p d : ℕ) → holderAnswer (register o calls) p d .probes ≡ bookProbes o calls p d
   pub period : (p n : ℕ) → periodTold (periodAnswer (register o calls) p n) ≡ bookPeriod o calls p n
   pub period-number : (p n : ℕ)
       → periodNumber (periodAnswer (register o calls) p n) ≡ askedNumber (bookPeriod o calls p n)
@@ -34,6 +36,8 @@ pub record Asked (o : Opening) (calls : List Call) : Type 0 where
 pub record Asking : Type 0 where
   -- The only hypothesis is that the opening is accepted.
   pub agree : (o : Opening) → isAccepted (openingAnswer o) ≡ true → (calls : List Call) → Asked o calls
+  -- the holder question begins at the newest period
+  pub latest : LatestFirst
   -- no pending request is seen through the questions, and a request or its cancel changes no answer
   pub unseen : PendingUnseen
   pub requests : RequestUnseen

@@ -3,6 +3,7 @@
 --
 -- bookPeriods   the periods of a point: its marked cells, each with the sum of its days' volumes
 -- bookHolder, bookPeriod, bookAdvance   what the three questions tell
+-- bookProbes    how many periods the holder question reports
 -- askedNumber   the number that goes with it
 use mathlib.Core.Bool.{true, false, cond, _&&_, _||_}
 use mathlib.Core.List.{List, [], _∷_}
@@ -14,7 +15,8 @@ use Rattle.rules.specs.Volumes.{volume, registered}
 use Rattle.rules.specs.Rejections.{notPoint}
 use Rattle.rules.specs.Pinned.Register.{period}
 use Rattle.rules.specs.DayBook.{Cell, cell, opened, readings, enrolments}
-use Rattle.rules.specs.Periods.{holderOn, sumDays, book}
+use Rattle.rules.specs.Periods.{markedDays, holderOn, sumDays, book}
+use Rattle.questions.specs.Latest.{laterThan, probesFor}
 
 -- "The register's periods are the marked cells: each starts at one and runs to the next, the last without end." The
 -- cells stand newest first; the next period starts on day `end`, and l are the later periods. "A period's booked
@@ -50,6 +52,11 @@ module _ (o : Opening) (calls : List Call) where
       cond (notPoint p) none
       (sinceEnrolment (enrolments (opened o) calls p)
       (λ e. cond (leb e d && leb d (book o calls .day)) (holderOn d (book o calls .page p .cells)) none))
+
+  -- 02, F-1: "That number is the count of periods starting after the day, plus one; a refusal reports 0." The periods
+  -- start on the marked days.
+  unfoldable pub bookProbes : ℕ → ℕ → ℕ
+  bookProbes p d = probesFor (bookHolder p d) (laterThan d (markedDays (book o calls .page p .cells) []))
 
   -- "period n of p (start, holder, volume; n from 1 to their count)"
   unfoldable pub bookPeriod : ℕ → ℕ → Option Period

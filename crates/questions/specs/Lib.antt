@@ -1,4 +1,5 @@
 pub mod Seen
+pub mod Latest
 pub mod ByBook
 pub mod Asking
 pub mod Examples

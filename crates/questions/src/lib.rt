@@ -1,4 +1,5 @@
 // The questions: they change nothing, and no pending request is seen through them.
+use point_checks::or;
 use point_checks::outside;
 use point_periods::period_count;
 use rules::History;
@@ -7,13 +8,19 @@ use rules::Register;
 ghost use mathlib.Core.Path.{_≡_};
 ghost use Prim.Native.Nat.{_≤_};
 ghost use Rattle.rules.specs.Pinned.Register.{used, pointAt};
-ghost use Rattle.questions.specs.Pinned.Questions.{unasked, holderAmong, holderAnswer, periodAnswer, sumOf};
-ghost use Rattle.questions.specs.Pinned.Questions.{advanceAnswer};
+ghost use Rattle.questions.specs.Pinned.Questions.{unasked, holderAmong, holderAnswer};
+ghost use Rattle.questions.specs.Pinned.Questions.{periodAnswer, sumOf, advanceAnswer};
 
 // The answers to questions; a question off its range is refused.
-pub enum HolderAnswer {
+pub enum Held {
     Holder(u8),
     OffRange,
+}
+
+// Who held the point, and how many of its periods were looked at: none where the question is refused.
+pub struct HolderAnswer {
+    pub held: Held,
+    pub probes: u64,
 }
 
 pub enum PeriodAnswer {
@@ -48,31 +55,37 @@ fn history_of(r: Register, p: u64) -> History
     g.history
 }
 
-// The holder of the last of the first n periods that starts by a day.
+// The first n periods, the newest first, up to the first that starts on or before a day.
 fn holder_among(d: u64, n: usize, ps: [Period; 24]) -> HolderAnswer
     requires { ⌜ n ≤ 24 ⌝ }
-    ensures { λ x. ⌜ x ≡ holderAmong d n ps ⌝ }
+    ensures { λ x. ⌜ x ≡ holderAmong d 0 n ps ⌝ }
 {
     let mut i = n;
     while 0 < i {
         let q = ps[i - 1];
         if q.start as u64 <= d {
-            return HolderAnswer::Holder(q.holder);
+            return HolderAnswer {
+                held: Held::Holder(q.holder),
+                probes: (n - i) as u64 + 1,
+            };
         }
         i -= 1;
     }
-    HolderAnswer::OffRange
+    HolderAnswer {
+        held: Held::OffRange,
+        probes: 0,
+    }
 }
 
 // Who holds point p on day d, from its enrolment to the register's day.
 pub fn holder_of(r: Register, p: u64, d: u64) -> HolderAnswer
     ensures { λ x. ⌜ x ≡ holderAnswer r p d ⌝ }
 {
-    if is_unasked(r, p) {
-        return HolderAnswer::OffRange;
-    }
-    if (r.day as u64) < d {
-        return HolderAnswer::OffRange;
+    if or(is_unasked(r, p), (r.day as u64) < d) {
+        return HolderAnswer {
+            held: Held::OffRange,
+            probes: 0,
+        };
     }
     let h = history_of(r, p);
     let ps = h.periods;

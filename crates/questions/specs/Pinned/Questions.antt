@@ -8,9 +8,8 @@ use lib.ListN.{getD}
 use Rattle.rules.specs.declared.{Period.Period, History.History, Register.Register}
 use Rattle.rules.specs.Rejections.{notPoint, outside}
 use Rattle.rules.specs.Pinned.Register.{noPeriod, used, pointAt}
-use Rattle.questions.specs.declared.{HolderAnswer.HolderAnswer, PeriodAnswer.PeriodAnswer}
+use Rattle.questions.specs.declared.{Held.Held, HolderAnswer.HolderAnswer, PeriodAnswer.PeriodAnswer}
 use Rattle.questions.specs.declared.{AdvanceAnswer.AdvanceAnswer}
-use Rattle.questions.specs.declared.HolderAnswer.the-variants as holder
 use Rattle.questions.specs.declared.PeriodAnswer.the-variants as period
 use Rattle.questions.specs.declared.AdvanceAnswer.the-variants as advance
 
@@ -18,18 +17,26 @@ use Rattle.questions.specs.declared.AdvanceAnswer.the-variants as advanc
 abbrev pub unasked : Register → ℕ → Bool
 unasked r p = notPoint p || not (pointAt p (r .points) .fields .enrolled)
 
--- The holder of the last of the first n periods that starts by day d; none where d lies before them all.
-unfoldable pub holderAmong : ℕ → ℕ → List Period → HolderAnswer
-holderAmong d zero ps = holder.OffRange
-holderAmong d (suc n) ps =
-    cond (leb (getD ps n noPeriod .start) d) (holder.Holder (getD ps n noPeriod .holder)) (holderAmong d n ps)
+abbrev pub held : ℕ → ℕ → HolderAnswer
+held h n = record { held = Held.Holder h; probes = n }
+
+-- "a refusal reports 0"
+abbrev pub refusedHolder : HolderAnswer
+refusedHolder = record { held = Held.OffRange; probes = 0 }
+
+-- 02, F-1: "The holder question shall begin at the newest period, stop at the first that starts on or before the day,
+-- and report how many periods it looked at." Of the first n periods; k are looked at already.
+unfoldable pub holderAmong : ℕ → ℕ → ℕ → List Period → HolderAnswer
+holderAmong d k zero ps = refusedHolder
+holderAmong d k (suc n) ps =
+    cond (leb (getD ps n noPeriod .start) d) (held (getD ps n noPeriod .holder) (k + 1)) (holderAmong d (k + 1) n ps)
 
 abbrev pub holderIn : ℕ → History → HolderAnswer
-holderIn d h = holderAmong d (used h) (h .periods)
+holderIn d h = holderAmong d 0 (used h) (h .periods)
 
 -- "holder of p on day d (enrolment to register's day)"
 unfoldable pub holderAnswer : Register → ℕ → ℕ → HolderAnswer
-holderAnswer r p d = cond (unasked r p || ltb (r .day) d) holder.OffRange (holderIn d (pointAt p (r .points) .history))
+holderAnswer r p d = cond (unasked r p || ltb (r .day) d) refusedHolder (holderIn d (pointAt p (r .points) .history))
 
 -- "period n of p (start, holder, volume; n from 1 to their count)"
 abbrev pub periodIn : ℕ → History → PeriodAnswer
@@ -51,13 +58,19 @@ advanceAnswer r p =
 
 -- "A question off its range, or on a point not enrolled, gives 22." The number, 0 where the
 -- question is answered, and what is told then: the holder; the period's start, holder and volume; the advance.
+abbrev pub heldNumber : Held → ℕ
+heldNumber (Held.Holder h) = 0
+heldNumber Held.OffRange = 22
+
+abbrev pub heldTold : Held → Option ℕ
+heldTold (Held.Holder h) = some h
+heldTold Held.OffRange = none
+
 abbrev pub holderNumber : HolderAnswer → ℕ
-holderNumber (holder.Holder h) = 0
-holderNumber holder.OffRange = 22
+holderNumber a = heldNumber (a .held)
 
 abbrev pub holderTold : HolderAnswer → Option ℕ
-holderTold (holder.Holder h) = some h
-holderTold holder.OffRange = none
+holderTold a = heldTold (a .held)
 
 abbrev pub periodNumber : PeriodAnswer → ℕ
 periodNumber (period.Of q) = 0

@@ -85,7 +85,8 @@ module _ (S : Settings) (A : 0 < S .a) (B : 0 < S .b) (day : ℕ) (u : List Bool
     -- a reading on day d
     reads : v .fields .enrolled ≡ true → (d x z : ℕ) (g : Fields) → g .reading .day ≡ d → g .enrolled ≡ v .fields .enrolled
         → g .supply ≡ v .fields .supply → Wheels (g .meter) → outOfTime t d (v .fields) ≡ false
-        → notMark z ≡ false → indexDisagrees (v .fields) x z ≡ false → Good t v (Effect.Read (spanTo (v .fields) d x z) g) (spanTo (v .fields) d x z ∷ []) []
+        → notMark z ≡ false → indexDisagrees (v .fields) x z ≡ false
+        → Good t v (Effect.Read (spanTo (v .fields) d x z) g) (spanTo (v .fields) d x z ∷ []) []
     unfolding registered spanTo
     reads y d x z g r n s w o m i = let c = neither (leb d (v .fields .reading .day)) (ltb t d) o in
         let lt : v .fields .reading .day < d = leb-false d (v .fields .reading .day) (c .0) in
@@ -199,13 +200,15 @@ module _ (S : Settings) (A : 0 < S .a) (B : 0 < S .b) (day : ℕ) (u : List Bool
       (any-none 32 1 (λ q. touches s (v q .fields) && isFull (v q) (failed S t s (v q .fields))) (pass _ _ _ _ (l .1) .0) p lo (omega arith))
   seen-good v p lo hi h (Action.At q a) ok = go (eqb p q) refl
     where
-      go : (b : Bool) → eqb p q ≡ b → let e = cond b (effectOf S t a (v p .fields)) (Effect.Keep (v p .fields)) in Good t (v p) e (spansIn e) (enrolledBy t e)
+      go : (b : Bool) → eqb p q ≡ b → let e = cond b (effectOf S t a (v p .fields)) (Effect.Keep (v p .fields)) in
+          Good t (v p) e (spansIn e) (enrolledBy t e)
       go true e = at-good (v p) h q a (accepted S t (Action.At q a) v) (rw (eqb-true p q e) ok)
       go false e = unchanged t (v p) h (v p .fields) refl refl refl refl
   seen-good v p lo hi h Action.Day ok = unchanged t (v p) h (v p .fields) refl refl refl refl
 
   -- An accepted call at point p, which shows v p.
-  pub call-good : (v : ℕ → View) (p : ℕ) → 1 ≤ p → p ≤ 32 → Fine t (v p) → (c : Action) → isAccepted (answerTo S day u t c (shown v)) ≡ true
+  pub call-good : (v : ℕ → View) (p : ℕ) → 1 ≤ p → p ≤ 32 → Fine t (v p) → (c : Action)
+      → isAccepted (answerTo S day u t c (shown v)) ≡ true
       → let e = effect S t c p (v p .fields) in Good t (v p) e (spansIn e) (enrolledBy t e)
   call-good v p lo hi h c ok = let q = shown-in v p lo hi in
       subst (λ (x : View). let e = effect S t c p (x .fields) in Good t x e (spansIn e) (enrolledBy t e)) q

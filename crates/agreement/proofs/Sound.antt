@@ -99,7 +99,8 @@ module _ (S : Settings) (B : 0 < S .b) where
       let before = firm-later (h .firm) in let k = event-good S B t (view (suc t) g) (h .fine) .1 in
       record { firm = firm-after (suc t) g before e [] k cal; fine = fine-entered (suc t) g before e [] k cal }
 
-up-hale : (r : Register) → Sound r → (t : ℕ) → r .day ≤ t → t ≤ lastDay → (p : ℕ) → 1 ≤ p → p ≤ 32 → Hale t (pointAt p (advanced t r .points))
+up-hale : (r : Register) → Sound r → (t : ℕ) → r .day ≤ t → t ≤ lastDay → (p : ℕ) → 1 ≤ p → p ≤ 32
+    → Hale t (pointAt p (advanced t r .points))
 up-hale r h t on cal p lo hi =
     up-kept (r .settings) (h .lasting .1) Hale (λ x g i. i .fine .ahead) (day-hale (r .settings) (h .lasting .1)) r refl t p on cal lo
     (omega (arith, h .count)) (sound-hale (r .day) (pointAt p (r .points)) (h .points p lo hi))

@@ -102,7 +102,8 @@ module _ (z : State) where
       module _ (ok : isAccepted a ≡ true) where
         -- the whole register, taken apart again
         pub whole-next : {R : Register} → R ≡ registerIn (z .set) (z .day) (z .contracts) fs ns ss → {nd : Desk} →
-            nd ≡ deskAfter (desk (z .ready) R) m → {t : Tables} → Apart (nd .register .points) t → {quiet′ : ℕ} → quiet′ ≡ firstDue (t .fields) →
+            nd ≡ deskAfter (desk (z .ready) R) m → {t : Tables} → Apart (nd .register .points) t →
+            {quiet′ : ℕ} → quiet′ ≡ firstDue (t .fields) →
             Next d m a (nd .ready) (nd .register .settings) (nd .register .day) (nd .register .contracts) (t .fields) (t .counts) (t .slots) quiet′
         whole-next hR does apart hq =
             record { turned = record { answer = told .answer; after = rw (apart .points) (rw hR at does) }; sized = apart .sized; calm = omega (arith, hq) }
@@ -115,7 +116,8 @@ module _ (z : State) where
               (getD ss (24 * i + (min (getD ns i 0) 24 - 1)) noPeriod) = rw (told .said, hk) at hx in
               sym (deed-stored (z .set) (z .day) (z .contracts) fs ns ss sized (z .quiet) calm i lt (z .ready) m hi (rw (told .answer) at ok) x e w)
 
-          pub slot-next : {e : Entry} → x ≡ Deed.Slot e → {due quiet′ : ℕ} → due ≡ dueDay (e .fields .supply) → quiet′ ≡ min (z .quiet) due →
+          pub slot-next : {e : Entry} → x ≡ Deed.Slot e → {due quiet′ : ℕ} → due ≡ dueDay (e .fields .supply) →
+              quiet′ ≡ min (z .quiet) due →
               Next d m a (z .ready) (z .set) (e .today) (z .contracts) (set fs i (e .fields)) (set ns i (e .count))
               (set ss (24 * i + e .place) (e .period)) quiet′
           slot-next {e} h {quiet′ = quiet′} hd hq =

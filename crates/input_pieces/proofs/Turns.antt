@@ -36,7 +36,8 @@ pub record Going (piece out₀ : List ℕ) (d₀ : Desk) (part₀ out : List ℕ
   pub tail : drop written out ≡ drop written out₀
   pub does : behind (take written out) (runOf d (kept part) (drop at piece)) ≡ runOf d₀ part₀ piece
 
-pub going-start : (piece out : List ℕ) (d : Desk) (part : Begun) → longestAnswer * feeds piece ≤ length out → Going piece out d (kept part) out part d 0 0
+pub going-start : (piece out : List ℕ) (d : Desk) (part : Begun) → longestAnswer * feeds piece ≤ length out →
+    Going piece out d (kept part) out part d 0 0
 going-start piece out d part hr = record { here = omega arith; room = omega (arith, hr); size = refl; tail = refl; does = refl }
 
 -- the answer to a line has at most longestAnswer bytes
@@ -119,7 +120,8 @@ module _ {piece out₀ : List ℕ} {d₀ : Desk} {part₀ out : List ℕ} {part 
   written-le : written ≤ length out
   written-le = omega (arith, g .room, g .size)
 
-  pub going-end : {s : Session} {n : ℕ} {line : List ℕ} → line ≡ drop at piece → s .part ≡ begunOf (capped (kept part ++ line)) → deskOf s ≡ d →
+  pub going-end : {s : Session} {n : ℕ} {line : List ℕ} → line ≡ drop at piece → s .part ≡ begunOf (capped (kept part ++ line)) →
+      deskOf s ≡ d →
       n ≡ written → RunTo (runOf d₀ part₀ piece) out₀ out s n
   unfolding put
   going-end hl hp hd hn =

@@ -165,7 +165,8 @@ module _ (S : Settings) (day : ℕ) (u : List Bool) (fs : List Fields) (ns : Lis
   unfolding callDeed callSaid ruledDeed done
   call-stored t (Action.Contract s) h hi ok x e w = go (ltb s 100) e
     where
-      go : (b : Bool) → x ≡ cond b (Deed.Sign t s) Deed.Whole → done t (Action.Contract s) (register S t u (pointsOf fs ns ss)) ≡ storedIn S day u fs ns ss i x
+      go : (b : Bool) → x ≡ cond b (Deed.Sign t s) Deed.Whole →
+          done t (Action.Contract s) (register S t u (pointsOf fs ns ss)) ≡ storedIn S day u fs ns ss i x
       go true k = rw k
       go false k = absurd (whole-not x k w)
   call-stored t (Action.Failure s) h hi ok x e w = absurd (whole-not x e w)

@@ -110,6 +110,7 @@ module _ (S : Settings) (day t : ℕ) (x : Seen) {v : View} where
   unfolding viewOn nextSeen dueIn happenedSeen
   seen-late n e h = rw (ne-eqb day t n, lt-leb t lastDay e) h
 
-  pub seen-up : (day ≡ t → ⊥) → {once twice : Seen} → once ≡ nextSeen S t x → twice ≡ nextSeen S t once → v ≡ viewIn t twice → v ≡ viewOn S day t x
+  pub seen-up : (day ≡ t → ⊥) → {once twice : Seen} → once ≡ nextSeen S t x → twice ≡ nextSeen S t once → v ≡ viewIn t twice →
+      v ≡ viewOn S day t x
   unfolding viewOn
   seen-up n h k z = rw (ne-eqb day t n, ← h, ← k) z

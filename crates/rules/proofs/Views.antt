@@ -79,7 +79,8 @@ module _ (S : Settings) (day : ℕ) (u : List Bool) (t : ℕ) where
   answer-none p a v w q = rows-off p a (v p) (w p) _ _ (inr q)
 
   -- A call that names a point looks at that point only.
-  pub answer-at : (p : ℕ) (a : PointAction) (v w : ℕ → View) → v p ≡ w p → answerTo S day u t (Action.At p a) v ≡ answerTo S day u t (Action.At p a) w
+  pub answer-at : (p : ℕ) (a : PointAction) (v w : ℕ → View) → v p ≡ w p
+      → answerTo S day u t (Action.At p a) v ≡ answerTo S day u t (Action.At p a) w
   unfolding answerTo rows accepted
   answer-at p a v w q = rw q
 

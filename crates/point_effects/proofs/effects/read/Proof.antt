@@ -6,4 +6,5 @@ use Rattle.point_effects.proofs.effects.read.Tie as tie
 
 pub read-spec : {M : Type 1} → statement M
 read-spec = tie.close (tie.spec (λ c κs. search needs)
-    (λ c. let s = c .before .before .before in rw (c .span-to .ensures, read-span (s .args .f) (s .args .d) (s .args .x) (s .args .z) (s .pre .0) (s .pre .1))))
+    (λ c. let s = c .before .before .before in
+    rw (c .span-to .ensures, read-span (s .args .f) (s .args .d) (s .args .x) (s .args .z) (s .pre .0) (s .pre .1))))

@@ -7,7 +7,8 @@ use Rattle.point_volumes.proofs.booking.book_slots.Statement.{statement
 use Rattle.point_volumes.proofs.booking.book_slots.Tie as tie
 
 abbrev Inv-loop : tie.InvT-loop
-Inv-loop s n from out₀ end₀ i₀ out end i = (i ≤ 24) × (bookedSlots (given s) (s .from) end i out ≡ bookedSlots (given s) (s .from) end₀ i₀ out₀)
+Inv-loop s n from out₀ end₀ i₀ out end i =
+    (i ≤ 24) × (bookedSlots (given s) (s .from) end i out ≡ bookedSlots (given s) (s .from) end₀ i₀ out₀)
 
 abbrev μ-loop : tie.MeasureT-loop
 μ-loop s n from out₀ end₀ i₀ out end i = i

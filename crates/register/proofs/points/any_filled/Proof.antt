@@ -10,7 +10,8 @@ use Rattle.register.proofs.points.any_filled.Tie as tie
 
 abbrev Inv-loop : tie.InvT-loop
 Inv-loop t s ps i₀ i =
-    (i ≤ 32) × ((S : Settings) → anyPoint 1 32 (λ p. failureFills S t s (pointAt p ps)) ≡ anyPoint (i + 1) (32 - i) (λ p. failureFills S t s (pointAt p ps)))
+    (i ≤ 32) × ((S : Settings) →
+    anyPoint 1 32 (λ p. failureFills S t s (pointAt p ps)) ≡ anyPoint (i + 1) (32 - i) (λ p. failureFills S t s (pointAt p ps)))
 
 abbrev μ-loop : tie.MeasureT-loop
 μ-loop t s ps i₀ i = 32 - i

@@ -1,5 +1,6 @@
--- What an input comes to that is read to its end. No contract can say what the system reads: whatever it was, the
--- programs list and ask the register after the calls that its lines read as. Definitions only.
+-- What an input comes to that is read to its end. No contract can say what the system reads, so this is said of some
+-- input: that it is the one read is not said, and a loop that forgot what it read would meet this too. Ruled out are a
+-- desk that no input leads to, and a line left under way. Definitions only.
 use mathlib.Core.Path.{_≡_}
 use mathlib.Core.List.{List, []}
 use Prim.Native.Nat.{ℕ}

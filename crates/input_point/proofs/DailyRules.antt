@@ -4,7 +4,7 @@ use Rattle.basics.proofs.Basics.{ltb, lt-ltb, eq-eqb, eqb-true, ltb-true}
 use Rattle.rules.specs.declared.{Action.Action, Answer.Answer, Effect.Effect, Fields.Fields, Period.Period, PointAction.PointAction}
 use Rattle.rules.specs.declared.{Reading.Reading, Settings.Settings, Span.Span, View.View, Call.Call}
 use Rattle.rules.specs.Answers.{isAccepted}
-use Rattle.rules.specs.Effects.{effectOf}
+use Rattle.rules.specs.Effects.{effectOf, atPoint}
 use Rattle.rules.specs.Fields.{reading, withReading}
 use Rattle.rules.specs.Pinned.Register.{period, bookedPeriod}
 use Rattle.rules.specs.Rejections.{rowsAt}
@@ -19,7 +19,7 @@ use Rattle.line_messages.specs.declared.{Message.Message}
 use Rattle.input_quiet.specs.Between.Quiet.{viewOn}
 use Rattle.input_point.specs.Between.Answers.{callSaid, saidBy}
 use Rattle.input_point.specs.Between.Deeds.{liesIn, slot, readingDeed, effectDeed, ruledDeed, callDeed, deedOf}
-use Rattle.input_point.specs.Between.Daily.{readingSaid, dailyRead, dailyAt, dailyIn, dailyOf}
+use Rattle.input_point.specs.Between.Daily.{readingSaid, dailyRead, dailyAt, dailyOf}
 use Rattle.input_point.specs.declared.{answers.Said.Said, daily.Daily.Daily}
 
 -- The fields after it, and the ruling.
@@ -94,8 +94,8 @@ module _ (day quiet : ℕ) (n : ℕ) (f : Fields) (q : Period) where
         go true ok false lies = tt
         go false ok b lies = tt
 
-    in-stores : (a : Action) → c .action ≡ a → Stored (dailyIn day a n f q)
-    unfolding dailyIn dailyAt
+    in-stores : (a : Action) → c .action ≡ a → Stored (atPoint Daily.Other (λ p b. dailyAt day p b n f q) a)
+    unfolding dailyAt
     in-stores (Action.At p a) h = elim (which a) [
       | isReading d x z e ↦ rw e (read-stores p d x z (h ∙ ap (Action.At p) e))
       | isOther k ↦ rw (← (k day p n f q)) tt
@@ -111,7 +111,7 @@ module _ (day quiet : ℕ) (n : ℕ) (f : Fields) (q : Period) where
   daily-stores ready (Message.Ask c) = go ready (eqb (c .today) day) refl (ltb day quiet) refl
     where
       go : (b e : Bool) → eqb (c .today) day ≡ e → (l : Bool) → ltb day quiet ≡ l →
-          DailyOf b day quiet (Message.Ask c) n f q (cond (b && (e && l)) (dailyIn day (c .action) n f q) Daily.Other)
+          DailyOf b day quiet (Message.Ask c) n f q (cond (b && (e && l)) (atPoint Daily.Other (λ p a. dailyAt day p a n f q) (c .action)) Daily.Other)
       go true true k true l = in-stores c (eqb-true (c .today) day k) (ltb-true day quiet l) (c .action) refl
       go true true k false l = tt
       go true false k b l = tt

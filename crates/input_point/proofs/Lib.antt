@@ -1,3 +1,4 @@
+pub mod Apart
 pub mod Places
 pub mod Settled
 pub mod DeedsDone

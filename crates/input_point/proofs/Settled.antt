@@ -1,5 +1,5 @@
 -- The answer told from the tables is the desk's.
-use Rattle.basics.proofs.Basics.{_≡_, refl, _∙_, ap, true, false, Bool, cond, _&&_, false≢true, _||_, List, [], _∷_}
+use Rattle.basics.proofs.Basics.{_≡_, refl, sym, _∙_, ap, true, false, Bool, cond, _&&_, List, [], _∷_}
 use Rattle.basics.proofs.Basics.{map, _≤_, ℕ, _-_, _+_, _<_, suc, zero, _*_, min, decLe, arith, eqb, length, getD}
 use Rattle.basics.proofs.Basics.{lt-ltb}
 use mathlib.Core.Logic.{inl}
@@ -8,12 +8,13 @@ use Rattle.rules.specs.declared.{Fields.Fields, Period.Period, Point.Point, Set
 use Rattle.rules.specs.declared.{Action.Action, PointAction.PointAction, Answer.Answer, Call.Call}
 use Rattle.rules.specs.Answers.{isAccepted}
 use Rattle.rules.specs.Fields.{blank}
-use Rattle.rules.specs.Rejections.{_⇒_, firstOf, notPoint, notSupplier, noContract, isPast, runsBack, shown, answerTo, answer}
-use Rattle.rules.specs.Rejections.{blankView, rows, accepted}
+use Rattle.rules.specs.Rejections.{_⇒_, notPoint, shown, answerTo, answer}
+use Rattle.rules.specs.Rejections.{rows, accepted}
 use Rattle.rules.specs.Pinned.Register.{noPoint, noPeriod, catchUp, view, register, pointAt, advanced, says, applied}
 use Rattle.rules.proofs.Views.{shown-in, answer-ext, answer-off, answer-none, answer-at}
-use Rattle.point_answers.specs.Between.{answerAt, after, failureRows}
-use Rattle.point_answers.proofs.Failures.{failure-answer}
+use Rattle.point_answers.specs.Between.{answerAt, after, answerApart}
+use Rattle.point_answers.proofs.Apart.{contract-apart, day-apart}
+use Rattle.point_answers.proofs.Failures.{failure-answer, failure-accepted}
 use Rattle.point_effects.specs.Between.{caughtUp, rulingAt}
 use Rattle.register.proofs.Advanced.{caughtUp-on}
 use Rattle.line_messages.specs.declared.{Message.Message}
@@ -23,7 +24,7 @@ use Rattle.input_desk.specs.Pinned.Desk.{desk, unreadable, answerOf}
 use Rattle.input_quiet.specs.Between.Quiet.{seen, viewOn}
 use Rattle.input_quiet.proofs.SeenOn.{seen-on}
 use Rattle.input_point.specs.declared.{answers.Said.Said}
-use Rattle.input_point.specs.Between.Answers.{placeIn, placeOf, failureSaid, callSaid, saidBy, newestStart, shows}
+use Rattle.input_point.specs.Between.Answers.{placeIn, placeOf, apartSaid, callSaid, saidBy, newestStart, shows}
 use Rattle.input_point.specs.Between.Answers.{failureAnswer, settled}
 use Rattle.input_point.proofs.Places.{point-in}
 
@@ -45,23 +46,6 @@ failure-by fails t s a x h z = go (isAccepted a) refl
     go : (b : Bool) → isAccepted a ≡ b → cond (b && x) (Answer.Refused 30) a ≡ settled fails (cond b (Said.Fails t s) (Said.Known a))
     go true e = last x (z e) ∙ h
     go false e = refl
-
--- Where no row applies, the answer is the one given.
-only : (a b c d e : Bool) → isAccepted (firstOf ((a ⇒ 22) ∷ (b ⇒ 20) ∷ (c ⇒ 21) ∷ (d ⇒ 1) ∷ (e ⇒ 29) ∷ []) Answer.Accepted) ≡ true →
-    firstOf ((a ⇒ 22) ∷ (b ⇒ 20) ∷ (c ⇒ 21) ∷ (d ⇒ 1) ∷ (e ⇒ 29) ∷ []) Answer.Accepted ≡ Answer.Accepted
-unfolding firstOf
-only true b c d e h = absurd (false≢true h)
-only false true c d e h = absurd (false≢true h)
-only false false true d e h = absurd (false≢true h)
-only false false false true e h = absurd (false≢true h)
-only false false false false true h = absurd (false≢true h)
-only false false false false false h = refl
-
-all-accepted : (S : Settings) (day : ℕ) (u : List Bool) (t s : ℕ) → isAccepted (firstOf (failureRows S day u t s) Answer.Accepted) ≡ true →
-    firstOf (failureRows S day u t s) Answer.Accepted ≡ Answer.Accepted
-unfolding failureRows rows
-all-accepted S day u t s h =
-    only (notSupplier s) (isPast t || isPast (t + S .b)) (runsBack day t) (noContract u s) (eqb s (S .default) || eqb s (S .resort)) h
 
 module _ (S : Settings) (day : ℕ) (u : List Bool) (fs : List Fields) (ns : List ℕ) (ss : List Period) (sized : Sized fs ns ss) where
   abbrev r : Register
@@ -113,32 +97,25 @@ module _ (S : Settings) (day : ℕ) (u : List Bool) (fs : List Fields) (ns : Lis
         go false q k = let h = point-in p q in
             answer-at S day u t p a (shown (w t)) (λ x. here t i) (shown-in (w t) p (h .0) (h .1) ∙ rw k)
 
-    plain : (t s : ℕ) → answerTo S day u t (Action.Contract s) (shown (w t)) ≡ answerTo S day u t (Action.Contract s) (λ p. blankView)
-    unfolding answerTo rows accepted
-    plain t s = refl
-
-    day-settled : (t : ℕ) → answerTo S day u t Action.Day (shown (w t)) ≡ answerTo S day u t Action.Day (λ p. blankView)
-    unfolding answerTo rows accepted
-    day-settled t = refl
-
-    failure : (t s : ℕ) → answerTo S day u t (Action.Failure s) (shown (w t)) ≡ settled (failureAnswer S day fs ns ss) (failureSaid S day u t s)
-    unfolding failureSaid failureAnswer
+    failure : (t s : ℕ) →
+        answerTo S day u t (Action.Failure s) (shown (w t)) ≡ settled (failureAnswer S day fs ns ss) (apartSaid S day u t (Action.Failure s))
+    unfolding apartSaid failureAnswer
     failure t s = failure-answer S day u t s (shown (w t)) ∙
-        failure-by (failureAnswer S day fs ns ss) t s (firstOf (failureRows S day u t s) Answer.Accepted) _ refl (all-accepted S day u t s)
+        failure-by (failureAnswer S day fs ns ss) t s (answerApart S day u t (Action.Failure s)) _ refl (failure-accepted S day u t s)
 
     call-settled : (c : Call) (i : ℕ) → i ≡ placeIn (c .action) →
         answer S day u c (w (c .today)) ≡ settled (failureAnswer S day fs ns ss)
         (callSaid S day u (c .today) (c .action) (getD fs i blank) (getD ns i 0) (newestStart i (getD ns i 0) ss))
-    unfolding answer callSaid
+    unfolding answer callSaid apartSaid
     call-settled c i e = go (c .today) (c .action) e
       where
         go : (t : ℕ) (x : Action) → i ≡ placeIn x →
             answerTo S day u t x (shown (w t))
             ≡ settled (failureAnswer S day fs ns ss) (callSaid S day u t x (getD fs i blank) (getD ns i 0) (newestStart i (getD ns i 0) ss))
-        go t (Action.Contract s) k = plain t s
+        go t (Action.Contract s) k = sym (contract-apart S day u t (shown (w t)) s)
         go t (Action.Failure s) k = failure t s
         go t (Action.At p a) k = at-settled t p a i k
-        go t Action.Day k = day-settled t
+        go t Action.Day k = sym (day-apart S day u t (shown (w t)))
 
     pub answer-settled : (m : Message) (i : ℕ) → i ≡ placeOf m →
         answerOf (desk ready r) m

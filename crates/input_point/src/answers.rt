@@ -1,9 +1,7 @@
 // The answer to a message: only what it looks at is computed.
 use input_quiet::view_on;
 use line_messages::Message;
-use point_answers::contract_answer;
-use point_answers::day_answer;
-use point_answers::failure_rows;
+use point_answers::answer_apart;
 use point_answers::opening_answer;
 use point_checks::is_accepted;
 use point_effects::Ruling;
@@ -19,7 +17,7 @@ use rules::Settings;
 ghost use mathlib.Core.Path.{_≡_};
 ghost use mathlib.Core.Bool.{cond};
 ghost use Rattle.rules.specs.Rejections.{openingAnswer};
-ghost use Rattle.input_point.specs.Between.Answers.{failureSaid, callSaid, saidBy, failureAnswer};
+ghost use Rattle.input_point.specs.Between.Answers.{apartSaid, callSaid, saidBy, failureAnswer};
 
 // The answer; of a call that names a point, with what it does there; or a failure of a supplier, which no row before
 // number 30 refuses: that looks at every point.
@@ -29,13 +27,16 @@ pub enum Said {
     Fails(u64, u64),
 }
 
-// The rows of a failure before number 30.
-fn failure_said(set: Settings, day: u32, contracts: [bool; 100], today: u64, s: u64) -> Said
-    ensures { λ r. ⌜ r ≡ failureSaid set day contracts today s ⌝ }
+// A call that names no point.
+fn apart_said(set: Settings, day: u32, contracts: [bool; 100], today: u64, a: Action) -> Said
+    ensures { λ r. ⌜ r ≡ apartSaid set day contracts today a ⌝ }
 {
-    let first = failure_rows(set, day, contracts, today, s);
+    let first = answer_apart(set, day, contracts, today, a);
+    let Action::Failure { supplier } = a else {
+        return Said::Known(first);
+    };
     if is_accepted(first) {
-        return Said::Fails(today, s);
+        return Said::Fails(today, supplier);
     }
     Said::Known(first)
 }
@@ -52,15 +53,11 @@ fn call_said(
 ) -> Said
     ensures { λ r. ⌜ r ≡ callSaid set day contracts today a f count start ⌝ }
 {
-    match a {
-        Action::Contract { supplier } => Said::Known(contract_answer(day, today, supplier)),
-        Action::Failure { supplier } => failure_said(set, day, contracts, today, supplier),
-        Action::At { point, act } => {
-            let v = view_on(set, day, today, f, count, start);
-            Said::Ruled(ruling_at(set, day, contracts, today, point, act, v))
-        }
-        Action::Day => Said::Known(day_answer(day, today)),
-    }
+    let Action::At { point, act } = a else {
+        return apart_said(set, day, contracts, today, a);
+    };
+    let v = view_on(set, day, today, f, count, start);
+    Said::Ruled(ruling_at(set, day, contracts, today, point, act, v))
 }
 
 fn opening_said(ready: bool, o: Opening) -> Answer

@@ -22,17 +22,13 @@ ghost use Rattle.input_point.specs.Between.Answers.{placeIn, placeOf};
 fn place_in(a: Action) -> usize
     ensures { λ r. ⌜ (r ≡ placeIn a) × (r < 32) ⌝ }
 {
-    match a {
-        Action::Contract { supplier: _ } => 0,
-        Action::Failure { supplier: _ } => 0,
-        Action::At { point, act: _ } => {
-            if outside(1, 32, point) {
-                return 0;
-            }
-            (point - 1) as usize
-        }
-        Action::Day => 0,
+    let Action::At { point, act: _ } = a else {
+        return 0;
+    };
+    if outside(1, 32, point) {
+        return 0;
     }
+    (point - 1) as usize
 }
 
 // The place of the point that a message names; the first where it names none.

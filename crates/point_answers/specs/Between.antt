@@ -1,12 +1,12 @@
--- Between crates: the answer to a call that names a point, as a value of the code's types. Definitions only.
+-- Between crates: the answers to calls by what the code looks at. Definitions only.
 use mathlib.Core.Bool.{Bool, cond, _&&_}
 use mathlib.Core.List.{List}
 use Prim.Native.Nat.{ℕ}
 use lib.ListN.{take}
 use Rattle.rules.specs.declared.{Action.Action, Answer.Answer, PointAction.PointAction, Settings.Settings, View.View}
 use Rattle.rules.specs.Answers.{isAccepted}
-use Rattle.rules.specs.Effects.{acceptedBy, effectOf}
-use Rattle.rules.specs.Rejections.{Row, blankView, firstOf, rows, rowsAt}
+use Rattle.rules.specs.Effects.{acceptedBy, effectOf, atPoint}
+use Rattle.rules.specs.Rejections.{Row, blankView, firstOf, rows, rowsAt, answerTo}
 use Rattle.point_answers.specs.declared.{rows.Situation.Situation}
 
 -- `answerTo`, by what the checks see of the point alone.
@@ -23,3 +23,8 @@ after a r = cond (isAccepted a && r .applies) (r .gives) a
 -- The rows of a failure before its last, number 30.
 unfoldable pub failureRows : Settings → ℕ → List Bool → ℕ → ℕ → List Row
 failureRows S day u t s = take 5 (rows S day u t (Action.Failure s) (λ p. blankView))
+
+-- The answer by the rows that look at no point, as if none were enrolled. A call that names a point has no such answer:
+-- nothing is refused yet.
+unfoldable pub answerApart : Settings → ℕ → List Bool → ℕ → Action → Answer
+answerApart S day u t a = atPoint (answerTo S day u t a (λ p. blankView)) (λ p b. Answer.Accepted) a

@@ -15,7 +15,7 @@ ghost use mathlib.Core.Bool.{Bool};
 ghost use mathlib.Core.List.{List};
 ghost use Prim.Native.Nat.{ℕ};
 ghost use Rattle.rules.specs.Rejections.{firstOf, answerTo, openingAnswer};
-ghost use Rattle.point_answers.specs.Between.{failureRows};
+ghost use Rattle.point_answers.specs.Between.{failureRows, answerApart};
 
 // An opening with any numbers.
 pub fn opening_answer(o: Opening) -> Answer
@@ -30,7 +30,7 @@ pub fn opening_answer(o: Opening) -> Answer
     row(a, is_past(o.day), 20)
 }
 
-pub fn contract_answer(day: u32, today: u64, supplier: u64) -> Answer
+fn contract_answer(day: u32, today: u64, supplier: u64) -> Answer
     ensures { λ r. ⌜ ((S : Settings) (u : List Bool) (v : ℕ → View)
         → r ≡ answerTo S day u today (Action.Contract supplier) v) ⌝ }
 {
@@ -39,7 +39,7 @@ pub fn contract_answer(day: u32, today: u64, supplier: u64) -> Answer
     row(a, today < day as u64, 21)
 }
 
-pub fn day_answer(day: u32, today: u64) -> Answer
+fn day_answer(day: u32, today: u64) -> Answer
     ensures { λ r. ⌜ ((S : Settings) (u : List Bool) (v : ℕ → View) → r ≡ answerTo S day u today Action.Day v) ⌝ }
 {
     let a = row(Answer::Accepted, is_past(today), 20);
@@ -47,7 +47,7 @@ pub fn day_answer(day: u32, today: u64) -> Answer
 }
 
 // The rows of a failure before number 30, which looks at every point.
-pub fn failure_rows(set: Settings, day: u32, contracts: [bool; 100], today: u64, s: u64) -> Answer
+fn failure_rows(set: Settings, day: u32, contracts: [bool; 100], today: u64, s: u64) -> Answer
     ensures { λ r. ⌜ r ≡ firstOf (failureRows set day contracts today s) Answer.Accepted ⌝ }
 {
     let a = row(Answer::Accepted, outside(1, 99, s), 22);
@@ -55,4 +55,22 @@ pub fn failure_rows(set: Settings, day: u32, contracts: [bool; 100], today: u64,
     let a = row(a, today < day as u64, 21);
     let a = row(a, no_contract(contracts, s), 1);
     row(a, or(s == set.default as u64, s == set.resort as u64), 29)
+}
+
+// The answer to a call by the rows that look at no point.
+pub fn answer_apart(
+    set: Settings,
+    day: u32,
+    contracts: [bool; 100],
+    today: u64,
+    a: Action,
+) -> Answer
+    ensures { λ r. ⌜ r ≡ answerApart set day contracts today a ⌝ }
+{
+    match a {
+        Action::Contract { supplier } => contract_answer(day, today, supplier),
+        Action::Failure { supplier } => failure_rows(set, day, contracts, today, supplier),
+        Action::At { point: _, act: _ } => Answer::Accepted,
+        Action::Day => day_answer(day, today),
+    }
 }

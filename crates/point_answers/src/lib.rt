@@ -2,9 +2,7 @@
 mod calls;
 mod rows;
 
-pub use calls::contract_answer;
-pub use calls::day_answer;
-pub use calls::failure_rows;
+pub use calls::answer_apart;
 pub use calls::opening_answer;
 use rows::Situation;
 use rows::cancel;

@@ -1,7 +1,7 @@
 -- 02, F-1: on rising starts the search from the newest period is the walk over all of them. The statement is
 -- specs/Latest.antt.
-use Rattle.basics.proofs.Basics.{_≡_, refl, sym, _∙_, ap, true, false, Bool, cond, _||_, some, Option, none, List, []}
-use Rattle.basics.proofs.Basics.{_∷_, _++_, map, _≤_, ℕ, _-_, _+_, _<_, suc, zero, zero-add, decLe, arith, ltb, leb}
+use Rattle.basics.proofs.Basics.{_≡_, refl, ap, true, false, Bool, cond, _||_, some, Option, none, List, []}
+use Rattle.basics.proofs.Basics.{_∷_, _++_, map, _≤_, ℕ, _+_, _<_, suc, zero, zero-add, decLe, arith, ltb, leb}
 use Rattle.basics.proofs.Basics.{length, take, getD, take-suc, lt-ltb, le-leb, le-ltb, lt-leb}
 use Rattle.rules.specs.declared.{Period.Period, History.History, Register.Register}
 use Rattle.rules.specs.Pinned.Register.{noPeriod, used, newest, pointAt}

@@ -6,10 +6,9 @@ use Rattle.rules.specs.Pinned.Register.{period, history, on}
 use Rattle.rules.specs.Periods.{register}
 use Rattle.rules.specs.Scenes.{_gives_, opening, calls}
 use Rattle.rules.specs.RowExamples.Scene.{opens, ready}
-use Rattle.questions.specs.declared.{PeriodAnswer.PeriodAnswer}
-use Rattle.questions.specs.declared.{AdvanceAnswer.AdvanceAnswer}
-use Rattle.questions.specs.Pinned.Questions.{holderNumber, periodNumber, advanceNumber}
-use Rattle.questions.specs.Pinned.Questions.{held, refusedHolder, holderIn, holderAnswer, periodAnswer, advanceAnswer}
+use Rattle.questions.specs.declared.{PeriodAnswer.PeriodAnswer, AdvanceAnswer.AdvanceAnswer}
+use Rattle.questions.specs.Pinned.Questions.{holderNumber, periodNumber, advanceNumber, held, refusedHolder}
+use Rattle.questions.specs.Pinned.Questions.{holderIn, holderAnswer, periodAnswer, advanceAnswer}
 
 -- Point 32 is enrolled on day 12, served by 5 from day 15 and read on day 22; the register's day is 25.
 abbrev r : Register

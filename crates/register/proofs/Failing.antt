@@ -5,10 +5,10 @@ use Rattle.dates.specs.Dates.{lastDay}
 use Rattle.rules.specs.declared.{Point.Point, Register.Register, View.View, Settings.Settings, Answer.Answer, Action.Action}
 use Rattle.rules.specs.Answers.{isAccepted}
 use Rattle.rules.specs.Effects.{failed}
-use Rattle.rules.specs.Rejections.{_⇒_, firstOf, touches, isFull, anyPoint, shown, answer}
+use Rattle.rules.specs.Rejections.{_⇒_, touches, isFull, anyPoint, shown, answer}
 use Rattle.rules.specs.Pinned.Register.{view, pointAt, register, advanced, says, failedPoint, done, outcome, applied, on}
 use Rattle.rules.proofs.Views.{shown-in}
-use Rattle.point_answers.specs.Between.{after, failureRows}
+use Rattle.point_answers.specs.Between.{after, answerApart}
 use Rattle.point_answers.proofs.Failures.{failure-answer, failure-fits}
 use Rattle.point_effects.proofs.Accepted.{failed-noted}
 use Rattle.register.specs.Between.Calls.{broughtUp, failureFills, failedOn}
@@ -38,7 +38,7 @@ module _ (t s : ℕ) (r : Register) where
   any-fills = any-ext 32 1 _ _ (λ q lo hi. rw (shown-in every q lo (omega arith)))
 
   abbrev first : Answer
-  first = firstOf (failureRows (r .settings) (r .day) (r .contracts) t s) Answer.Accepted
+  first = answerApart (r .settings) (r .day) (r .contracts) t (Action.Failure s)
 
   says-first : says r (on t (Action.Failure s)) ≡ after first (filled ⇒ 30)
   unfolding says answer

@@ -1,6 +1,6 @@
 -- A call that looks at no point, on the whole register: contract and day.
-use Rattle.basics.proofs.Basics.{_≡_, true, false, Bool, List, _≤_, ℕ, ltb, ltb-false}
-use Rattle.rules.specs.declared.{Action.Action, Answer.Answer, Register.Register, Settings.Settings, View.View}
+use Rattle.basics.proofs.Basics.{_≡_, true, false, _≤_, ℕ, ltb, ltb-false}
+use Rattle.rules.specs.declared.{Action.Action, Answer.Answer, Register.Register, View.View}
 use Rattle.rules.specs.Answers.{isAccepted}
 use Rattle.rules.specs.Rejections.{rows, answerTo, shown, answer}
 use Rattle.rules.specs.Pinned.Register.{view, pointAt, advanced, says, done, outcome, applied, on}
@@ -9,13 +9,13 @@ use Rattle.rules.proofs.Views.{passed}
 use Rattle.register.specs.Between.Calls.{broughtUp}
 use Rattle.register.proofs.AtPoint.{advanced-on}
 
-module _ (r : Register) (t : ℕ) (c : Action) (a : Answer) (e : (S : Settings) (u : List Bool) (v : ℕ → View) → a ≡ answerTo S (r .day) u t c v) where
+module _ (r : Register) (t : ℕ) (c : Action) (a : Answer) (e : (v : ℕ → View) → a ≡ answerTo (r .settings) (r .day) (r .contracts) t c v) where
   abbrev every : ℕ → View
   every = shown (λ q. view t (pointAt q (advanced t r .points)))
 
   says-is : a ≡ says r (on t c)
   unfolding says answer
-  says-is = e (r .settings) (r .contracts) every
+  says-is = e every
 
   pub plain-refused : isAccepted a ≡ false → outcome a r ≡ applied r (on t c)
   unfolding applied
@@ -24,13 +24,13 @@ module _ (r : Register) (t : ℕ) (c : Action) (a : Answer) (e : (S : Settings) 
   pub plain-accepted : (n : Register) → n ≡ broughtUp t r → isAccepted a ≡ true → outcome a (done t c n) ≡ applied r (on t c)
   unfolding applied
   plain-accepted n m z =
-      let ok : isAccepted (answerTo (r .settings) (r .day) (r .contracts) t c every) ≡ true = rw (← (e (r .settings) (r .contracts) every)) z in
+      let ok : isAccepted (answerTo (r .settings) (r .day) (r .contracts) t c every) ≡ true = rw (← (e every)) z in
       rw (← says-is, z, m, advanced-on t r (passed (r .settings) (r .day) (r .contracts) t c every ok .0))
 
 -- The supplier of an accepted contract.
-pub contract-in : (r : Register) (t s : ℕ) (a : Answer) → ((S : Settings) (u : List Bool) (v : ℕ → View)
-    → a ≡ answerTo S (r .day) u t (Action.Contract s) v) → isAccepted a ≡ true → s ≤ 99
+pub contract-in : (r : Register) (t s : ℕ) (a : Answer) →
+    ((v : ℕ → View) → a ≡ answerTo (r .settings) (r .day) (r .contracts) t (Action.Contract s) v) → isAccepted a ≡ true → s ≤ 99
 unfolding answerTo rows
 contract-in r t s a e z =
-    let k = pass _ _ _ _ (rw (e (r .settings) (r .contracts) (λ q. view t (pointAt q (r .points)))) at z) in
+    let k = pass _ _ _ _ (rw (e (λ q. view t (pointAt q (r .points)))) at z) in
     ltb-false 99 s (neither (ltb s 1) (ltb 99 s) (k .0) .1)

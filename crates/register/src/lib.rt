@@ -4,9 +4,7 @@ mod points;
 
 pub use opening::no_register;
 pub use opening::open;
-use point_answers::contract_answer;
-use point_answers::day_answer;
-use point_answers::failure_rows;
+use point_answers::answer_apart;
 use point_checks::is_accepted;
 use point_checks::view_of;
 use point_effects::note;
@@ -37,7 +35,10 @@ fn outcome(answer: Answer, r: Register) -> Outcome
 fn contract(r: Register, today: u64, s: u64) -> Outcome
     ensures { λ x. ⌜ x ≡ applied r (on today (Action.Contract s)) ⌝ }
 {
-    let answer = contract_answer(r.day, today, s);
+    let set = r.settings;
+    let contracts = r.contracts;
+    let a = Action::Contract { supplier: s };
+    let answer = answer_apart(set, r.day, contracts, today, a);
     if !is_accepted(answer) {
         return outcome(answer, r);
     }
@@ -53,7 +54,8 @@ pub fn fail(r: Register, today: u64, s: u64) -> Outcome
 {
     let set = r.settings;
     let contracts = r.contracts;
-    let first = failure_rows(set, r.day, contracts, today, s);
+    let a = Action::Failure { supplier: s };
+    let first = answer_apart(set, r.day, contracts, today, a);
     if !is_accepted(first) {
         return outcome(first, r);
     }
@@ -91,7 +93,10 @@ fn at(r: Register, today: u64, p: u64, a: PointAction) -> Outcome
 fn new_day(r: Register, today: u64) -> Outcome
     ensures { λ x. ⌜ x ≡ applied r (on today Action.Day) ⌝ }
 {
-    let answer = day_answer(r.day, today);
+    let set = r.settings;
+    let contracts = r.contracts;
+    let a = Action::Day;
+    let answer = answer_apart(set, r.day, contracts, today, a);
     if is_accepted(answer) {
         return outcome(answer, brought_up(today, r));
     }

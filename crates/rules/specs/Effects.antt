@@ -7,6 +7,7 @@
 -- event      the event of a gas day, if one falls on it
 -- effectOf   what an accepted call does to the point that it names; `failed`: what a failure does to any point
 -- effect     what an accepted call does to point p; `signed`: to who is under contract
+-- atPoint    by the point that a call names; `failing`: by the supplier that fails
 use mathlib.Core.Bool.{Bool, true, false, cond}
 use mathlib.Core.List.{List, [], _∷_}
 use Prim.Native.Nat.{ℕ, _+_, max}
@@ -131,3 +132,17 @@ signed (Action.Contract s) u = set u s true
 signed (Action.Failure s) u = set u s false
 signed (Action.At p a) u = u
 signed Action.Day u = u
+
+-- What f makes of the point that a call names and of what happens there; x where it names none.
+abbrev pub atPoint : {A : Type 0} → A → (ℕ → PointAction → A) → Action → A
+atPoint x f (Action.Contract s) = x
+atPoint x f (Action.Failure s) = x
+atPoint x f (Action.At p a) = f p a
+atPoint x f Action.Day = x
+
+-- What f makes of the supplier that fails; x where none does.
+abbrev pub failing : {A : Type 0} → A → (ℕ → A) → Action → A
+failing x f (Action.Contract s) = x
+failing x f (Action.Failure s) = f s
+failing x f (Action.At p a) = x
+failing x f Action.Day = x

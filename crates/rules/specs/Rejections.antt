@@ -19,7 +19,7 @@ use Rattle.rules.specs.declared.{Fields.Fields, Settings.Settings, Suppl
 use Rattle.rules.specs.declared.{Pending.Pending, Opening.Opening, Call.Call, Action.Action, View.View}
 use Rattle.rules.specs.declared.{PointAction.PointAction, Answer.Answer, Effect.Effect}
 use Rattle.rules.specs.Fields.{meter, blank}
-use Rattle.rules.specs.Effects.{fieldsOf, names, acceptedBy, notice, effectiveDay, effectOf, failed}
+use Rattle.rules.specs.Effects.{fieldsOf, names, acceptedBy, notice, effectiveDay, effectOf, failed, atPoint}
 use Rattle.rules.specs.Volumes.{fullTurn}
 
 -- A point that was never enrolled.
@@ -192,10 +192,7 @@ rows S day u t Action.Day v = (isPast t ⇒ 20) ∷ (runsBack day t ⇒ 21) ∷ 
 
 -- The answer where no row applies: what the call does says it.
 unfoldable pub accepted : Settings → ℕ → Action → (ℕ → View) → Answer
-accepted S t (Action.Contract s) v = Answer.Accepted
-accepted S t (Action.Failure s) v = Answer.Accepted
-accepted S t (Action.At p a) v = acceptedBy (effectOf S t a (v p .fields))
-accepted S t Action.Day v = Answer.Accepted
+accepted S t a v = atPoint Answer.Accepted (λ p b. acceptedBy (effectOf S t b (v p .fields))) a
 
 unfoldable pub answerTo : Settings → ℕ → List Bool → ℕ → Action → (ℕ → View) → Answer
 answerTo S day u t a v = firstOf (rows S day u t a v) (accepted S t a v)

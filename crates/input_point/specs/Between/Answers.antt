@@ -9,10 +9,9 @@ use Rattle.rules.specs.declared.{View.View}
 use Rattle.rules.specs.Answers.{isAccepted}
 use Rattle.rules.specs.Fields.{blank}
 use Rattle.rules.specs.Pinned.Register.{noPeriod}
-use Rattle.rules.specs.Rejections.{blankView, firstOf, notPoint, touches, isFull, anyPoint, shown, answerTo}
-use Rattle.rules.specs.Rejections.{openingAnswer}
-use Rattle.rules.specs.Effects.{failed}
-use Rattle.point_answers.specs.Between.{failureRows}
+use Rattle.rules.specs.Rejections.{notPoint, touches, isFull, anyPoint, shown, openingAnswer}
+use Rattle.rules.specs.Effects.{failed, atPoint, failing}
+use Rattle.point_answers.specs.Between.{answerApart}
 use Rattle.point_effects.specs.Between.{rulingAt}
 use Rattle.line_messages.specs.declared.{Message.Message}
 use Rattle.input_desk.specs.Pinned.Desk.{unreadable}
@@ -21,29 +20,24 @@ use Rattle.input_point.specs.declared.{answers.Said.Said}
 
 -- The place of the point that a message names; the first where it names none.
 abbrev pub placeIn : Action → ℕ
-placeIn (Action.Contract s) = 0
-placeIn (Action.Failure s) = 0
-placeIn (Action.At p a) = cond (notPoint p) 0 (p - 1)
-placeIn Action.Day = 0
+placeIn a = atPoint 0 (λ p b. cond (notPoint p) 0 (p - 1)) a
 
 unfoldable pub placeOf : Message → ℕ
 placeOf (Message.Open o) = 0
 placeOf (Message.Ask c) = placeIn (c .action)
 placeOf Message.Unreadable = 0
 
--- The rows of a failure before number 30.
-unfoldable pub failureSaid : Settings → ℕ → List Bool → ℕ → ℕ → Said
-failureSaid S day u t s =
-    cond (isAccepted (firstOf (failureRows S day u t s) Answer.Accepted)) (Said.Fails t s)
-    (Said.Known (firstOf (failureRows S day u t s) Answer.Accepted))
+-- A call that names no point: of a failure number 30 is left open, since that looks at every point.
+unfoldable pub apartSaid : Settings → ℕ → List Bool → ℕ → Action → Said
+apartSaid S day u t a =
+    failing (Said.Known (answerApart S day u t a))
+    (λ s. cond (isAccepted (answerApart S day u t a)) (Said.Fails t s) (Said.Known (answerApart S day u t a))) a
 
--- f, n and d: the fields of the point that a call names, how many periods it has, the newest one's start. No other call
--- than one at a point looks at what a point shows.
+-- f, n and d: the fields of the point that a call names, how many periods it has, the newest one's start.
 unfoldable pub callSaid : Settings → ℕ → List Bool → ℕ → Action → Fields → ℕ → ℕ → Said
-callSaid S day u t (Action.Contract s) f n d = Said.Known (answerTo S day u t (Action.Contract s) (λ p. blankView))
-callSaid S day u t (Action.Failure s) f n d = failureSaid S day u t s
-callSaid S day u t (Action.At p a) f n d = Said.Ruled (rulingAt S day u t p a (viewOn S day t (seen f (min n 24) d)))
-callSaid S day u t Action.Day f n d = Said.Known (answerTo S day u t Action.Day (λ p. blankView))
+callSaid S day u t a f n d =
+    atPoint (apartSaid S day u t a)
+    (λ p b. Said.Ruled (rulingAt S day u t p b (viewOn S day t (seen f (min n 24) d)))) a
 
 unfoldable pub saidBy : Settings → ℕ → List Bool → Bool → Message → Fields → ℕ → ℕ → Said
 saidBy S day u ready (Message.Open o) f n d = Said.Known (cond ready unreadable (openingAnswer o))

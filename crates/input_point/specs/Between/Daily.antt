@@ -4,8 +4,9 @@ use mathlib.Core.Bool.{Bool, false, cond, _&&_}
 use mathlib.Core.List.{[]}
 use Prim.Native.Nat.{ℕ}
 use lib.Dec.{eqb, ltb}
-use Rattle.rules.specs.declared.{Action.Action, Answer.Answer, Fields.Fields, Period.Period, PointAction.PointAction}
+use Rattle.rules.specs.declared.{Answer.Answer, Fields.Fields, Period.Period, PointAction.PointAction}
 use Rattle.rules.specs.Answers.{isAccepted}
+use Rattle.rules.specs.Effects.{atPoint}
 use Rattle.rules.specs.Fields.{reading}
 use Rattle.rules.specs.Volumes.{spanTo}
 use Rattle.point_volumes.specs.Between.{bookedNewest}
@@ -37,15 +38,10 @@ dailyAt day p (PointAction.MeterChange x z b a y) n f q = Daily.Other
 dailyAt day p PointAction.OutOfService n f q = Daily.Other
 dailyAt day p (PointAction.Suspend m) n f q = Daily.Other
 
-unfoldable pub dailyIn : ℕ → Action → ℕ → Fields → Period → Daily
-dailyIn day (Action.At p a) n f q = dailyAt day p a n f q
-dailyIn day (Action.Contract s) n f q = Daily.Other
-dailyIn day (Action.Failure s) n f q = Daily.Other
-dailyIn day Action.Day n f q = Daily.Other
-
 -- The register is open, the call is of its day, and nothing falls due before the day quiet.
 unfoldable pub dailyOf : Bool → ℕ → ℕ → Message → ℕ → Fields → Period → Daily
 dailyOf ready day quiet (Message.Open o) n f q = Daily.Other
 dailyOf ready day quiet (Message.Ask c) n f q =
-    cond (ready && (eqb (c .today) day && ltb day quiet)) (dailyIn day (c .action) n f q) Daily.Other
+    cond (ready && (eqb (c .today) day && ltb day quiet))
+    (atPoint Daily.Other (λ p a. dailyAt day p a n f q) (c .action)) Daily.Other
 dailyOf ready day quiet Message.Unreadable n f q = Daily.Other

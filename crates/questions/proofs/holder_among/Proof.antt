@@ -1,6 +1,5 @@
 -- The periods are looked at from the newest down: what is left to look at decides.
-use Rattle.basics.proofs.Basics.{_≡_, sym, _∙_, ap, ap₂, _≤_, ℕ, _-_, _+_, arith, needs}
-use Rattle.questions.specs.declared.{HolderAnswer.HolderAnswer}
+use Rattle.basics.proofs.Basics.{_≡_, sym, _∙_, ap, _≤_, ℕ, _-_, _+_, arith, needs}
 use Rattle.questions.specs.Pinned.Questions.{holderAmong}
 use Rattle.questions.proofs.Walks.{among-found, among-passed, among-none}
 use Rattle.questions.proofs.holder_among.Statement.{statement}

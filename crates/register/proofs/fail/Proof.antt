@@ -6,30 +6,30 @@ use Rattle.register.proofs.fail.Tie as tie
 
 returns : tie.Need-returns
 returns c = let k = c .before .before in let a = k .before .before .before .before .args in c .outcome .ensures
-    ∙ failure-refused (a .today) (a .s) (a .r) _ (k .before .failure-rows .ensures) (sym (k .is-accepted .ensures) ∙ not-true _ (c .before .if1 .taken))
+    ∙ failure-refused (a .today) (a .s) (a .r) _ (k .before .answer-apart .ensures) (sym (k .is-accepted .ensures) ∙ not-true _ (c .before .if1 .taken))
 
 returns-2 : tie.Need-returns-2
 returns-2 c = let b = c .before .before in let n = b .before .before in let k = n .before .before in
     let a = k .before .before .before .before .args in c .outcome2 .ensures
-    ∙ failure-full (a .today) (a .s) (a .r) _ (k .before .failure-rows .ensures) (sym (k .is-accepted .ensures) ∙ not-false _ (n .before .if1 .left))
+    ∙ failure-full (a .today) (a .s) (a .r) _ (k .before .answer-apart .ensures) (sym (k .is-accepted .ensures) ∙ not-false _ (n .before .if1 .left))
     _ (n .brought-up .ensures) _ (b .any-filled .ensures) (c .before .if2 .taken)
 
 element-write-next : tie.Need-element-write-next
 element-write-next c = let n = c .before .before .before in let k = n .before .before in
     let a = k .before .before .before .before .args in
-    let w = failure-in (a .today) (a .s) (a .r) _ (k .before .failure-rows .ensures)
+    let w = failure-in (a .today) (a .s) (a .r) _ (k .before .answer-apart .ensures)
     (sym (k .is-accepted .ensures) ∙ not-false _ (n .before .if1 .left)) _ (n .brought-up .ensures) in omega (arith, w .1)
 
 cast-all-failed : tie.Need-cast-all-failed
 cast-all-failed c = let n = c .before .before .before in let k = n .before .before in
     let a = k .before .before .before .before .args in
-    let w = failure-in (a .today) (a .s) (a .r) _ (k .before .failure-rows .ensures)
+    let w = failure-in (a .today) (a .s) (a .r) _ (k .before .answer-apart .ensures)
     (sym (k .is-accepted .ensures) ∙ not-false _ (n .before .if1 .left)) _ (n .brought-up .ensures) in omega (arith, w .2)
 
 returns-3 : tie.Need-returns-3
 returns-3 c = let b = c .before .before .before in let n = b .before .before in let k = n .before .before in
     let a = k .before .before .before .before .args in c .outcome3 .ensures
-    ∙ failure-done (a .today) (a .s) (a .r) _ (k .before .failure-rows .ensures) (sym (k .is-accepted .ensures) ∙ not-false _ (n .before .if1 .left))
+    ∙ failure-done (a .today) (a .s) (a .r) _ (k .before .answer-apart .ensures) (sym (k .is-accepted .ensures) ∙ not-false _ (n .before .if1 .left))
     _ (n .brought-up .ensures) _ (b .any-filled .ensures) (c .before .before .if2 .left) _ (c .before .all-failed .ensures)
 
 pub fail-spec : {M : Type 1} → statement M

@@ -1,20 +1,11 @@
 -- Only a call at a point, on the register's own day, before anything falls due.
-use Rattle.basics.proofs.Basics.{_≡_, refl, [], _∷_, ℕ, _<_, arith, lt-ltb, le-ltb, ne-eqb, eq-eqb, not-true, not-false}
+use Rattle.basics.proofs.Basics.{[], _∷_, _<_, arith, lt-ltb, le-ltb, ne-eqb, eq-eqb, not-true, not-false}
 use Rattle.basics.proofs.Basics.{needs}
 use types.Run.{miss}
-use Rattle.rules.specs.declared.{Action.Action, Fields.Fields, Period.Period, PointAction.PointAction}
-use Rattle.input_point.specs.declared.{daily.Daily.Daily}
-use Rattle.input_point.specs.Between.Daily.{dailyIn, dailyOf}
+use Rattle.input_point.specs.Between.Daily.{dailyOf}
+use Rattle.input_point.proofs.Apart.{not-at}
 use Rattle.input_point.proofs.daily.daily_of.Statement.{statement}
 use Rattle.input_point.proofs.daily.daily_of.Tie as tie
-
-not-at : (day : ℕ) (x : Action) (n : ℕ) (f : Fields) (q : Period) → ((p : ℕ) (a : PointAction) → x ≡ Action.At p a → ⊥)
-    → Daily.Other ≡ dailyIn day x n f q
-unfolding dailyIn
-not-at day (Action.At p a) n f q h = absurd (h p a refl)
-not-at day (Action.Contract s) n f q h = refl
-not-at day (Action.Failure s) n f q h = refl
-not-at day Action.Day n f q h = refl
 
 returns-2 : tie.Need-returns-2
 unfolding dailyOf
@@ -28,7 +19,7 @@ returns-3 c = let t = c .before in let r = t .before .before in let o = r .befor
     rw (o .m .given .1, y, eq-eqb _ _ (t .if2 .left), le-ltb (s .day) (s .quiet) (omega (arith, c .if3 .taken)))
 
 returns-5 : tie.Need-returns-5
-unfolding dailyOf dailyIn
+unfolding dailyOf
 returns-5 c = let b = c .before .before in let i = b .before .before in let t = i .before in let r = t .before .before in
     let o = r .before .before in let s = o .before .before .args in let y = not-false (s .ready) (r .if1 .left) in
     let early : s .day < s .quiet = omega (arith, i .if3 .left) in
@@ -39,7 +30,7 @@ unfolding dailyOf
 returns-6 c = let i = c .before in let t = i .before in let r = t .before .before in let o = r .before .before in
     let y = not-false (o .before .before .args .ready) (r .if1 .left) in
     rw (o .m .given .1, y, eq-eqb _ _ (t .if2 .left), lt-ltb _ _ (i .if3 .left))
-    (not-at _ _ _ _ _ (λ p a e. miss (0 ∷ 1 ∷ 3 ∷ []) 2 tt (rw e at (c .match2 .keys2))))
+    (not-at _ _ (o .m .given .0 .0 .action) (λ p a e. miss (0 ∷ 1 ∷ 3 ∷ []) 2 tt (rw e at (c .match2 .keys2))))
 
 pub daily-of-spec : {M : Type 1} → statement M
 daily-of-spec = tie.close (tie.spec (λ c. search needs) (λ c. search needs) (λ c. unfold dailyOf in

@@ -1,6 +1,6 @@
 -- Document 01, "Dated examples": the proved table, a field or more for each sentence marked P, with the sentence above
--- it; the sample input of "Message lines"; and the right result beside each mistake seen. proofs/Examples.antt proves
--- it. Definitions only.
+-- it, and those that document 02 adds; the sample input of "Message lines"; and the right result beside each mistake
+-- seen. proofs/Examples.antt proves it. Definitions only.
 use mathlib.Core.Path.{_≡_}
 use mathlib.Core.Bool.{true, false}
 use mathlib.Core.List.{List, [], _∷_, _++_}

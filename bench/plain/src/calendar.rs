@@ -90,14 +90,16 @@ fn weekdays_before(day: u32) -> u32 {
     day / 7 * 5 + (day % 7).saturating_sub(2)
 }
 
-/// The eleven legal holidays of a year counted from 2000.
+/// The eleven legal holidays of a year counted from 2000; one that stands there twice counts once.
 fn holidays(year: usize) -> [u32; 11] {
     let on = |month: usize, day: u32| MONTH_STARTS[12 * year + month - 1] + day - 1;
     let easter = on(3, 1) + easter_from_march(FIRST_YEAR + year as u32) - 1;
+    // 9 May is one from 2019 on.
+    let europe_day = if FIRST_YEAR + year as u32 >= 2019 { on(5, 9) } else { on(5, 1) };
     [
         on(1, 1),
         on(5, 1),
-        on(5, 9),
+        europe_day,
         on(6, 23),
         on(8, 15),
         on(11, 1),

@@ -9,8 +9,12 @@ const LAST_YEAR: u64 = 2199;
 const MONTH_LENGTHS: [[u64; 12]; 2] =
     [[31, 28, 31, 30, 31, 30, 31, 31, 30, 31, 30, 31], [31, 29, 31, 30, 31, 30, 31, 31, 30, 31, 30, 31]];
 
-/// Holidays with a fixed month and day.
-const FIXED_HOLIDAYS: [(u64, u64); 8] = [(1, 1), (5, 1), (5, 9), (6, 23), (8, 15), (11, 1), (12, 25), (12, 26)];
+/// Holidays with a fixed month and day, the same in every year.
+const FIXED_HOLIDAYS: [(u64, u64); 7] = [(1, 1), (5, 1), (6, 23), (8, 15), (11, 1), (12, 25), (12, 26)];
+
+/// F-2: 9 May, Europe Day, is a holiday from this year on.
+const EUROPE_DAY: (u64, u64) = (5, 9);
+const EUROPE_DAY_FROM: u64 = 2019;
 
 /// Holidays as days after Easter Sunday.
 const AFTER_EASTER: [u64; 3] = [1, 39, 50];
@@ -51,11 +55,13 @@ impl Calendar {
         let last = self.day(date_number(year, 12, 31)).expect("31 December is a date");
         for day in first..=last {
             let date = self.date(day);
-            let fixed = FIXED_HOLIDAYS.contains(&(date / 100 % 100, date % 100));
+            let of_month = (date / 100 % 100, date % 100);
+            let fixed = FIXED_HOLIDAYS.contains(&of_month);
+            let europe_day = of_month == EUROPE_DAY && year >= EUROPE_DAY_FROM;
             let movable = AFTER_EASTER.iter().any(|after| day == easter_day + after);
             // Day 0 is a Saturday, day 1 a Sunday.
             let weekend = day % 7 < 2;
-            self.working.push(!weekend && !fixed && !movable);
+            self.working.push(!weekend && !fixed && !europe_day && !movable);
         }
     }
 
@@ -144,6 +150,22 @@ mod tests {
         let effective_day = calendar.day(20210525).unwrap();
         let on = |date| calendar.working_days_between(calendar.day(date).unwrap(), effective_day);
         assert_eq!((on(20210519), on(20210520)), (2, 1));
+    }
+
+    #[test]
+    fn europe_day() {
+        let calendar = Calendar::new();
+        let worked = |date| calendar.working[calendar.day(date).unwrap() as usize];
+        // Mondays to Fridays; 2002 and 2013 are Ascension.
+        for year in [2000, 2001, 2003, 2005, 2006, 2007, 2008, 2011, 2012, 2014, 2016, 2017, 2018] {
+            assert!(worked(year * 10_000 + 509), "9 May {year}");
+        }
+        for year in [2002, 2013, 2019, 2022, 2023, 2024, 2025, 2197] {
+            assert!(!worked(year * 10_000 + 509), "9 May {year}");
+        }
+        let from =
+            |first, last| calendar.working_days_between(calendar.day(first).unwrap(), calendar.day(last).unwrap());
+        assert_eq!((from(20160506, 20160510), from(20180508, 20180510), from(20190508, 20190510)), (1, 1, 0));
     }
 
     #[test]

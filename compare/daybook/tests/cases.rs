@@ -40,7 +40,7 @@ fn worked_cases() {
 
 #[test]
 fn dated_examples() {
-    folder_agrees("dated", 11);
+    folder_agrees("dated", 12);
 }
 
 #[test]

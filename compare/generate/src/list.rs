@@ -11,6 +11,9 @@ use daybook::Registre;
 /// About how many lines a list has.
 const LINES: u64 = 200;
 
+/// 9 May of 2013, which is Ascension, and of 2016, 2018 and 2019.
+const NINTHS_OF_MAY: [u64; 4] = [4_877, 5_973, 6_703, 7_068];
+
 /// What sets one list apart from another; the chances are percents.
 struct Profile {
     points: Vec<u64>,
@@ -47,6 +50,9 @@ pub fn make(seed: u64, number: u64) -> Vec<u8> {
     let registre = Registre::default();
     let mut maker = ListMaker { random, profile, settings, first_day, registre, text: Vec::new() };
     maker.before_opening();
+    if let Some(ninth) = NINTHS_OF_MAY.into_iter().find(|ninth| (first_day + 21..first_day + 71).contains(ninth)) {
+        maker.cancel_across(ninth);
+    }
     let lines = maker.random.between(LINES * 3 / 4, LINES * 5 / 4);
     for _ in 0..lines {
         maker.line();
@@ -98,10 +104,11 @@ fn profile(random: &mut Random) -> Profile {
     }
 }
 
-/// Anywhere; at either end of the calendar; before a leap day that is there or is not.
+/// Anywhere; some weeks before a 9 May; at either end of the calendar; before a leap day that is there or is not.
 fn first_day(random: &mut Random) -> u64 {
     match random.below(20) {
-        0..=9 => random.between(0, LAST_DAY - 800),
+        0..=8 => random.between(0, LAST_DAY - 800),
+        9 => random.pick(&NINTHS_OF_MAY) - random.between(21, 70),
         10 | 11 => random.below(40),
         12..=15 => LAST_DAY - random.below(900),
         16 => LAST_DAY - random.below(3),
@@ -241,6 +248,23 @@ impl ListMaker {
             day -= 1;
         }
         day
+    }
+
+    /// A request for a day soon after 9 May, and its cancel on the last day for it or the day after that.
+    fn cancel_across(&mut self, ninth: u64) {
+        let point = self.random.pick(&self.profile.points);
+        let Settings { cancel_days, default_supplier, last_resort, .. } = self.settings;
+        let requested_day = ninth + self.random.between(1, cancel_days + 1);
+        let last = self.last_day_to_cancel(requested_day);
+        let cancel_day = last + self.random.below(2);
+        for (today, call) in [
+            (self.first_day, self.enrol(point)),
+            (self.first_day, Call::IntoService { point, supplier: default_supplier, key: 77 }),
+            (requested_day - 21, Call::Request { point, supplier: last_resort, key: 77, requested_day }),
+            (cancel_day, Call::Cancel { point, supplier: last_resort }),
+        ] {
+            self.write_message(Message::Call { today, call });
+        }
     }
 
     /// A call that the state of the point invites.

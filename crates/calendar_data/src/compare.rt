@@ -76,16 +76,11 @@ fn found(list: &[u8], n: u64) -> Outcome {
         return Outcome::Nothing;
     }
     let number = written(n);
-    let is_listed = text::has_line(list, number);
-    if !is_listed && is_left_out(number) {
-        return Outcome::LeftOut;
-    }
-    tally::judged(is_listed, b"holiday by the code only: ", number)
-}
-
-// 9 May of 2000 to 2018: the file has that holiday from 2019 on only, the calendar in every year.
-fn is_left_out(number: u64) -> bool {
-    number % 10_000 == 509 && number < 2019_0000
+    tally::judged(
+        text::has_line(list, number),
+        b"holiday by the code only: ",
+        number,
+    )
 }
 
 // The date of a day as aaaammjj, 0 past the calendar's end.

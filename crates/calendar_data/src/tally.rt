@@ -4,21 +4,18 @@ use libc::STDOUT_FILENO;
 // What comparing one item came to; one that is no case of what is compared counts as nothing.
 pub(crate) enum Outcome {
     Same,
-    LeftOut,
     Different,
     Nothing,
 }
 
 pub(crate) struct Tally {
-    pub same: u64,
-    pub left_out: u64,
+    pub compared: u64,
     pub different: u64,
 }
 
 pub(crate) fn none() -> Tally {
     Tally {
-        same: 0,
-        left_out: 0,
+        compared: 0,
         different: 0,
     }
 }
@@ -26,16 +23,12 @@ pub(crate) fn none() -> Tally {
 pub(crate) fn counted(t: Tally, o: Outcome) -> Tally {
     match o {
         Outcome::Same => Tally {
-            same: std::num::wrapping_add_u64(t.same, 1),
-            ..t
-        },
-        Outcome::LeftOut => Tally {
-            left_out: std::num::wrapping_add_u64(t.left_out, 1),
+            compared: std::num::wrapping_add_u64(t.compared, 1),
             ..t
         },
         Outcome::Different => Tally {
+            compared: std::num::wrapping_add_u64(t.compared, 1),
             different: std::num::wrapping_add_u64(t.different, 1),
-            ..t
         },
         Outcome::Nothing => t,
     }
@@ -50,13 +43,11 @@ pub(crate) fn judged(is_same: bool, label: &[u8], n: u64) -> Outcome {
     Outcome::Different
 }
 
-// Prints what was compared under a label: how many were the same, were left out and differ.
+// Prints under a label how many were compared and how many of them differ.
 pub(crate) fn report(label: &[u8], t: Tally) {
     io::write_all(STDOUT_FILENO, label);
-    io::print_decimal(STDOUT_FILENO, t.same);
-    io::write_all(STDOUT_FILENO, b" the same, ");
-    io::print_decimal(STDOUT_FILENO, t.left_out);
-    io::write_all(STDOUT_FILENO, b" left out, ");
+    io::print_decimal(STDOUT_FILENO, t.compared);
+    io::write_all(STDOUT_FILENO, b" compared, ");
     io::print_decimal(STDOUT_FILENO, t.different);
     io::write_all(STDOUT_FILENO, b" different\n");
 }

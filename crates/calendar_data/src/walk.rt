@@ -38,7 +38,7 @@ pub(crate) fn dates() -> Tally {
     let mut t = tally::none();
     let mut i: u32 = 0;
     while i < 74_400 {
-        t = tally::counted(t, date(i, std::num::wrapping_add_u64(t.same, t.different)));
+        t = tally::counted(t, date(i, t.compared));
         i += 1;
     }
     t

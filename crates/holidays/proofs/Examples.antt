@@ -1,5 +1,5 @@
 -- The dated examples of Easter, holidays and working days, computed from the definitions.
-use Rattle.basics.proofs.Basics.{_≡_, refl, _&&_, not, _≤_, ℕ, arith, ltb, le-leb}
+use Rattle.basics.proofs.Basics.{_≡_, refl, ap, Bool, false, _&&_, _||_, not, _≤_, ℕ, arith, ltb, le-leb, lt-leb}
 use Rattle.dates.specs.declared.{DayAnswer.DayAnswer}
 use Rattle.dates.specs.Dates.{lastDay, weekday, leapRow, monthLength, date, next, dateOf}
 use Rattle.dates.specs.Numbers.{monthStart, yearStart, dayNumber, isReal, dayAnswer}
@@ -78,7 +78,7 @@ examples =
       january-1 = holiday-on 2020 1 1 refl;
       january-2 = holiday-on 2020 1 2 refl;
       may-1 = holiday-on 2020 5 1 refl;
-      may-9 = holiday-on 2020 5 9 refl;
+      may-9-2020 = holiday-on 2020 5 9 refl;
       may-10 = holiday-on 2020 5 10 refl;
       june-23 = holiday-on 2020 6 23 refl;
       june-24 = holiday-on 2020 6 24 refl;
@@ -90,6 +90,19 @@ examples =
       december-25 = holiday-on 2020 12 25 refl;
       december-26 = holiday-on 2020 12 26 refl;
       december-27 = holiday-on 2020 12 27 refl;
+      may-9-2017 = holiday-on 2017 5 9 refl;
+      may-9-2018 = holiday-on 2018 5 9 refl;
+      may-9-2019 = holiday-on 2019 5 9 refl;
+      worked-on-may-9-2016 = worked-on 2016 5 9 refl;
+      worked-on-may-9-2017 = worked-on 2017 5 9 refl;
+      worked-on-may-9-2018 = worked-on 2018 5 9 refl;
+      idle-on-may-9-2019 = worked-on 2019 5 9 refl;
+      may-9-before-2019 = λ y h. ap (λ (b : Bool). b || false) (lt-leb 2019 y h);
+      may-9-from-2019-on = λ y h. ap (λ (b : Bool). b || false) (le-leb 2019 y h);
+      ascension-2002 = holiday-on 2002 5 9 refl;
+      ascension-2013 = holiday-on 2013 5 9 refl;
+      idle-on-may-9-2002 = worked-on 2002 5 9 refl;
+      idle-on-may-9-2013 = worked-on 2013 5 9 refl;
       easter-sunday-2020 = holiday-on 2020 4 12 refl;
       easter-monday-2020 = holiday-on 2020 4 13 refl;
       ascension-2020 = holiday-on 2020 5 21 refl;

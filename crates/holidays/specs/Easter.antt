@@ -6,7 +6,11 @@ use mathlib.Core.Bool.{true}
 use Rattle.dates.specs.declared.{DayAnswer.DayAnswer}
 use Rattle.dates.specs.Dates.{weekday}
 use Rattle.dates.specs.Numbers.{isReal, dayNumber, dayAnswer}
-use Rattle.holidays.specs.declared.{MonthDay.MonthDay}
+
+-- A day of a month, in any year.
+pub record MonthDay : Type 0 where
+  pub month : ℕ
+  pub day : ℕ
 
 abbrev pub monthDay : ℕ → ℕ → MonthDay
 monthDay m d = record { month = m; day = d }

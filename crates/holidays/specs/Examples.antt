@@ -1,13 +1,13 @@
 -- 01, Dated examples: those of Easter, holidays and working days, each with neighbours on the other side of its rule.
 -- Definitions only: `examples` of proofs/ proves them.
-use Prim.Native.Nat.{ℕ, _≤_}
+use Prim.Native.Nat.{ℕ, _≤_, _<_}
 use mathlib.Core.Path.{_≡_}
 use mathlib.Core.Bool.{Bool, true, false}
 use Rattle.dates.specs.declared.{DayAnswer.DayAnswer}
-use Rattle.dates.specs.Dates.{lastDay}
+use Rattle.dates.specs.Dates.{lastDay, date}
 use Rattle.dates.specs.Numbers.{dayNumber, dayAnswer}
 use Rattle.holidays.specs.Easter.{monthDay, easterSunday, easterDay}
-use Rattle.holidays.specs.Holidays.{isHoliday}
+use Rattle.holidays.specs.Holidays.{isFixedHoliday, isHoliday}
 use Rattle.holidays.specs.Working.{isWorking, workingBetween, workingDays}
 
 -- A date is a holiday, a date is worked.
@@ -60,7 +60,7 @@ pub record Examples : Type 0 where
   pub january-1 : holidayOn 2020 1 1 ≡ true
   pub january-2 : holidayOn 2020 1 2 ≡ false
   pub may-1 : holidayOn 2020 5 1 ≡ true
-  pub may-9 : holidayOn 2020 5 9 ≡ true
+  pub may-9-2020 : holidayOn 2020 5 9 ≡ true
   pub may-10 : holidayOn 2020 5 10 ≡ false
   pub june-23 : holidayOn 2020 6 23 ≡ true
   pub june-24 : holidayOn 2020 6 24 ≡ false
@@ -72,6 +72,23 @@ pub record Examples : Type 0 where
   pub december-25 : holidayOn 2020 12 25 ≡ true
   pub december-26 : holidayOn 2020 12 26 ≡ true
   pub december-27 : holidayOn 2020 12 27 ≡ false
+  -- 02, F-2: "By law 9 May became a legal holiday in Luxembourg in 2019. Working days in document 01 are to follow the
+  -- year." 9 May 2016 is a Monday, of 2017 a Tuesday, of 2018 a Wednesday, of 2019 a Thursday.
+  pub may-9-2017 : holidayOn 2017 5 9 ≡ false
+  pub may-9-2018 : holidayOn 2018 5 9 ≡ false
+  pub may-9-2019 : holidayOn 2019 5 9 ≡ true
+  pub worked-on-may-9-2016 : workedOn 2016 5 9 ≡ true
+  pub worked-on-may-9-2017 : workedOn 2017 5 9 ≡ true
+  pub worked-on-may-9-2018 : workedOn 2018 5 9 ≡ true
+  pub idle-on-may-9-2019 : workedOn 2019 5 9 ≡ false
+  -- by its own row: in no year before 2019, in every year from 2019 on
+  pub may-9-before-2019 : (y : ℕ) → y < 2019 → isFixedHoliday (date y 5 9) ≡ false
+  pub may-9-from-2019-on : (y : ℕ) → 2019 ≤ y → isFixedHoliday (date y 5 9) ≡ true
+  -- and in 2002 and 2013 it is Ascension
+  pub ascension-2002 : holidayOn 2002 5 9 ≡ true
+  pub ascension-2013 : holidayOn 2013 5 9 ≡ true
+  pub idle-on-may-9-2002 : workedOn 2002 5 9 ≡ false
+  pub idle-on-may-9-2013 : workedOn 2013 5 9 ≡ false
   -- "and 1, 39 and 50 days after Easter Sunday": of 2020, 12 April
   pub easter-sunday-2020 : holidayOn 2020 4 12 ≡ false
   pub easter-monday-2020 : holidayOn 2020 4 13 ≡ true

@@ -11,22 +11,55 @@ ghost use Rattle.holidays.specs.Easter.{easterDay};
 ghost use Rattle.holidays.specs.Holidays.{fallsOn, isFixedHoliday, isAfterEaster, isHoliday};
 ghost use Rattle.holidays.specs.Working.{isWorking, workingDays};
 
-// A day of a month, in any year.
-pub struct MonthDay {
+// A holiday with a fixed date: month and day, and the first year in which it is one.
+pub struct FixedHoliday {
     pub month: u8,
     pub day: u8,
+    pub since: u16,
 }
 
-// The holidays with a fixed date.
-const FIXED: [MonthDay; 8] = [
-    MonthDay { month: 1, day: 1 },
-    MonthDay { month: 5, day: 1 },
-    MonthDay { month: 5, day: 9 },
-    MonthDay { month: 6, day: 23 },
-    MonthDay { month: 8, day: 15 },
-    MonthDay { month: 11, day: 1 },
-    MonthDay { month: 12, day: 25 },
-    MonthDay { month: 12, day: 26 },
+// The holidays with a fixed date: 9 May since 2019, all others since the calendar's first year.
+const FIXED: [FixedHoliday; 8] = [
+    FixedHoliday {
+        month: 1,
+        day: 1,
+        since: 2000,
+    },
+    FixedHoliday {
+        month: 5,
+        day: 1,
+        since: 2000,
+    },
+    FixedHoliday {
+        month: 5,
+        day: 9,
+        since: 2019,
+    },
+    FixedHoliday {
+        month: 6,
+        day: 23,
+        since: 2000,
+    },
+    FixedHoliday {
+        month: 8,
+        day: 15,
+        since: 2000,
+    },
+    FixedHoliday {
+        month: 11,
+        day: 1,
+        since: 2000,
+    },
+    FixedHoliday {
+        month: 12,
+        day: 25,
+        since: 2000,
+    },
+    FixedHoliday {
+        month: 12,
+        day: 26,
+        since: 2000,
+    },
 ];
 
 // Whether a day is a legal holiday; no number past the calendar's end is one.
@@ -86,13 +119,16 @@ fn count_working(first: u64, last: u64) -> u32
 }
 
 // Whether a row of the table falls on a date.
-fn falls_on(f: MonthDay, x: Date) -> bool
+fn falls_on(f: FixedHoliday, x: Date) -> bool
     ensures { λ r. ⌜ r ≡ fallsOn f x ⌝ }
 {
     if f.month != x.month {
         return false;
     }
-    f.day == x.day
+    if f.day != x.day {
+        return false;
+    }
+    f.since <= x.year
 }
 
 // Whether a row of the table of fixed holidays falls on a date.

@@ -1,12 +1,12 @@
 -- Three months after, and working days between, at days that lie far from the first: from their dates, since days and dates are one to one.
 -- No day is counted up to.
-use Rattle.basics.proofs.Basics.{_≡_, refl, ℕ}
+use Rattle.basics.proofs.Basics.{_≡_, refl, true, false, ℕ}
 use Rattle.dates.specs.declared.{DayAnswer.DayAnswer}
 use Rattle.dates.specs.Dates.{date, dateOf}
 use Rattle.dates.specs.Numbers.{dayAnswer}
 use Rattle.dates.specs.Months.{threeMonthsAfter}
 use Rattle.dates.proofs.OneToOne.{one-to-one}
-use Rattle.holidays.specs.Working.{workingBetween}
+use Rattle.holidays.specs.Working.{isWorking, workingBetween}
 use Rattle.rules.proofs.Computes.{calendar, workingDays}
 
 date-of : (y m d n : ℕ) → dayAnswer y m d ≡ DayAnswer.Day n → dateOf n ≡ date y m d
@@ -39,6 +39,63 @@ working-days-after-19-may = rw (date-of 2021 5 20 7810 refl, date-of 2021 5 21 7
 pub working-days-after-20-may : workingBetween 7810 7815 ≡ 1
 unfolding calendar workingDays
 working-days-after-20-may = rw (date-of 2021 5 21 7811 refl, date-of 2021 5 24 7814 refl)
+
+-- 19 April, 21 days before 10 May; 9 May; and the days up to 10 May
+pub three-months-after-april-19-2013 : threeMonthsAfter 4857 ≡ 4948
+unfolding calendar
+three-months-after-april-19-2013 = rw (date-of 2013 4 19 4857 refl)
+
+pub three-months-after-april-19-2016 : threeMonthsAfter 5953 ≡ 6044
+unfolding calendar
+three-months-after-april-19-2016 = rw (date-of 2016 4 19 5953 refl)
+
+pub three-months-after-april-19-2018 : threeMonthsAfter 6683 ≡ 6774
+unfolding calendar
+three-months-after-april-19-2018 = rw (date-of 2018 4 19 6683 refl)
+
+pub three-months-after-april-19-2019 : threeMonthsAfter 7048 ≡ 7139
+unfolding calendar
+three-months-after-april-19-2019 = rw (date-of 2019 4 19 7048 refl)
+
+pub worked-on-may-9-2013 : isWorking 4877 ≡ false
+unfolding calendar workingDays
+worked-on-may-9-2013 = rw (date-of 2013 5 9 4877 refl)
+
+pub worked-on-may-9-2016 : isWorking 5973 ≡ true
+unfolding calendar workingDays
+worked-on-may-9-2016 = rw (date-of 2016 5 9 5973 refl)
+
+pub worked-on-may-9-2018 : isWorking 6703 ≡ true
+unfolding calendar workingDays
+worked-on-may-9-2018 = rw (date-of 2018 5 9 6703 refl)
+
+pub worked-on-may-9-2019 : isWorking 7068 ≡ false
+unfolding calendar workingDays
+worked-on-may-9-2019 = rw (date-of 2019 5 9 7068 refl)
+
+pub working-days-after-may-8-2013 : workingBetween 4876 4878 ≡ 0
+unfolding calendar workingDays
+working-days-after-may-8-2013 = rw (date-of 2013 5 9 4877 refl)
+
+pub working-days-after-may-6-2016 : workingBetween 5970 5974 ≡ 1
+unfolding calendar workingDays
+working-days-after-may-6-2016 = rw (date-of 2016 5 9 5973 refl)
+
+pub working-days-after-may-9-2016 : workingBetween 5973 5974 ≡ 0
+unfolding calendar workingDays
+working-days-after-may-9-2016 = refl
+
+pub working-days-after-may-8-2018 : workingBetween 6702 6704 ≡ 1
+unfolding calendar workingDays
+working-days-after-may-8-2018 = rw (date-of 2018 5 9 6703 refl)
+
+pub working-days-after-may-8-2019 : workingBetween 7067 7069 ≡ 0
+unfolding calendar workingDays
+working-days-after-may-8-2019 = rw (date-of 2019 5 9 7068 refl)
+
+pub working-days-after-may-7-2019 : workingBetween 7066 7069 ≡ 1
+unfolding calendar workingDays
+working-days-after-may-7-2019 = rw (date-of 2019 5 8 7067 refl, date-of 2019 5 9 7068 refl)
 
 pub three-months-after-september-30-2199 : threeMonthsAfter 72956 ≡ 73047
 unfolding calendar

@@ -1,10 +1,10 @@
 -- Document 01, "Dated examples": the proved table, a field or more for each sentence marked P, with the sentence above
--- it; the sample input of "Message lines"; and the right result beside each mistake seen. proofs/Examples.antt proves
--- it. Definitions only.
+-- it, and those that document 02 adds; the sample input of "Message lines"; and the right result beside each mistake
+-- seen. proofs/Examples.antt proves it. Definitions only.
 use mathlib.Core.Path.{_≡_}
 use mathlib.Core.Bool.{true, false}
 use mathlib.Core.List.{List, [], _∷_, _++_}
-use Prim.Native.Nat.{ℕ, _+_}
+use Prim.Native.Nat.{ℕ, _+_, _-_}
 use Rattle.dates.specs.declared.{DayAnswer.DayAnswer, DateAnswer.DateAnswer}
 use Rattle.dates.specs.Dates.{date}
 use Rattle.dates.specs.Numbers.{dayAnswer, dateAnswer}
@@ -43,6 +43,17 @@ asked = served 7792 ++ (on 7793 (Action.At 1 (PointAction.Request 6 77 7815)) gi
 
 abbrev pub cancelledOn : ℕ → Answer → List Line
 cancelledOn t a = asked ++ (on t (Action.At 1 (PointAction.Cancel 6)) gives a ∷ [])
+
+-- W = 1: a request of supplier 2, made 21 days before day e, for e, and a cancel of it on day t.
+abbrev opensBefore : ℕ → Opening
+opensBefore e = opening (e - 21) 1 30 40 1 2
+
+abbrev cancelledBefore : ℕ → ℕ → Answer → List Line
+cancelledBefore e t a =
+    on (e - 21) (Action.At 1 (PointAction.Enrol 3 0 990)) gives Answer.Accepted ∷
+    on (e - 21) (Action.At 1 (PointAction.IntoService 1 77)) gives Answer.Accepted ∷
+    on (e - 21) (Action.At 1 (PointAction.Request 2 77 e)) gives Answer.AcceptedOn e ∷
+    on t (Action.At 1 (PointAction.Cancel 2)) gives a ∷ []
 
 -- Point 1, enrolled and taken over by the default supplier on day 8,000.
 abbrev defaulted : List Line
@@ -118,6 +129,24 @@ pub record PExamples : Type 0 where
   pub too-late-on-20-may : tooLate (settingsOf (opens 7792)) 7810 (Pending.Request 6 7815) ≡ true
   pub cancel-on-19-may-accepted : Plays (opens 7792) (cancelledOn 7809 Answer.Accepted)
   pub cancel-on-20-may-too-late : Plays (opens 7792) (cancelledOn 7810 (Answer.Refused 26))
+  -- 02, F-2: "In 2016 a cancellation across 9 May may now be accepted, and the day book follows the corrected calendar.
+  -- New examples on both sides of the change join the P table." W = 1, e is 10 May: in 2016 only Monday 9 May lies
+  -- after Friday 6 May and before e as a working day; on 9 May itself none is left.
+  pub may-9-2016 : dayAnswer 2016 5 9 ≡ DayAnswer.Day 5973
+  pub may-9-2016-working : isWorking 5973 ≡ true
+  pub cancel-across-may-9-2016-accepted : Plays (opensBefore 5974) (cancelledBefore 5974 5970 Answer.Accepted)
+  pub too-late-on-may-9-2016 : tooLate (settingsOf (opensBefore 5974)) 5973 (Pending.Request 2 5974) ≡ true
+  pub may-9-2018 : dayAnswer 2018 5 9 ≡ DayAnswer.Day 6703
+  pub may-9-2018-working : isWorking 6703 ≡ true
+  pub cancel-across-may-9-2018-accepted : Plays (opensBefore 6704) (cancelledBefore 6704 6702 Answer.Accepted)
+  pub may-9-2019 : dayAnswer 2019 5 9 ≡ DayAnswer.Day 7068
+  pub may-9-2019-not-working : isWorking 7068 ≡ false
+  pub cancel-across-may-9-2019-too-late : Plays (opensBefore 7069) (cancelledBefore 7069 7067 (Answer.Refused 26))
+  pub in-time-on-may-7-2019 : tooLate (settingsOf (opensBefore 7069)) 7066 (Pending.Request 2 7069) ≡ false
+  -- in 2013 it is Ascension
+  pub may-9-2013 : dayAnswer 2013 5 9 ≡ DayAnswer.Day 4877
+  pub may-9-2013-not-working : isWorking 4877 ≡ false
+  pub cancel-across-may-9-2013-too-late : Plays (opensBefore 4878) (cancelledBefore 4878 4876 (Answer.Refused 26))
   -- "V = 7, D = 10, U = 1, new holder at k = 3: 2 and 5."
   pub seven-in-ten : Plays (opens 8000) sevenInTen
   pub seven-in-ten-booked : Shows (opens 8000) sevenInTen 1 (period 8000 0 2 ∷ period 8003 5 5 ∷ []) 7

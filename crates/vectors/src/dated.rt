@@ -1,4 +1,5 @@
-// Document 01's dated examples that need no register, on the calendar's code. Those that do are the cases in dated/.
+// The dated examples of the documents that need no register, on the calendar's code. Those that do are the cases in
+// dated/.
 use crate::tally;
 use crate::tally::Tally;
 use dates::DayAnswer;
@@ -10,7 +11,8 @@ pub(crate) fn all() -> Tally {
     t = leap_days(t);
     t = moving_days(t);
     t = three_months(t);
-    days_to_cancel(t)
+    t = days_to_cancel(t);
+    ninths_of_may(t)
 }
 
 // 29 February 2020 is 7,364; there is no 29 February 2100.
@@ -87,6 +89,19 @@ fn days_to_cancel(t: Tally) -> Tally {
         late,
         1,
     )
+}
+
+// Document 02, F-2: 9 May is a holiday from 2019 on; in 2013 it is Ascension.
+fn ninths_of_may(t: Tally) -> Tally {
+    let mut after = ninth_of_may(t, b"working days on 9 May 2013: ", 2013, 0);
+    after = ninth_of_may(after, b"working days on 9 May 2016: ", 2016, 1);
+    after = ninth_of_may(after, b"working days on 9 May 2018: ", 2018, 1);
+    ninth_of_may(after, b"working days on 9 May 2019: ", 2019, 0)
+}
+
+fn ninth_of_may(t: Tally, what: &[u8], year: u64, expected: u64) -> Tally {
+    let d = day(year, 5, 9);
+    tally::told(t, what, working_days(d, d) as u64, expected)
 }
 
 fn three_months_after(n: u64) -> u64 {

@@ -59,7 +59,7 @@ pub(crate) fn judged(t: Tally, name: &[u8], way: &[u8], a: Agreed) -> Tally {
     one_more(after)
 }
 
-// What the code says, where document 01 gives a number; another one is printed beside it.
+// What the code says, where a document gives a number; another one is printed beside it.
 pub(crate) fn told(t: Tally, what: &[u8], n: u64, expected: u64) -> Tally {
     print(what);
     print_told(n);
@@ -68,7 +68,7 @@ pub(crate) fn told(t: Tally, what: &[u8], n: u64, expected: u64) -> Tally {
         print(b"\n");
         return after;
     }
-    print(b", and by document 01 ");
+    print(b", and by the document ");
     print_told(expected);
     print(b"\n");
     one_more(after)

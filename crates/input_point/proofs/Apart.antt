@@ -3,7 +3,8 @@ use Rattle.basics.proofs.Basics.{_≡_, refl, ℕ}
 use Rattle.rules.specs.declared.{Action.Action, PointAction.PointAction}
 use Rattle.rules.specs.Effects.{atPoint, failing}
 
-pub not-at : {A : Type 0} (x : A) (f : ℕ → PointAction → A) (a : Action) → ((p : ℕ) (b : PointAction) → a ≡ Action.At p b → ⊥) → x ≡ atPoint x f a
+pub not-at : {A : Type 0} (x : A) (f : ℕ → PointAction → A) (a : Action) → ((p : ℕ) (b : PointAction) → a ≡ Action.At p b → ⊥)
+    → x ≡ atPoint x f a
 not-at x f (Action.Contract s) h = refl
 not-at x f (Action.Failure s) h = refl
 not-at x f (Action.At p b) h = absurd (h p b refl)

@@ -40,62 +40,29 @@ pub working-days-after-20-may : workingBetween 7810 7815 ≡ 1
 unfolding calendar workingDays
 working-days-after-20-may = rw (date-of 2021 5 21 7811 refl, date-of 2021 5 24 7814 refl)
 
--- 19 April, 21 days before 10 May; 9 May; and the days up to 10 May
-pub three-months-after-april-19-2013 : threeMonthsAfter 4857 ≡ 4948
+-- In 2013, 2016, 2018 and 2019: three months after 19 April, which is 21 days before 10 May; 9 May; and the working days before 10 May.
+pub after-april-19 : (threeMonthsAfter 4857 ≡ 4948) × (threeMonthsAfter 5953 ≡ 6044) × (threeMonthsAfter 6683 ≡ 6774)
+    × (threeMonthsAfter 7048 ≡ 7139)
 unfolding calendar
-three-months-after-april-19-2013 = rw (date-of 2013 4 19 4857 refl)
+after-april-19 =
+    (rw (date-of 2013 4 19 4857 refl), rw (date-of 2016 4 19 5953 refl), rw (date-of 2018 4 19 6683 refl), rw (date-of 2019 4 19 7048 refl))
 
-pub three-months-after-april-19-2016 : threeMonthsAfter 5953 ≡ 6044
+ninths : (dateOf 4877 ≡ date 2013 5 9) × (dateOf 5973 ≡ date 2016 5 9) × (dateOf 6703 ≡ date 2018 5 9) × (dateOf 7068 ≡ date 2019 5 9)
 unfolding calendar
-three-months-after-april-19-2016 = rw (date-of 2016 4 19 5953 refl)
+ninths = (date-of 2013 5 9 4877 refl, date-of 2016 5 9 5973 refl, date-of 2018 5 9 6703 refl, date-of 2019 5 9 7068 refl)
 
-pub three-months-after-april-19-2018 : threeMonthsAfter 6683 ≡ 6774
-unfolding calendar
-three-months-after-april-19-2018 = rw (date-of 2018 4 19 6683 refl)
-
-pub three-months-after-april-19-2019 : threeMonthsAfter 7048 ≡ 7139
-unfolding calendar
-three-months-after-april-19-2019 = rw (date-of 2019 4 19 7048 refl)
-
-pub worked-on-may-9-2013 : isWorking 4877 ≡ false
+pub on-may-9 : (isWorking 4877 ≡ false) × (isWorking 5973 ≡ true) × (isWorking 6703 ≡ true) × (isWorking 7068 ≡ false)
 unfolding calendar workingDays
-worked-on-may-9-2013 = rw (date-of 2013 5 9 4877 refl)
+on-may-9 = (rw (ninths .0), rw (ninths .1), rw (ninths .2), rw (ninths .3))
 
-pub worked-on-may-9-2016 : isWorking 5973 ≡ true
+pub across-may-9 : (workingBetween 4876 4878 ≡ 0) × (workingBetween 5970 5974 ≡ 1) × (workingBetween 6702 6704 ≡ 1) × (workingBetween 7067 7069 ≡ 0)
 unfolding calendar workingDays
-worked-on-may-9-2016 = rw (date-of 2016 5 9 5973 refl)
+across-may-9 = (rw (ninths .0), rw (ninths .1), rw (ninths .2), rw (ninths .3))
 
-pub worked-on-may-9-2018 : isWorking 6703 ≡ true
+-- and on the other side: from 9 May 2016 on, from 7 May 2019 on
+pub beside-may-9 : (workingBetween 5973 5974 ≡ 0) × (workingBetween 7066 7069 ≡ 1)
 unfolding calendar workingDays
-worked-on-may-9-2018 = rw (date-of 2018 5 9 6703 refl)
-
-pub worked-on-may-9-2019 : isWorking 7068 ≡ false
-unfolding calendar workingDays
-worked-on-may-9-2019 = rw (date-of 2019 5 9 7068 refl)
-
-pub working-days-after-may-8-2013 : workingBetween 4876 4878 ≡ 0
-unfolding calendar workingDays
-working-days-after-may-8-2013 = rw (date-of 2013 5 9 4877 refl)
-
-pub working-days-after-may-6-2016 : workingBetween 5970 5974 ≡ 1
-unfolding calendar workingDays
-working-days-after-may-6-2016 = rw (date-of 2016 5 9 5973 refl)
-
-pub working-days-after-may-9-2016 : workingBetween 5973 5974 ≡ 0
-unfolding calendar workingDays
-working-days-after-may-9-2016 = refl
-
-pub working-days-after-may-8-2018 : workingBetween 6702 6704 ≡ 1
-unfolding calendar workingDays
-working-days-after-may-8-2018 = rw (date-of 2018 5 9 6703 refl)
-
-pub working-days-after-may-8-2019 : workingBetween 7067 7069 ≡ 0
-unfolding calendar workingDays
-working-days-after-may-8-2019 = rw (date-of 2019 5 9 7068 refl)
-
-pub working-days-after-may-7-2019 : workingBetween 7066 7069 ≡ 1
-unfolding calendar workingDays
-working-days-after-may-7-2019 = rw (date-of 2019 5 8 7067 refl, date-of 2019 5 9 7068 refl)
+beside-may-9 = (refl, rw (date-of 2019 5 8 7067 refl, ninths .3))
 
 pub three-months-after-september-30-2199 : threeMonthsAfter 72956 ≡ 73047
 unfolding calendar

@@ -11,11 +11,7 @@ use Rattle.rules.proofs.Scenes.{BothAlike, plays}
 use Rattle.rules.proofs.DatesOn.{three-months-after-may-3, three-months-after-june-1}
 use Rattle.rules.proofs.DatesOn.{three-months-after-november-30, three-months-after-8008}
 use Rattle.rules.proofs.DatesOn.{three-months-after-8009, working-days-after-19-may, working-days-after-20-may}
-use Rattle.rules.proofs.DatesOn.{three-months-after-april-19-2013, three-months-after-april-19-2016}
-use Rattle.rules.proofs.DatesOn.{three-months-after-april-19-2018, three-months-after-april-19-2019}
-use Rattle.rules.proofs.DatesOn.{worked-on-may-9-2013, worked-on-may-9-2016, worked-on-may-9-2018, worked-on-may-9-2019}
-use Rattle.rules.proofs.DatesOn.{working-days-after-may-8-2013, working-days-after-may-6-2016, working-days-after-may-9-2016}
-use Rattle.rules.proofs.DatesOn.{working-days-after-may-8-2018, working-days-after-may-7-2019, working-days-after-may-8-2019}
+use Rattle.rules.proofs.DatesOn.{after-april-19, on-may-9, across-may-9, beside-may-9}
 
 -- The working days decide whether a cancel comes too late.
 in-time-on-19-may : tooLate (settingsOf (opens 7792)) 7809 (Pending.Request 6 7815) ≡ false
@@ -70,23 +66,19 @@ p-examples =
       cancel-on-19-may-accepted = plays (rw (three-months-after-may-3, working-days-after-19-may)) alike-on-19-may;
       cancel-on-20-may-too-late = plays (rw (three-months-after-may-3, working-days-after-20-may)) alike-on-20-may;
       may-9-2016 = unfold computes in refl;
-      may-9-2016-working = worked-on-may-9-2016;
-      cancel-across-may-9-2016-accepted =
-          plays (rw (three-months-after-april-19-2016, working-days-after-may-6-2016)) (rw three-months-after-april-19-2016);
-      too-late-on-may-9-2016 = ap (λ (n : ℕ). ltb n 1) working-days-after-may-9-2016;
+      may-9-2016-working = on-may-9 .1;
+      cancel-across-may-9-2016-accepted = plays (rw (after-april-19 .1, across-may-9 .1)) (rw (after-april-19 .1));
+      too-late-on-may-9-2016 = ap (λ (n : ℕ). ltb n 1) (beside-may-9 .0);
       may-9-2018 = unfold computes in refl;
-      may-9-2018-working = worked-on-may-9-2018;
-      cancel-across-may-9-2018-accepted =
-          plays (rw (three-months-after-april-19-2018, working-days-after-may-8-2018)) (rw three-months-after-april-19-2018);
+      may-9-2018-working = on-may-9 .2;
+      cancel-across-may-9-2018-accepted = plays (rw (after-april-19 .2, across-may-9 .2)) (rw (after-april-19 .2));
       may-9-2019 = unfold computes in refl;
-      may-9-2019-not-working = worked-on-may-9-2019;
-      cancel-across-may-9-2019-too-late =
-          plays (rw (three-months-after-april-19-2019, working-days-after-may-8-2019)) (rw three-months-after-april-19-2019);
-      in-time-on-may-7-2019 = ap (λ (n : ℕ). ltb n 1) working-days-after-may-7-2019;
+      may-9-2019-not-working = on-may-9 .3;
+      cancel-across-may-9-2019-too-late = plays (rw (after-april-19 .3, across-may-9 .3)) (rw (after-april-19 .3));
+      in-time-on-may-7-2019 = ap (λ (n : ℕ). ltb n 1) (beside-may-9 .1);
       may-9-2013 = unfold computes in refl;
-      may-9-2013-not-working = worked-on-may-9-2013;
-      cancel-across-may-9-2013-too-late =
-          plays (rw (three-months-after-april-19-2013, working-days-after-may-8-2013)) (rw three-months-after-april-19-2013);
+      may-9-2013-not-working = on-may-9 .0;
+      cancel-across-may-9-2013-too-late = plays (rw (after-april-19 .0, across-may-9 .0)) (rw (after-april-19 .0));
       seven-in-ten = record { by-register = refl; by-book = refl };
       seven-in-ten-booked =
           record { periods = refl; advance = refl; starts = refl; holders = refl; volumes = refl; total = refl };

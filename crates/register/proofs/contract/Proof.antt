@@ -9,20 +9,20 @@ use Rattle.register.proofs.contract.Tie as tie
 
 returns : tie.Need-returns
 returns c = let k = c .before .before in let a = k .before .before .before .before .args in c .outcome .ensures
-    ∙ plain-refused (a .r) (a .today) (Action.Contract (a .s)) _ (λ v. k .before .answer-apart .ensures ∙ contract-apart _ _ _ _ v _)
+    ∙ plain-refused (a .r) (a .today) (Action.Contract (a .s)) (λ v. contract-apart _ _ _ _ v (a .s)) _ (k .before .answer-apart .ensures)
     (sym (k .is-accepted .ensures) ∙ not-true _ (c .before .if1 .taken))
 
 element-write-next : tie.Need-element-write-next
 element-write-next c = let k = c .before .before in let a = k .before .before .before .before .args in omega (
   arith,
-  contract-in (a .r) (a .today) (a .s) _ (λ v. k .before .answer-apart .ensures ∙ contract-apart _ _ _ _ v _)
+  contract-in (a .r) (a .today) (a .s) _ (k .before .answer-apart .ensures)
       (sym (k .is-accepted .ensures) ∙ not-false _ (c .before .if1 .left)),
 )
 
 returns-2 : tie.Need-returns-2
 unfolding done
 returns-2 c = let k = c .before .before .before in let a = k .before .before .before .before .args in c .outcome2 .ensures
-    ∙ plain-accepted (a .r) (a .today) (Action.Contract (a .s)) _ (λ v. k .before .answer-apart .ensures ∙ contract-apart _ _ _ _ v _) _
+    ∙ plain-accepted (a .r) (a .today) (Action.Contract (a .s)) (λ v. contract-apart _ _ _ _ v (a .s)) _ (k .before .answer-apart .ensures) _
     (c .before .brought-up .ensures) (sym (k .is-accepted .ensures) ∙ not-false _ (c .before .before .if1 .left))
 
 pub contract-spec : {M : Type 1} → statement M

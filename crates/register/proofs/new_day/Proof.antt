@@ -10,12 +10,12 @@ use Rattle.register.proofs.new_day.Tie as tie
 returns : tie.Need-returns
 unfolding done
 returns c = let k = c .before .before .before in let a = k .before .before .before .before .args in c .outcome .ensures
-    ∙ plain-accepted (a .r) (a .today) Action.Day _ (λ v. k .before .answer-apart .ensures ∙ day-apart _ _ _ _ v) _ (c .before .brought-up .ensures)
+    ∙ plain-accepted (a .r) (a .today) Action.Day (day-apart _ _ _ _) _ (k .before .answer-apart .ensures) _ (c .before .brought-up .ensures)
     (sym (k .is-accepted .ensures) ∙ c .before .before .if1 .taken)
 
 returns-2 : tie.Need-returns-2
 returns-2 c = let k = c .before .before in let a = k .before .before .before .before .args in c .outcome2 .ensures
-    ∙ plain-refused (a .r) (a .today) Action.Day _ (λ v. k .before .answer-apart .ensures ∙ day-apart _ _ _ _ v)
+    ∙ plain-refused (a .r) (a .today) Action.Day (day-apart _ _ _ _) _ (k .before .answer-apart .ensures)
     (sym (k .is-accepted .ensures) ∙ c .before .if1 .left)
 
 pub new-day-spec : {M : Type 1} → statement M

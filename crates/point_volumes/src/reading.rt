@@ -21,10 +21,7 @@ fn advance(last: u64, x: u64, z: u64, turn: u64) -> u64
     requires { ⌜ (x < turn) × (z ≤ 1) × (turn ≤ 100000000000) ⌝ }
     ensures { λ r. ⌜ r ≡ advanceOf last x z turn ⌝ }
 {
-    if z == 1 {
-        return less(x + turn, last);
-    }
-    less(x, last)
+    less(x + z * turn, last)
 }
 
 // V, of any numbers: nothing where the wheels do not have the index.

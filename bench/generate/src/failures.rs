@@ -14,7 +14,7 @@ pub fn write(lines: u64, mut output: impl Write) -> io::Result<()> {
     let date = dates.next().unwrap_or_default();
     writeln!(output, "set;{date};2;60;90;1;2")?;
     for point in 1..=POINTS {
-        writeln!(output, "enr;{date};{point};5;3;0")?;
+        writeln!(output, "enr;{date};{point};5;3;0;{}", if point % 4 == 0 { "2;0" } else { "1;9500" })?;
     }
     let mut written = 1 + POINTS as u64;
     let days = DAYS_A_POINT * POINTS as u64;

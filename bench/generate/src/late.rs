@@ -36,7 +36,7 @@ fn open(meters: &[Meter], date: u32, output: &mut impl Write) -> io::Result<u64>
     for (slot, meter) in meters.iter().enumerate() {
         let point = slot + 1;
         let key = 1_000 + point;
-        writeln!(output, "enr;{date};{point};{};{};{}", meter.before, meter.after, meter.index)?;
+        writeln!(output, "enr;{date};{point};{meter}")?;
         if slot % 2 == 0 {
             writeln!(output, "i;{date};{point};{key}")?;
             written += 2;
@@ -57,7 +57,7 @@ fn refused(random: &mut Random, point: usize, date: u32, output: &mut impl Write
         0 => writeln!(output, "ri;{date};{point};{date};999999999999;0"),
         1 => writeln!(output, "demcf;{date};{point};3;{};{date}", key + 1),
         2 => writeln!(output, "adc;{date};{point};5"),
-        3 => writeln!(output, "enr;{date};{point};5;3;0"),
+        3 => writeln!(output, "enr;{date};{point};5;3;0;1;9500"),
         _ => writeln!(output, "demmespc;{date};{point};5;{key}"),
     }
 }

@@ -5,6 +5,7 @@ mod failures;
 mod late;
 mod mixed;
 
+use std::fmt::{self, Display, Formatter};
 use std::io::{self, BufWriter, Write};
 use std::process::ExitCode;
 
@@ -27,19 +28,33 @@ impl Random {
     }
 }
 
-/// What the readings of a point need: wheels before and after the comma, and the last index.
+/// What the readings of a point need: wheels before and after the comma, and the last index. Three meters in four count
+/// m³ and have a factor.
 #[derive(Clone, Copy)]
 struct Meter {
     before: u32,
     after: u32,
     index: u64,
+    factor: Option<u64>,
     read_today: bool,
+}
+
+/// The fields of a new meter: wheels, index, code and factor.
+impl Display for Meter {
+    fn fmt(&self, formatter: &mut Formatter) -> fmt::Result {
+        let Meter { before, after, index, factor, .. } = self;
+        let code = if factor.is_some() { 1 } else { 2 };
+        write!(formatter, "{before};{after};{index};{code};{}", factor.unwrap_or(0))
+    }
 }
 
 impl Meter {
     fn new(random: &mut Random) -> Meter {
         let before = 4 + random.below(3) as u32;
-        Meter { before, after: random.below(4) as u32, index: random.below(10_000), read_today: true }
+        let (after, index) = (random.below(4) as u32, random.below(10_000));
+        // From the index, so that all else of an input is the same with and without these two fields.
+        let factor = if index % 4 == 0 { None } else { Some(9_000 + index % 2_001) };
+        Meter { before, after, index, factor, read_today: true }
     }
 
     /// Today's index, and whether it passed zero.
@@ -128,7 +143,7 @@ fn open(meters: &[Meter], date: u32, output: &mut impl Write) -> io::Result<u64>
     }
     for (slot, meter) in meters.iter().enumerate() {
         let point = slot + 1;
-        writeln!(output, "enr;{date};{point};{};{};{}", meter.before, meter.after, meter.index)?;
+        writeln!(output, "enr;{date};{point};{meter}")?;
         writeln!(output, "demmespc;{date};{point};{};{}", 3 + slot % 10, 1_000 + point)?;
     }
     Ok(11 + 2 * meters.len() as u64)
@@ -154,10 +169,9 @@ fn other(random: &mut Random, meters: &mut [Meter], date: u32, output: &mut impl
         331..=430 if !meters[slot].read_today => {
             let (index, zero_mark) = meters[slot].turn(random);
             meters[slot] = Meter::new(random);
-            let Meter { before, after, index: new_index, .. } = meters[slot];
-            writeln!(output, "cdt;{date};{point};{index};{zero_mark};{before};{after};{new_index}")
+            writeln!(output, "cdt;{date};{point};{index};{zero_mark};{}", meters[slot])
         }
-        331..=480 => writeln!(output, "enr;{date};{point};5;3;0"),
+        331..=480 => writeln!(output, "enr;{date};{point};5;3;0;1;9500"),
         481..=530 => writeln!(output, "ri;{date};{point};{date};999999999999;0"),
         531..=560 => writeln!(output, "ri;{date};{point};{date};0{supplier};0"),
         561..=580 => writeln!(output, "demhs;{date};{point}"),

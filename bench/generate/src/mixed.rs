@@ -70,8 +70,7 @@ fn turn(
         12 | 13 => {
             let (index, zero_mark) = meter.turn(random);
             *meter = Meter::new(random);
-            let Meter { before, after, index: fresh, .. } = *meter;
-            writeln!(output, "cdt;{date};{point};{index};{zero_mark};{before};{after};{fresh}")?;
+            writeln!(output, "cdt;{date};{point};{index};{zero_mark};{meter}")?;
         }
         14 if state.days_out < DAYS_OUT => {
             state.days_out += 1;

@@ -1,7 +1,7 @@
 //! Reading a line where it stands in the buffer.
 
 use crate::calendar::day_of;
-use crate::register::{Answer, Register, Settings};
+use crate::register::{Answer, NewMeter, Register, Settings};
 
 /// A kind of line; the order is that of the names.
 #[derive(Clone, Copy)]
@@ -137,7 +137,7 @@ impl Fields<'_> {
     }
 }
 
-/// Takes the line at `at` and moves past its line feed. Every readable line is shorter than 97 bytes.
+/// Takes the line at `at` and moves past its line feed. Every readable line is shorter than 129 bytes.
 #[inline(always)]
 pub fn take(register: &mut Option<Register>, bytes: &[u8], at: &mut usize, cache: &mut DateCache) -> (Kind, Answer) {
     let mut fields = Fields { bytes, at: *at, cache };
@@ -229,8 +229,8 @@ fn call(register: &mut Register, kind: Kind, fields: &mut Fields) -> Option<Answ
         Kind::Ctr => register.contract(today, fields.last_field()?),
         Kind::Def => register.failure(today, fields.last_field()?),
         Kind::Enr => {
-            let (point, before, after) = (fields.field()?, fields.field()?, fields.field()?);
-            register.enrol(today, point, before, after, fields.last_field()?)
+            let point = fields.field()?;
+            register.enrol(today, point, &new_meter(fields)?)
         }
         Kind::Demmespc => {
             let (point, supplier) = (fields.field()?, fields.field()?);
@@ -250,8 +250,7 @@ fn call(register: &mut Register, kind: Kind, fields: &mut Fields) -> Option<Answ
         }
         Kind::Cdt => {
             let (point, index, zero_mark) = (fields.field()?, fields.field()?, fields.field()?);
-            let (before, after) = (fields.field()?, fields.field()?);
-            register.meter_change(today, point, index, zero_mark, before, after, fields.last_field()?)
+            register.meter_change(today, point, index, zero_mark, &new_meter(fields)?)
         }
         Kind::Demmhs => register.out_of_service(today, fields.last_field()?),
         Kind::Sus => {
@@ -261,4 +260,15 @@ fn call(register: &mut Register, kind: Kind, fields: &mut Fields) -> Option<Answ
         Kind::Set | Kind::Ri | Kind::Jour | Kind::Unreadable => return None,
     };
     Some(answer)
+}
+
+/// The last five fields of an enrolment and of a meter change.
+fn new_meter(fields: &mut Fields) -> Option<NewMeter> {
+    Some(NewMeter {
+        wheels_before: fields.field()?,
+        wheels_after: fields.field()?,
+        index: fields.field()?,
+        code: fields.field()?,
+        factor: fields.last_field()?,
+    })
 }

@@ -13,7 +13,7 @@ use std::process::ExitCode;
 
 const CAPACITY: usize = 1 << 17;
 /// More bytes than this without a line feed cannot become a readable line.
-const LONGEST_KEPT: usize = 97;
+const LONGEST_KEPT: usize = 129;
 
 fn main() -> ExitCode {
     match run() {

@@ -2,12 +2,14 @@
 
 use crate::calendar::date_of;
 use crate::line::{Kind, KIND_NAMES};
-use crate::register::{Answer, Register};
+use crate::register::{Answer, Period, Register};
 use std::io::{self, StdoutLock, Write};
 
 /// The longest answer line, `demmespc;0;22;00000000`, has 23 bytes with its line feed.
 const ROOM: usize = 24;
 const CAPACITY: usize = 1 << 16;
+/// The numbers are below this, a power of two.
+const NUMBERS: usize = 64;
 
 #[derive(Clone, Copy)]
 struct Text {
@@ -18,7 +20,7 @@ struct Text {
 pub struct Output<'a> {
     to: StdoutLock<'a>,
     /// An answer without a date, for each kind and number.
-    texts: Box<[[Text; 32]; 14]>,
+    texts: Box<[[Text; NUMBERS]; 14]>,
     buffer: Box<[u8; CAPACITY]>,
     filled: usize,
 }
@@ -41,7 +43,7 @@ impl<'a> Output<'a> {
         if self.filled > CAPACITY - ROOM {
             self.flush()?;
         }
-        let text = &self.texts[kind as usize][usize::from(answer.number & 31)];
+        let text = &self.texts[kind as usize][usize::from(answer.number) & (NUMBERS - 1)];
         self.buffer[self.filled..self.filled + ROOM].copy_from_slice(&text.bytes);
         self.filled += text.length;
         if let Some(day) = answer.day {
@@ -62,11 +64,12 @@ impl<'a> Output<'a> {
     /// The closing listing.
     pub fn listing(&mut self, register: &Register) -> io::Result<()> {
         self.flush()?;
-        for (point, periods, advance) in register.listing() {
+        for (point, periods, advance, normal) in register.listing() {
             for period in periods {
-                writeln!(self.to, "{point};{};{};{}", date_of(period.start), period.holder, period.volume)?;
+                let Period { start, holder, volume, normal } = period;
+                writeln!(self.to, "{point};{};{holder};{};{}", date_of(*start), volume.0, normal.0)?;
             }
-            writeln!(self.to, "total;{point};{advance}")?;
+            writeln!(self.to, "total;{point};{};{}", advance.0, normal.0)?;
         }
         Ok(())
     }

@@ -121,11 +121,56 @@ impl Standing {
     }
 }
 
+/// A volume as the wheels count it, in thousandths.
+#[derive(Clone, Copy)]
+pub struct Raw(pub u64);
+
+/// A volume in normal cubic metres, in thousandths.
+#[derive(Clone, Copy)]
+pub struct Normal(pub u64);
+
+impl Raw {
+    /// By a factor in ten-thousandths.
+    fn converted(self, factor: u64) -> Normal {
+        Normal(self.0 * factor / 10_000)
+    }
+}
+
 #[derive(Clone, Copy)]
 pub struct Period {
     pub start: u32,
     pub holder: u8,
-    pub volume: u64,
+    pub volume: Raw,
+    pub normal: Normal,
+}
+
+/// The meter that enrolment and meter change bring, as the line gives it.
+pub struct NewMeter {
+    pub wheels_before: u64,
+    pub wheels_after: u64,
+    pub index: u64,
+    pub code: u64,
+    pub factor: u64,
+}
+
+impl NewMeter {
+    /// Number 22.
+    fn out_of_range(&self) -> bool {
+        !are_wheels(self.wheels_before, self.wheels_after) || self.code.wrapping_sub(1) > 1
+    }
+
+    /// Number 40.
+    fn false_factor(&self) -> bool {
+        if self.code == 1 {
+            self.factor.wrapping_sub(1) >= 99_999
+        } else {
+            self.factor != 0
+        }
+    }
+
+    fn full_turn(&self) -> u64 {
+        POWERS[(self.wheels_before + self.wheels_after) as usize]
+    }
 }
 
 #[derive(Clone, Copy)]
@@ -136,11 +181,14 @@ struct Point {
     key: u64,
     /// 10^w
     full_turn: u64,
-    /// Thousandths of a cubic metre in a unit of the last wheel.
+    /// Thousandths in a unit of the last wheel.
     unit: u64,
+    /// In ten-thousandths; 10,000 for a meter that counts normal cubic metres.
+    factor: u64,
     last_day: u32,
     last_index: u64,
-    advance: u64,
+    advance: Raw,
+    normal_advance: Normal,
     periods: [Period; MOST_PERIODS],
 }
 
@@ -152,10 +200,12 @@ impl Point {
         key: 0,
         full_turn: 1,
         unit: 1,
+        factor: 1,
         last_day: 0,
         last_index: 0,
-        advance: 0,
-        periods: [Period { start: 0, holder: 0, volume: 0 }; MOST_PERIODS],
+        advance: Raw(0),
+        normal_advance: Normal(0),
+        periods: [Period { start: 0, holder: 0, volume: Raw(0), normal: Normal(0) }; MOST_PERIODS],
     };
 
     fn ahead(&self, today: u32, rules: &Rules) -> Standing {
@@ -181,13 +231,15 @@ impl Point {
 
     fn write_period(&mut self) {
         let slot = usize::from(self.standing.periods) - 1;
-        self.periods[slot] = Period { start: self.standing.last_start, holder: self.standing.holder, volume: 0 };
+        let Standing { last_start: start, holder, .. } = self.standing;
+        self.periods[slot] = Period { start, holder, volume: Raw(0), normal: Normal(0) };
     }
 
-    fn fit_meter(&mut self, wheels_before: u64, wheels_after: u64, index: u64) {
-        self.full_turn = POWERS[(wheels_before + wheels_after) as usize];
-        self.unit = POWERS[3 - wheels_after as usize];
-        self.last_index = index;
+    fn fit_meter(&mut self, new: &NewMeter) {
+        self.full_turn = new.full_turn();
+        self.unit = POWERS[3 - new.wheels_after as usize];
+        self.factor = if new.code == 1 { new.factor } else { 10_000 };
+        self.last_index = new.index;
     }
 
     /// Number 28 for a reading.
@@ -201,29 +253,35 @@ impl Point {
         let from_day = self.last_day;
         self.last_day = day;
         self.last_index = index;
-        self.advance += advance * self.unit;
-        let last = usize::from(self.standing.periods) - 1;
-        if self.periods[last].start <= from_day {
-            self.periods[last].volume += advance * self.unit;
+        let total = Raw(advance * self.unit);
+        let converted = total.converted(self.factor);
+        self.advance.0 += total.0;
+        self.normal_advance.0 += converted.0;
+        let last = &mut self.periods[usize::from(self.standing.periods) - 1];
+        if last.start <= from_day {
+            last.volume.0 += total.0;
+            last.normal.0 += converted.0;
         } else {
             self.split(from_day, day, advance);
         }
     }
 
-    /// Splits an advance by days over several periods, from the latest back.
+    /// Splits an advance by days over several periods, from the latest back: each gets the difference of the totals at
+    /// its end and its start, and of these totals converted.
     fn split(&mut self, from_day: u32, to_day: u32, advance: u64) {
         let days = u64::from(to_day - from_day);
-        let mut left = advance;
+        let mut left = Raw(advance * self.unit);
+        let mut left_normal = left.converted(self.factor);
         for period in self.periods[..usize::from(self.standing.periods)].iter_mut().rev() {
             if period.start >= to_day {
                 continue;
             }
-            let before = match period.start.checked_sub(from_day) {
-                Some(days_before) => advance * u64::from(days_before) / days,
-                None => 0,
-            };
-            period.volume += (left - before) * self.unit;
-            left = before;
+            let days_before = period.start.saturating_sub(from_day);
+            let before = Raw(advance * u64::from(days_before) / days * self.unit);
+            let before_normal = before.converted(self.factor);
+            period.volume.0 += left.0 - before.0;
+            period.normal.0 += left_normal.0 - before_normal.0;
+            (left, left_normal) = (before, before_normal);
             if period.start <= from_day {
                 break;
             }
@@ -375,9 +433,12 @@ impl Register {
         })
     }
 
-    pub fn enrol(&mut self, today: u32, point: u64, wheels_before: u64, wheels_after: u64, index: u64) -> Answer {
-        if !are_wheels(wheels_before, wheels_after) {
+    pub fn enrol(&mut self, today: u32, point: u64, new: &NewMeter) -> Answer {
+        if new.out_of_range() {
             return refused(22);
+        }
+        if new.false_factor() {
+            return refused(40);
         }
         if today < self.day {
             return refused(21);
@@ -388,14 +449,14 @@ impl Register {
         if self.points[slot(point)].enrolled {
             return refused(23);
         }
-        if index >= POWERS[(wheels_before + wheels_after) as usize] {
+        if new.index >= new.full_turn() {
             return refused(28);
         }
         self.move_to(today);
         let point = &mut self.points[slot(point)];
         point.enrolled = true;
         point.last_day = today;
-        point.fit_meter(wheels_before, wheels_after, index);
+        point.fit_meter(new);
         point.name(today, 0, Supply::None, NEVER);
         ACCEPTED
     }
@@ -529,19 +590,12 @@ impl Register {
         ACCEPTED
     }
 
-    #[allow(clippy::too_many_arguments)]
-    pub fn meter_change(
-        &mut self,
-        today: u32,
-        point: u64,
-        index: u64,
-        zero_mark: u64,
-        wheels_before: u64,
-        wheels_after: u64,
-        new_index: u64,
-    ) -> Answer {
-        if zero_mark > 1 || !are_wheels(wheels_before, wheels_after) {
+    pub fn meter_change(&mut self, today: u32, point: u64, index: u64, zero_mark: u64, new: &NewMeter) -> Answer {
+        if zero_mark > 1 || new.out_of_range() {
             return refused(22);
+        }
+        if new.false_factor() {
+            return refused(40);
         }
         if today < self.day {
             return refused(21);
@@ -550,14 +604,13 @@ impl Register {
         if today <= known.last_day {
             return refused(27);
         }
-        let new_full_turn = POWERS[(wheels_before + wheels_after) as usize];
-        if known.index_disagrees(index, zero_mark) || new_index >= new_full_turn {
+        if known.index_disagrees(index, zero_mark) || new.index >= new.full_turn() {
             return refused(28);
         }
         self.move_to(today);
         let point = &mut self.points[slot(point)];
         point.book(today, index, zero_mark);
-        point.fit_meter(wheels_before, wheels_after, new_index);
+        point.fit_meter(new);
         ACCEPTED
     }
 
@@ -605,9 +658,12 @@ impl Register {
         ACCEPTED
     }
 
-    /// Each enrolled point with its periods and its advance, rising.
-    pub fn listing(&self) -> impl Iterator<Item = (usize, &[Period], u64)> {
+    /// Each enrolled point with its periods and its two advances, rising.
+    pub fn listing(&self) -> impl Iterator<Item = (usize, &[Period], Raw, Normal)> {
         let enrolled = self.points.iter().enumerate().filter(|(_, point)| point.enrolled);
-        enrolled.map(|(number, point)| (number, &point.periods[..usize::from(point.standing.periods)], point.advance))
+        enrolled.map(|(number, point)| {
+            let periods = &point.periods[..usize::from(point.standing.periods)];
+            (number, periods, point.advance, point.normal_advance)
+        })
     }
 }

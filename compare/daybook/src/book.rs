@@ -1,13 +1,16 @@
-//! 01, The day book: one cell for each point and gas day, one day at a time.
+//! 01, The day book, with 02's F-4: one cell for each point and gas day, one day at a time.
 
 use crate::calendar::{Calendar, LAST_DAY};
-use crate::line::{Call, Settings};
+use crate::line::{Call, NewMeter, Settings};
+use crate::volume::{Counts, Normal, Raw};
 
 pub const POINTS: u64 = 32;
 pub const SUPPLIERS: u64 = 99;
 pub const HIGHEST_KEY: u64 = 999_999_999;
 /// The most periods of a point.
 pub const MOST_PERIODS: u64 = 24;
+/// The highest correction factor of an m³ meter, in ten-thousandths.
+pub const HIGHEST_FACTOR: u64 = 99_999;
 /// Calendar days from a request to its earliest effective day.
 pub const NOTICE: u64 = 21;
 
@@ -31,15 +34,25 @@ pub struct Pending {
 pub struct Meter {
     pub wheels_before: u64,
     pub wheels_after: u64,
+    pub counts: Counts,
 }
 
 impl Meter {
+    /// The meter of a call that 22 and 40 let pass.
+    fn of(new: &NewMeter) -> Meter {
+        Meter {
+            wheels_before: new.wheels_before,
+            wheels_after: new.wheels_after,
+            counts: Counts::of(new.code, new.factor),
+        }
+    }
+
     /// 10^w: the number of indexes of the meter.
     pub fn full_turn(&self) -> u64 {
         10_u64.pow((self.wheels_before + self.wheels_after) as u32)
     }
 
-    /// U: thousandths of a cubic metre in a unit of the last wheel.
+    /// U: thousandths in a unit of the last wheel.
     fn unit(&self) -> u64 {
         10_u64.pow(3 - self.wheels_after as u32)
     }
@@ -82,8 +95,27 @@ struct BookedReading {
     to_day: u64,
     /// V, in units of the last wheel.
     advance: u64,
-    /// U
-    unit: u64,
+    /// The meter that was read.
+    meter: Meter,
+}
+
+impl BookedReading {
+    /// What the wheels counted from the reading before up to so many days after it.
+    fn total(&self, days: u64) -> Raw {
+        Raw::of_wheels(self.advance * days / (self.to_day - self.from_day), self.meter.unit())
+    }
+
+    /// The same in normal cubic metres.
+    fn converted_total(&self, days: u64) -> Normal {
+        self.meter.counts.converted(self.total(days))
+    }
+}
+
+/// The volumes of a day of a point.
+#[derive(Clone, Copy, Default)]
+struct DayVolume {
+    booked: Raw,
+    normal: Normal,
 }
 
 /// Accepted (number 0) or the rejection number, with the day it carries.
@@ -98,7 +130,9 @@ pub struct Answer {
 pub struct Period {
     pub start: u64,
     pub holder: u64,
-    pub volume: u64,
+    /// As the wheels count.
+    pub volume: Raw,
+    pub normal: Normal,
 }
 
 pub struct DayBook {
@@ -293,7 +327,7 @@ impl DayBook {
         match *call {
             Call::Contract { supplier } => self.under_contract[supplier as usize] = true,
             Call::Failure { supplier } => self.fail(today, supplier),
-            Call::Enrol { point: p, wheels_before, wheels_after, index } => {
+            Call::Enrol { point: p, new } => {
                 self.points[p as usize] = Some(Point {
                     enrolment: today,
                     holder: 0,
@@ -301,9 +335,9 @@ impl DayBook {
                     pending: None,
                     key: 0,
                     suspended: false,
-                    meter: Meter { wheels_before, wheels_after },
+                    meter: Meter::of(&new),
                     last_day: today,
-                    last_index: index,
+                    last_index: new.index,
                 });
                 self.name(p, today, 0);
             }
@@ -326,11 +360,11 @@ impl DayBook {
             }
             Call::Cancel { point: p, .. } => self.enrolled(p).pending = None,
             Call::Reading { point: p, day, index, zero_mark } => self.book_reading(p, day, index, zero_mark),
-            Call::MeterChange { point: p, index, zero_mark, wheels_before, wheels_after, new_index } => {
+            Call::MeterChange { point: p, index, zero_mark, new } => {
                 self.book_reading(p, today, index, zero_mark);
                 let point = self.enrolled(p);
-                point.meter = Meter { wheels_before, wheels_after };
-                point.last_index = new_index;
+                point.meter = Meter::of(&new);
+                point.last_index = new.index;
             }
             Call::OutOfService { point: p } => {
                 let point = self.enrolled(p);
@@ -370,7 +404,7 @@ impl DayBook {
             from_day: point.last_day,
             to_day: day,
             advance: index + zero_mark * point.meter.full_turn() - point.last_index,
-            unit: point.meter.unit(),
+            meter: point.meter,
         };
         point.last_day = day;
         point.last_index = index;
@@ -392,14 +426,15 @@ impl DayBook {
         }
     }
 
-    /// The first number that applies, in the order 22, 20, 21, then the lowest; 0 if none does.
+    /// The first number that applies, in the order 22, 40, 20, 21, then the lowest; 0 if none does.
     /// Number 30 looks at the state after the call and comes last by itself.
     fn rejection(&self, today: u64, call: &Call, calendar: &Calendar) -> u64 {
-        const ORDER: [u64; 18] = [22, 20, 21, 1, 2, 3, 4, 5, 6, 7, 8, 23, 24, 25, 26, 27, 28, 29];
+        const ORDER: [u64; 19] = [22, 40, 20, 21, 1, 2, 3, 4, 5, 6, 7, 8, 23, 24, 25, 26, 27, 28, 29];
         ORDER.into_iter().find(|number| self.applies(*number, today, call, calendar)).unwrap_or(0)
     }
 
-    /// 01, Rejection codes: whether a row's condition holds for the call, on the state brought up to today.
+    /// 01, Rejection codes, and 40 of 02: whether a row's condition holds for the call, on the state brought up to
+    /// today.
     fn applies(&self, number: u64, today: u64, call: &Call, calendar: &Calendar) -> bool {
         match number {
             1 => self.no_contract(call),
@@ -417,6 +452,7 @@ impl DayBook {
             28 => self.index_disagrees(call),
             29 => matches!(call, Call::Failure { supplier }
                 if *supplier == self.settings.default_supplier || *supplier == self.settings.last_resort),
+            40 => factor_out_of_range(call),
             _ => false,
         }
     }
@@ -507,13 +543,10 @@ impl DayBook {
 
     fn index_disagrees(&self, call: &Call) -> bool {
         match *call {
-            Call::Enrol { wheels_before, wheels_after, index, .. } => {
-                index >= Meter { wheels_before, wheels_after }.full_turn()
-            }
+            Call::Enrol { new, .. } => new_index_disagrees(&new),
             Call::Reading { point, index, zero_mark, .. } => self.read_index_disagrees(point, index, zero_mark),
-            Call::MeterChange { point, index, zero_mark, wheels_before, wheels_after, new_index } => {
-                self.read_index_disagrees(point, index, zero_mark)
-                    || new_index >= Meter { wheels_before, wheels_after }.full_turn()
+            Call::MeterChange { point, index, zero_mark, new } => {
+                self.read_index_disagrees(point, index, zero_mark) || new_index_disagrees(&new)
             }
             _ => false,
         }
@@ -533,26 +566,34 @@ impl DayBook {
         for (slot, row) in self.cells.iter().enumerate() {
             let cell = row[p as usize];
             if cell.marked {
-                periods.push(Period { start: self.first_day + slot as u64, holder: u64::from(cell.holder), volume: 0 });
+                let (start, holder) = (self.first_day + slot as u64, u64::from(cell.holder));
+                periods.push(Period { start, holder, volume: Raw::default(), normal: Normal::default() });
             }
             if let Some(period) = periods.last_mut() {
-                period.volume += volumes[slot];
+                period.volume += volumes[slot].booked;
+                period.normal += volumes[slot].normal;
             }
         }
         periods
     }
 
-    /// The volume of each day of a point, from the accepted readings of the list.
-    fn day_volumes(&self, p: u64) -> Vec<u64> {
-        let mut volumes = vec![0; self.cells.len()];
-        for reading in self.readings.iter().filter(|reading| reading.point == p) {
-            let days = reading.to_day - reading.from_day;
-            for k in 0..days {
-                let share = reading.advance * (k + 1) / days - reading.advance * k / days;
-                volumes[(reading.from_day + k - self.first_day) as usize] += share * reading.unit;
+    /// The volumes of each day of a point, from the accepted readings of the list: a day's part is the difference of
+    /// two totals of its reading.
+    fn day_volumes(&self, p: u64) -> Vec<DayVolume> {
+        let mut volumes = vec![DayVolume::default(); self.cells.len()];
+        for reading in self.readings_of(p) {
+            for k in 0..reading.to_day - reading.from_day {
+                let day = &mut volumes[(reading.from_day + k - self.first_day) as usize];
+                day.booked += reading.total(k + 1) - reading.total(k);
+                day.normal += reading.converted_total(k + 1) - reading.converted_total(k);
             }
         }
         volumes
+    }
+
+    /// The accepted readings and meter changes of the list that name a point.
+    fn readings_of(&self, p: u64) -> impl Iterator<Item = &BookedReading> {
+        self.readings.iter().filter(move |reading| reading.point == p)
     }
 
     /// Question: the holder of a point on a day from its enrolment to the register's day.
@@ -571,10 +612,18 @@ impl DayBook {
     }
 
     /// Question: the registered advance of a point, the sum of V times U.
-    pub fn advance(&self, p: u64) -> Option<u64> {
+    pub fn advance(&self, p: u64) -> Option<Raw> {
         self.point(p)?;
-        let of_point = self.readings.iter().filter(|reading| reading.point == p);
-        Some(of_point.map(|reading| reading.advance * reading.unit).sum())
+        Some(self.readings_of(p).map(|reading| Raw::of_wheels(reading.advance, reading.meter.unit())).sum())
+    }
+
+    /// Question: the Nm³ advance of a point, the sum of its readings' converted totals.
+    pub fn normal_advance(&self, p: u64) -> Option<Normal> {
+        self.point(p)?;
+        let converted = |reading: &BookedReading| {
+            reading.meter.counts.converted(Raw::of_wheels(reading.advance, reading.meter.unit()))
+        };
+        Some(self.readings_of(p).map(converted).sum())
     }
 }
 
@@ -598,22 +647,36 @@ fn date_incompatible(today: u64, call: &Call, calendar: &Calendar) -> bool {
         || effective_day(today, requested_day) > LAST_DAY
 }
 
+/// The index of a new meter is at or past its full turn.
+fn new_index_disagrees(new: &NewMeter) -> bool {
+    new.index >= Meter::of(new).full_turn()
+}
+
+fn factor_out_of_range(call: &Call) -> bool {
+    let (Call::Enrol { new, .. } | Call::MeterChange { new, .. }) = *call else { return false };
+    match new.code {
+        1 => new.factor == 0 || new.factor > HIGHEST_FACTOR,
+        2 => new.factor != 0,
+        _ => false,
+    }
+}
+
 fn field_out_of_range(call: &Call) -> bool {
     let false_key = |key| key == 0 || key > HIGHEST_KEY;
     let false_wheels = |before, after| before == 0 || before > 8 || after > 3;
+    let false_code = |code| code == 0 || code > 2;
+    let false_meter = |new: &NewMeter| false_wheels(new.wheels_before, new.wheels_after) || false_code(new.code);
     match *call {
         Call::Contract { supplier } | Call::Failure { supplier } | Call::Cancel { supplier, .. } => {
             !is_supplier(supplier)
         }
-        Call::Enrol { wheels_before, wheels_after, .. } => false_wheels(wheels_before, wheels_after),
+        Call::Enrol { new, .. } => false_meter(&new),
         Call::IntoService { supplier, key, .. } | Call::Request { supplier, key, .. } => {
             !is_supplier(supplier) || false_key(key)
         }
         Call::Default { key, .. } => false_key(key),
         Call::Reading { zero_mark, .. } => zero_mark > 1,
-        Call::MeterChange { zero_mark, wheels_before, wheels_after, .. } => {
-            zero_mark > 1 || false_wheels(wheels_before, wheels_after)
-        }
+        Call::MeterChange { zero_mark, new, .. } => zero_mark > 1 || false_meter(&new),
         Call::Suspend { mark, .. } => mark > 1,
         Call::OutOfService { .. } | Call::Day => false,
     }

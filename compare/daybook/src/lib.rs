@@ -1,9 +1,11 @@
-//! The day book of document 01 as a program: the literal machine, one cell for each point and gas day.
+//! The day book of document 01, with what 02 adds to it, as a program: the literal machine, one cell for each point and
+//! gas day.
 
 pub mod book;
 pub mod calendar;
 pub mod line;
 pub mod questions;
+pub mod volume;
 
 use book::{Answer, DayBook, POINTS};
 use calendar::Calendar;
@@ -50,12 +52,12 @@ impl Registre {
         let mut lines = String::new();
         let Some(book) = &self.book else { return lines };
         for p in 1..=POINTS {
-            let Some(advance) = book.advance(p) else { continue };
+            let Some((advance, normal)) = book.advance(p).zip(book.normal_advance(p)) else { continue };
             for period in book.periods(p) {
                 let start = self.calendar.date(period.start);
-                lines += &format!("{p};{start};{};{}\n", period.holder, period.volume);
+                lines += &format!("{p};{start};{};{};{}\n", period.holder, period.volume, period.normal);
             }
-            lines += &format!("total;{p};{advance}\n");
+            lines += &format!("total;{p};{advance};{normal}\n");
         }
         lines
     }
@@ -67,7 +69,7 @@ impl Registre {
         mut each: impl FnMut(&mut Self, &[u8]) -> io::Result<()>,
     ) -> io::Result<()> {
         let mut chunk = vec![0; 1 << 16];
-        // The line read so far; of an over-long one only its first 97 bytes.
+        // The line read so far; of an over-long one only its first 129 bytes.
         let mut line = Vec::with_capacity(LONGEST_LINE + 1);
         let mut begun = false;
         loop {

@@ -1,25 +1,37 @@
-//! 01, Message lines: what a line says, and the text of a message.
+//! 01, Message lines, with 02's F-4: what a line says, and the text of a message.
 
 use crate::calendar::Calendar;
 
-/// A line has at most 96 bytes without its line feed.
-pub const LONGEST_LINE: usize = 96;
+/// A line has at most 128 bytes without its line feed.
+pub const LONGEST_LINE: usize = 128;
 
 /// The fields after the kind and today, as the line gives them; dates are gas days.
 #[derive(Clone, Copy, Debug, PartialEq)]
 pub enum Call {
     Contract { supplier: u64 },
     Failure { supplier: u64 },
-    Enrol { point: u64, wheels_before: u64, wheels_after: u64, index: u64 },
+    Enrol { point: u64, new: NewMeter },
     IntoService { point: u64, supplier: u64, key: u64 },
     Default { point: u64, key: u64 },
     Request { point: u64, supplier: u64, key: u64, requested_day: u64 },
     Cancel { point: u64, supplier: u64 },
     Reading { point: u64, day: u64, index: u64, zero_mark: u64 },
-    MeterChange { point: u64, index: u64, zero_mark: u64, wheels_before: u64, wheels_after: u64, new_index: u64 },
+    MeterChange { point: u64, index: u64, zero_mark: u64, new: NewMeter },
     OutOfService { point: u64 },
     Suspend { point: u64, mark: u64 },
     Day,
+}
+
+/// The meter that enrolment and meter change bring, as the line gives it.
+#[derive(Clone, Copy, Debug, PartialEq)]
+pub struct NewMeter {
+    pub wheels_before: u64,
+    pub wheels_after: u64,
+    pub index: u64,
+    /// 1 for m³, 2 for Nm³.
+    pub code: u64,
+    /// In ten-thousandths; 0 for an Nm³ meter.
+    pub factor: u64,
 }
 
 /// The settings of an opening.
@@ -46,13 +58,13 @@ pub const KINDS: [(&str, &str); 13] = [
     ("set", "nnnnn"),
     ("ctr", "n"),
     ("def", "n"),
-    ("enr", "nnnn"),
+    ("enr", "nnnnnn"),
     ("demmespc", "nnn"),
     ("i", "nn"),
     ("demcf", "nnnd"),
     ("adc", "nn"),
     ("ri", "ndnn"),
-    ("cdt", "nnnnnn"),
+    ("cdt", "nnnnnnnn"),
     ("demmhs", "n"),
     ("sus", "nn"),
     ("jour", ""),
@@ -86,16 +98,17 @@ fn message(kind: &str, today: u64, values: &[u64]) -> Message {
         }
         ("ctr", &[supplier]) => Call::Contract { supplier },
         ("def", &[supplier]) => Call::Failure { supplier },
-        ("enr", &[point, wheels_before, wheels_after, index]) => {
-            Call::Enrol { point, wheels_before, wheels_after, index }
+        ("enr", &[point, wheels_before, wheels_after, index, code, factor]) => {
+            Call::Enrol { point, new: NewMeter { wheels_before, wheels_after, index, code, factor } }
         }
         ("demmespc", &[point, supplier, key]) => Call::IntoService { point, supplier, key },
         ("i", &[point, key]) => Call::Default { point, key },
         ("demcf", &[point, supplier, key, requested_day]) => Call::Request { point, supplier, key, requested_day },
         ("adc", &[point, supplier]) => Call::Cancel { point, supplier },
         ("ri", &[point, day, index, zero_mark]) => Call::Reading { point, day, index, zero_mark },
-        ("cdt", &[point, index, zero_mark, wheels_before, wheels_after, new_index]) => {
-            Call::MeterChange { point, index, zero_mark, wheels_before, wheels_after, new_index }
+        ("cdt", &[point, index, zero_mark, wheels_before, wheels_after, new_index, code, factor]) => {
+            let new = NewMeter { wheels_before, wheels_after, index: new_index, code, factor };
+            Call::MeterChange { point, index, zero_mark, new }
         }
         ("demmhs", &[point]) => Call::OutOfService { point },
         ("sus", &[point, mark]) => Call::Suspend { point, mark },
@@ -181,9 +194,7 @@ impl Call {
     fn fields(&self, calendar: &Calendar) -> String {
         match *self {
             Call::Contract { supplier } | Call::Failure { supplier } => format!(";{supplier}"),
-            Call::Enrol { point, wheels_before, wheels_after, index } => {
-                format!(";{point};{wheels_before};{wheels_after};{index}")
-            }
+            Call::Enrol { point, new } => format!(";{point}{}", new.fields()),
             Call::IntoService { point, supplier, key } => format!(";{point};{supplier};{key}"),
             Call::Default { point, key } => format!(";{point};{key}"),
             Call::Request { point, supplier, key, requested_day } => {
@@ -193,12 +204,19 @@ impl Call {
             Call::Reading { point, day, index, zero_mark } => {
                 format!(";{point};{};{index};{zero_mark}", calendar.date(day))
             }
-            Call::MeterChange { point, index, zero_mark, wheels_before, wheels_after, new_index } => {
-                format!(";{point};{index};{zero_mark};{wheels_before};{wheels_after};{new_index}")
+            Call::MeterChange { point, index, zero_mark, new } => {
+                format!(";{point};{index};{zero_mark}{}", new.fields())
             }
             Call::OutOfService { point } => format!(";{point}"),
             Call::Suspend { point, mark } => format!(";{point};{mark}"),
             Call::Day => String::new(),
         }
+    }
+}
+
+impl NewMeter {
+    fn fields(&self) -> String {
+        let NewMeter { wheels_before, wheels_after, index, code, factor } = self;
+        format!(";{wheels_before};{wheels_after};{index};{code};{factor}")
     }
 }

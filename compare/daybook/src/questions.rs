@@ -1,4 +1,4 @@
-//! 01, Questions: holder, period and advance, as the program `ask` prints them.
+//! 01, Questions, with 02's F-1 and F-4: holder, period and advance, as the program `ask` prints them.
 
 use crate::book::{DayBook, Period, POINTS};
 use crate::calendar::Calendar;
@@ -54,15 +54,16 @@ fn periods(book: &DayBook, point: u64) -> Vec<Period> {
     }
 }
 
-/// A period's start as a date, its holder and its volume.
+/// A period's start as a date, its holder and its two volumes.
 fn period(periods: &[Period], calendar: &Calendar, number: u64) -> String {
     let slot = (number as usize).checked_sub(1);
     let Some(period) = slot.and_then(|slot| periods.get(slot)) else { return REFUSED.to_string() };
-    format!("ok;{};{};{}", calendar.date(period.start), period.holder, period.volume)
+    format!("ok;{};{};{};{}", calendar.date(period.start), period.holder, period.volume, period.normal)
 }
 
 fn advance(book: &DayBook, point: u64) -> String {
-    book.advance(point).map_or(REFUSED.to_string(), |advance| format!("ok;{advance}"))
+    let both = book.advance(point).zip(book.normal_advance(point));
+    both.map_or(REFUSED.to_string(), |(advance, normal)| format!("ok;{advance};{normal}"))
 }
 
 /// Every question inside and just off its range; the days asked for are written as numbers.

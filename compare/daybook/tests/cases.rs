@@ -35,7 +35,7 @@ fn folder_agrees(folder: &str, at_least: usize) {
 
 #[test]
 fn worked_cases() {
-    folder_agrees("cases", 57);
+    folder_agrees("cases", 70);
 }
 
 #[test]

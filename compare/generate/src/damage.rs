@@ -129,7 +129,7 @@ fn damage_bytes(random: &mut Random, text: &str) -> Vec<u8> {
         9 => bytes.extend_from_slice(text.as_bytes()),
         10 => over_long(random, &mut bytes),
         11 => {
-            let length = random.between(1, 96);
+            let length = random.between(1, 130);
             bytes = (0..length).map(|_| random.between(11, 255) as u8).collect();
         }
         _ => bytes = random.pick(&[&b";"[..], b";;;;;", b"\0", b"\r", b"0", b"?", b"set", b"i;", b"#;set"]).to_vec(),
@@ -142,7 +142,8 @@ fn over_long(random: &mut Random, bytes: &mut Vec<u8>) {
     let length = match random.below(40) {
         0 => random.pick(&[70_000, 131_072, 65_535]),
         1..=3 => random.pick(&[4_095, 4_096, 4_097, 8_192]),
-        _ => random.pick(&[94, 95, 96, 97, 98, 127, 128, 129, 192, 255, 256, 257, 300]),
+        4..=9 => random.pick(&[192, 255, 256, 257, 300]),
+        _ => random.between(94, 131) as usize,
     };
     let filling = random.pick(b"0159;x \0");
     while bytes.len() < length {

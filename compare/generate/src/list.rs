@@ -3,9 +3,10 @@
 use crate::damage::damage;
 use crate::random::Random;
 use crate::spoil::{spoil, spoil_settings, Around};
-use daybook::book::{DayBook, Meter, Point, Points, Supply, MOST_PERIODS, POINTS};
+use daybook::book::{DayBook, Meter, Point, Points, Supply, HIGHEST_FACTOR, MOST_PERIODS, POINTS};
 use daybook::calendar::LAST_DAY;
-use daybook::line::{Call, Message, Settings};
+use daybook::line::{Call, Message, NewMeter, Settings};
+use daybook::volume::Counts;
 use daybook::Registre;
 
 /// About how many lines a list has.
@@ -26,6 +27,10 @@ struct Profile {
     due_days: u64,
     /// Weight of readings and meter changes against all else.
     metering: u64,
+    /// Chance that it is a meter change.
+    changes: u64,
+    /// Chance that a meter counts m³.
+    cubic_metres: u64,
     /// Chance of a spoiled field.
     spoiled: u64,
     /// Chance of a damaged line.
@@ -99,6 +104,8 @@ fn profile(random: &mut Random) -> Profile {
         due_days: random.pick(&[10, 25, 25, 25, 80]),
         longest_step: random.weighted(&[(40, 3), (30, 12), (25, 45), (5, 300)]),
         metering: random.weighted(&[(40, 8), (35, 25), (25, 120)]),
+        changes: random.pick(&[5, 15, 15, 50]),
+        cubic_metres: random.pick(&[10, 60, 60, 95]),
         spoiled: random.pick(&[5, 15, 15, 40]),
         damaged: random.pick(&[2, 5, 5, 30]),
     }
@@ -183,9 +190,11 @@ impl ListMaker {
         let mut call = self.call(p, points[p as usize], today);
         if self.random.percent(self.profile.spoiled) {
             let register_day = self.book().map_or(0, |book| book.day);
-            if register_day > 0 && self.random.percent(12) {
+            let runs_back = register_day > 0 && self.random.percent(12);
+            if runs_back {
                 today = register_day - self.random.between(1, register_day.min(40));
-            } else {
+            }
+            if !runs_back || self.random.percent(30) {
                 self.spoil(&mut call, &points, today);
             }
         }
@@ -275,7 +284,8 @@ impl ListMaker {
         };
         let metering = if point.last_day < today { self.profile.metering } else { 1 };
         if self.random.below(metering + 40) < metering {
-            return if self.random.percent(85) { self.reading(p, point, today) } else { self.meter_change(p, point) };
+            let is_change = self.random.percent(self.profile.changes);
+            return if is_change { self.meter_change(p, point) } else { self.reading(p, point, today) };
         }
         if point.suspended && self.random.percent(30) {
             return Call::Suspend { point: p, mark: 0 };
@@ -349,7 +359,7 @@ impl ListMaker {
             pending: None,
             key: 77,
             suspended: false,
-            meter: Meter { wheels_before: 3, wheels_after: 0 },
+            meter: Meter { wheels_before: 3, wheels_after: 0, counts: Counts::NormalCubicMetres },
             last_day: today.saturating_sub(1),
             last_index: 5,
         });
@@ -393,7 +403,20 @@ impl ListMaker {
 
     fn meter(&mut self) -> Meter {
         let wheels_before = self.random.pick(&[1, 1, 2, 3, 5, 8, 8]);
-        Meter { wheels_before, wheels_after: self.random.below(4) }
+        let wheels_after = self.random.below(4);
+        let counts = if self.random.percent(self.profile.cubic_metres) {
+            Counts::CubicMetres { factor: self.factor() }
+        } else {
+            Counts::NormalCubicMetres
+        };
+        Meter { wheels_before, wheels_after, counts }
+    }
+
+    /// A factor at an edge, one that divides awkwardly, one of everyday or any.
+    fn factor(&mut self) -> u64 {
+        let everyday = self.random.between(9_000, 11_000);
+        let anywhere = self.random.between(1, HIGHEST_FACTOR);
+        self.random.pick(&[1, HIGHEST_FACTOR, 10_000, 9_500, 9_999, 10_001, 5_000, 3_333, everyday, everyday, anywhere])
     }
 
     fn first_index(&mut self, meter: Meter) -> u64 {
@@ -403,10 +426,15 @@ impl ListMaker {
         self.random.pick(&[0, full_turn - 1, near_end, anywhere])
     }
 
-    fn enrol(&mut self, p: u64) -> Call {
+    fn new_meter(&mut self) -> NewMeter {
         let meter = self.meter();
         let index = self.first_index(meter);
-        Call::Enrol { point: p, wheels_before: meter.wheels_before, wheels_after: meter.wheels_after, index }
+        let (code, factor) = meter.counts.code_and_factor();
+        NewMeter { wheels_before: meter.wheels_before, wheels_after: meter.wheels_after, index, code, factor }
+    }
+
+    fn enrol(&mut self, p: u64) -> Call {
+        Call::Enrol { point: p, new: self.new_meter() }
     }
 
     fn put_into_service(&mut self, p: u64, point: Point) -> Call {
@@ -457,16 +485,7 @@ impl ListMaker {
 
     fn meter_change(&mut self, p: u64, point: Point) -> Call {
         let (index, zero_mark) = self.next_index(point);
-        let meter = self.meter();
-        let new_index = self.first_index(meter);
-        Call::MeterChange {
-            point: p,
-            index,
-            zero_mark,
-            wheels_before: meter.wheels_before,
-            wheels_after: meter.wheels_after,
-            new_index,
-        }
+        Call::MeterChange { point: p, index, zero_mark, new: self.new_meter() }
     }
 
     /// The last line may lack its line feed; it may also be damaged or over-long.
@@ -480,7 +499,7 @@ impl ListMaker {
                 self.text.push(b'\r');
             }
             4 => {
-                let length = self.random.pick(&[1, 96, 97, 200]);
+                let length = self.random.pick(&[1, 96, 97, 128, 129, 200]);
                 self.text.extend(std::iter::repeat_n(b'9', length));
             }
             5 => self.text.push(b'\n'),

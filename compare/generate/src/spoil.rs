@@ -1,9 +1,10 @@
 //! Changes to the fields of a readable call, each aimed at a rejection number.
 
 use crate::random::Random;
-use daybook::book::{Meter, Points};
+use daybook::book::{Meter, Points, HIGHEST_FACTOR};
 use daybook::calendar::{Calendar, LAST_DAY};
-use daybook::line::{Call, Settings};
+use daybook::line::{Call, NewMeter, Settings};
+use daybook::volume::Counts;
 
 /// The highest number of 12 digits.
 const HIGHEST: u64 = 999_999_999_999;
@@ -27,10 +28,10 @@ pub fn spoil(random: &mut Random, call: &mut Call, around: &Around) {
                 _ => random.between(1, 99),
             }
         }
-        Call::Enrol { point, wheels_before, wheels_after, index } => match random.below(4) {
-            0 => *point = any_point(random),
-            1 => spoil_wheels(random, wheels_before, wheels_after),
-            _ => *index = edge_index(random, full_turn(*wheels_before, *wheels_after), *index),
+        Call::Enrol { point, new } => match random.below(8) {
+            0 | 1 => *point = any_point(random),
+            2 => long_numbers(random, &mut [point], new),
+            _ => spoil_meter(random, new),
         },
         Call::IntoService { point, supplier, key } => match random.below(3) {
             0 => *point = any_point(random),
@@ -65,14 +66,14 @@ pub fn spoil(random: &mut Random, call: &mut Call, around: &Around) {
                 (_, None) => *day = random.between(0, LAST_DAY),
             }
         }
-        Call::MeterChange { point, index, zero_mark, wheels_before, wheels_after, new_index } => {
+        Call::MeterChange { point, index, zero_mark, new } => {
             let known = around.points.get(*point as usize).copied().flatten();
-            match (random.below(5), known) {
-                (0, _) => *point = any_point(random),
-                (1, _) => *zero_mark = random.pick(&[1 - (*zero_mark).min(1), 2, 10]),
-                (2, _) => spoil_wheels(random, wheels_before, wheels_after),
-                (3, Some(known)) => *index = edge_index(random, known.meter.full_turn(), known.last_index),
-                _ => *new_index = edge_index(random, full_turn(*wheels_before, *wheels_after), *new_index),
+            match (random.below(10), known) {
+                (0 | 1, _) => *point = any_point(random),
+                (2, _) => *zero_mark = random.pick(&[1 - (*zero_mark).min(1), 2, 10]),
+                (3, _) => long_numbers(random, &mut [point, index, zero_mark], new),
+                (4, Some(known)) => *index = edge_index(random, known.meter.full_turn(), known.last_index),
+                _ => spoil_meter(random, new),
             }
         }
         Call::OutOfService { point } => *point = any_point(random),
@@ -96,9 +97,47 @@ pub fn spoil_settings(random: &mut Random, settings: &mut Settings) {
     }
 }
 
+/// Changes a field of a new meter; a false factor often stands beside another false field.
+fn spoil_meter(random: &mut Random, new: &mut NewMeter) {
+    match random.below(7) {
+        0 => spoil_wheels(random, &mut new.wheels_before, &mut new.wheels_after),
+        1 => new.code = random.pick(&[0, 3, 4, 10, 12, HIGHEST]),
+        2 | 3 => new.factor = edge_factor(random, new.code),
+        4 => {
+            spoil_wheels(random, &mut new.wheels_before, &mut new.wheels_after);
+            new.factor = edge_factor(random, new.code);
+        }
+        5 => {
+            new.index = edge_index(random, full_turn(new), new.index);
+            new.factor = edge_factor(random, new.code);
+        }
+        _ => new.index = edge_index(random, full_turn(new), new.index),
+    }
+}
+
+/// A factor at an edge of what the code allows; most are just off it.
+fn edge_factor(random: &mut Random, code: u64) -> u64 {
+    match code {
+        1 => random.pick(&[0, 0, HIGHEST_FACTOR + 1, HIGHEST_FACTOR + 1, HIGHEST, 1, HIGHEST_FACTOR]),
+        _ => random.pick(&[1, 1, 9_500, 10_000, HIGHEST_FACTOR, HIGHEST, 0]),
+    }
+}
+
+/// Many digits in every field: the line of a meter change is readable and has up to 116 bytes.
+fn long_numbers(random: &mut Random, fields: &mut [&mut u64], new: &mut NewMeter) {
+    let digits = random.pick(&[10, 11, 12, 12]);
+    let shorter = random.pick(&[0, 30]);
+    let of_meter = [&mut new.wheels_before, &mut new.wheels_after, &mut new.index, &mut new.code, &mut new.factor];
+    for field in fields.iter_mut().map(|field| &mut **field).chain(of_meter) {
+        let lowest = 10_u64.pow(digits - 1 - u32::from(random.percent(shorter)));
+        *field = random.between(lowest, 10 * lowest - 1);
+    }
+}
+
 /// The full turn of wheels that may be spoiled themselves.
-fn full_turn(wheels_before: u64, wheels_after: u64) -> u64 {
-    Meter { wheels_before: wheels_before.min(8), wheels_after: wheels_after.min(3) }.full_turn()
+fn full_turn(new: &NewMeter) -> u64 {
+    let (wheels_before, wheels_after) = (new.wheels_before.min(8), new.wheels_after.min(3));
+    Meter { wheels_before, wheels_after, counts: Counts::NormalCubicMetres }.full_turn()
 }
 
 fn any_point(random: &mut Random) -> u64 {

@@ -8,28 +8,36 @@ pub const CAN_COME: [(&str, &[u64]); 14] = [
     ("set", &[0, 22, 31]),
     ("ctr", &[0, 21, 22, 31]),
     ("def", &[0, 1, 20, 21, 22, 29, 30, 31]),
-    ("enr", &[0, 2, 21, 22, 23, 28, 31]),
+    ("enr", &[0, 2, 21, 22, 23, 28, 31, 40]),
     ("demmespc", &[0, 1, 2, 21, 22, 24, 30, 31]),
     ("i", &[0, 2, 20, 21, 22, 24, 30, 31]),
     ("demcf", &[0, 1, 2, 3, 4, 5, 6, 7, 8, 21, 22, 30, 31]),
     ("adc", &[0, 2, 21, 22, 25, 26, 31]),
     ("ri", &[0, 2, 21, 22, 27, 28, 31]),
-    ("cdt", &[0, 2, 21, 22, 27, 28, 31]),
+    ("cdt", &[0, 2, 21, 22, 27, 28, 31, 40]),
     ("demmhs", &[0, 2, 6, 21, 30, 31]),
     ("sus", &[0, 2, 21, 22, 31]),
     ("jour", &[0, 21, 31]),
     ("?", &[31]),
 ];
 
-const NUMBERS: [u64; 21] = [0, 1, 2, 3, 4, 5, 6, 7, 8, 20, 21, 22, 23, 24, 25, 26, 27, 28, 29, 30, 31];
+const NUMBERS: [u64; 22] = [0, 1, 2, 3, 4, 5, 6, 7, 8, 20, 21, 22, 23, 24, 25, 26, 27, 28, 29, 30, 31, 40];
 
-#[derive(Clone, Default)]
+#[derive(Clone)]
 pub struct Tally {
-    /// A row for each kind, a column for each number from 0 to 31.
-    counts: [[u64; 32]; 14],
+    /// A row for each kind, a column for each number from 0 to 40.
+    counts: [[u64; 41]; 14],
     /// Points in the closing listings, and those of them with 24 periods.
     points: u64,
     full_points: u64,
+    /// Points whose two advances differ.
+    converted_points: u64,
+}
+
+impl Default for Tally {
+    fn default() -> Tally {
+        Tally { counts: [[0; 41]; 14], points: 0, full_points: 0, converted_points: 0 }
+    }
 }
 
 /// The row of a line's kind; the last is for lines of no kind.
@@ -62,6 +70,8 @@ impl Tally {
             if line.starts_with(b"total;") {
                 self.points += 1;
                 self.full_points += u64::from(periods == MOST_PERIODS);
+                let mut advances = line.split(|byte| *byte == b';').skip(2);
+                self.converted_points += u64::from(advances.next() != advances.next());
                 periods = 0;
             } else {
                 periods += 1;
@@ -75,7 +85,11 @@ impl Tally {
 
     /// How deep the lists went.
     pub fn depth(&self) -> String {
-        format!("{} points in the closing listings, {} of them with 24 periods", self.points, self.full_points)
+        let Tally { points, full_points, converted_points, .. } = self;
+        format!(
+            "{points} points in the closing listings, {full_points} of them with 24 periods, \
+             {converted_points} with an Nm³ advance of its own"
+        )
     }
 
     pub fn table(&self) -> String {

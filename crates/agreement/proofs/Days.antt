@@ -6,9 +6,9 @@ use Rattle.dates.specs.Dates.{lastDay}
 use Rattle.rules.specs.declared.{Fields.Fields, Point.Point, Register.Register, Settings.Settings, Span.Span}
 use Rattle.rules.specs.declared.{Effect.Effect}
 use Rattle.rules.specs.Effects.{event}
-use Rattle.rules.specs.Volumes.{volume}
 use Rattle.rules.specs.Pinned.Register.{entered, catchUp, register, pointAt, noPoint, advanced}
 use Rattle.rules.specs.DayBook.{cell, Page, Book, written, newDay, goOn, upToDay, look}
+use Rattle.agreement.proofs.Shares.{daysOn}
 use Rattle.agreement.proofs.Tally.{live-runs, dawn}
 use Rattle.agreement.specs.Sound.{Ahead}
 use Rattle.agreement.proofs.Jump.{onDay, daily, daily-catchUp}
@@ -25,9 +25,9 @@ module _ (S : Settings) (B : 0 < S .b) where
       let new : Page = record { fields = f; cells = cell (suc t) (f .supply .holder) false ∷ g .cells } in
       let told : Told (suc t) l n new r = record {
         same = x .same;
-        firm = firm-later (x .firm);
+        firm = λ y. firm-later (x .firm y);
         live = (refl, live-runs t (g .cells) (x .live));
-        told = x .told ∙ sym (dawn (volume l) (suc t) (f .supply .holder) (g .cells) (x .still (suc t) (omega (arith, h .fine .past))));
+        told = λ y. x .told y ∙ sym (dawn (daysOn y l) (suc t) (f .supply .holder) (g .cells) (x .still y (suc t) (omega (arith, h .fine .past))));
         still = x .still;
         sum = x .sum;
         held = (refl, x .held);

@@ -8,20 +8,20 @@ use Rattle.rules.specs.declared.{Fields.Fields, Settings.Settings, Supply.Suppl
 use Rattle.rules.specs.declared.{Meter.Meter, Reading.Reading, Span.Span, Due.Due, Effect.Effect}
 use Rattle.rules.specs.Fields.{supply, fields, withSupply, unsupplied}
 use Rattle.rules.specs.Effects.{fieldsOf, names, spansIn, event}
-use Rattle.rules.specs.Volumes.{registered}
+use Rattle.rules.specs.Volumes.{summed}
 use Rattle.rules.specs.declared.{View.View}
 use Rattle.rules.specs.Rejections.{due, marksAfter}
-use Rattle.agreement.proofs.Shares.{All}
+use Rattle.agreement.proofs.Shares.{All, wholesOn}
 use Rattle.agreement.proofs.Jump.{Day, quiet, falls, on-day}
-use Rattle.agreement.specs.Sound.{perDay, Ahead}
+use Rattle.agreement.specs.Sound.{Side, perDay, FactorFits, Ahead}
 
 -- An accepted meter.
-abbrev pub Wheels : Meter → Type 0
-Wheels m = (m .before ≤ 8) × (m .after ≤ 3)
+abbrev pub Fitted : Meter → Type 0
+Fitted m = (m .before ≤ 8) × (m .after ≤ 3) × FactorFits (m .code)
 
 pub record FineAt (t : ℕ) (f : Fields) (marks : ℕ) : Type 0 where
   pub past : f .reading .day ≤ t
-  pub wheels : Wheels (f .meter)
+  pub meter : Fitted (f .meter)
   pub ahead : Ahead t (f .supply)
   pub fit : marks + due (f .supply) ≤ 24
   pub blank : f .enrolled ≡ false → (marks ≡ 0) × (f .supply ≡ unsupplied)
@@ -48,8 +48,8 @@ pub record Good (t : ℕ) (v : View) (e : Effect) (sp : List Span) (j : List ℕ
   pub hi : fieldsOf e .reading .day ≤ t
   pub made : All (λ (s : Span). (s .from ≡ v .fields .reading .day) × (s .from < s .to) × (s .to ≤ fieldsOf e .reading .day)) sp
   pub once : (v .fields .enrolled ≡ false) → sp ≡ []
-  pub most : registered sp + perDay * v .fields .reading .day ≤ perDay * fieldsOf e .reading .day
-  pub wheels : Wheels (fieldsOf e .meter)
+  pub most : (x : Side) → wholesOn x sp + perDay x * v .fields .reading .day ≤ perDay x * fieldsOf e .reading .day
+  pub meter : Fitted (fieldsOf e .meter)
   pub ahead : Ahead t (fieldsOf e .supply)
   pub keeps : Keeps (v .fields) (names e) (fieldsOf e)
   pub enrols : Enrols t (v .fields) (names e) (fieldsOf e) j
@@ -69,12 +69,12 @@ pub not-blank : {P : Type 0} {b : Bool} → b ≡ true → b ≡ false → P
 not-blank y n = absurd (true≢false (sym y ∙ n))
 
 -- An effect that reads no meter.
-pub unread : (t : ℕ) (v : View) → v .fields .reading .day ≤ t → Wheels (v .fields .meter) → (e : Effect) (j : List ℕ)
+pub unread : (t : ℕ) (v : View) → v .fields .reading .day ≤ t → Fitted (v .fields .meter) → (e : Effect) (j : List ℕ)
     → fieldsOf e .reading ≡ v .fields .reading → fieldsOf e .meter ≡ v .fields .meter → Ahead t (fieldsOf e .supply)
     → Keeps (v .fields) (names e) (fieldsOf e) → Enrols t (v .fields) (names e) (fieldsOf e) j
     → marksAfter v e + due (fieldsOf e .supply) ≤ 24
     → (fieldsOf e .enrolled ≡ false → (marksAfter v e ≡ 0) × (fieldsOf e .supply ≡ unsupplied)) → Good t v e [] j
-unfolding registered
+unfolding summed
 unread t v p w e j r m a k n f b =
     let d : fieldsOf e .reading .day ≡ v .fields .reading .day = ap (λ (x : Reading). x .day) r in
     record {
@@ -82,8 +82,8 @@ unread t v p w e j r m a k n f b =
       hi = omega arith;
       made = tt;
       once = λ z. refl;
-      most = omega arith;
-      wheels = rw m w;
+      most = λ x. rw d (omega arith);
+      meter = rw m w;
       ahead = a;
       keeps = k;
       enrols = n;
@@ -95,11 +95,11 @@ unread t v p w e j r m a k n f b =
 pub unchanged : (t : ℕ) (v : View) → Fine t v → (g : Fields) → g .reading ≡ v .fields .reading → g .meter ≡ v .fields .meter
     → g .supply ≡ v .fields .supply → g .enrolled ≡ v .fields .enrolled → Good t v (Effect.Keep g) [] []
 unchanged t v h g r m s n =
-    unread t v (h .past) (h .wheels) (Effect.Keep g) [] r m (rw s (h .ahead)) (ap (λ (x : Supply). x .holder) s) (n, refl) (rw s (h .fit))
+    unread t v (h .past) (h .meter) (Effect.Keep g) [] r m (rw s (h .ahead)) (ap (λ (x : Supply). x .holder) s) (n, refl) (rw s (h .fit))
     (λ z. (h .blank (sym n ∙ z) .0, s ∙ h .blank (sym n ∙ z) .1))
 
 -- At an enrolled point: a holder is named.
-pub naming : (t : ℕ) (v : View) → v .fields .reading .day ≤ t → Wheels (v .fields .meter) → v .fields .enrolled ≡ true → (g : Fields)
+pub naming : (t : ℕ) (v : View) → v .fields .reading .day ≤ t → Fitted (v .fields .meter) → v .fields .enrolled ≡ true → (g : Fields)
     → g .reading ≡ v .fields .reading → g .meter ≡ v .fields .meter → g .enrolled ≡ v .fields .enrolled → Ahead t (g .supply)
     → marksAfter v (Effect.Name g) + due (g .supply) ≤ 24 → Good t v (Effect.Name g) [] []
 naming t v p w y g r m n a f =
@@ -123,12 +123,12 @@ event-good S B t v h = go _ (on-day S B (suc t) t (omega arith) (v .fields) (v .
     go e (quiet i a) = rw i (
       refl,
       unchanged (suc t) v
-          (record { past = omega (arith, h .past); wheels = h .wheels; ahead = a; fit = h .fit; blank = h .blank }) (v .fields) refl refl refl refl,
+          (record { past = omega (arith, h .past); meter = h .meter; ahead = a; fit = h .fit; blank = h .blank }) (v .fields) refl refl refl refl,
     )
     go e (falls s i j a z lt) = let g = withSupply (v .fields) s in
         rw j (
           refl,
-          naming (suc t) v (omega (arith, h .past)) (h .wheels)
+          naming (suc t) v (omega (arith, h .past)) (h .meter)
               (enrolled-by t v h (λ q. let w : due (v .fields .supply) ≡ 0 = ap due q in omega arith)) g refl refl refl a
               (omega (arith, h .fit, marks-most v (Effect.Name g))),
         )

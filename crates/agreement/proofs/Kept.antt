@@ -1,25 +1,26 @@
 -- Every accepted call leaves a fine point behind (`Good`), whichever point one looks at.
 use Rattle.basics.proofs.Basics.{_≡_, refl, sym, _∙_, ap, subst, true, false, Bool, cond, _&&_, false≢true, _||_, not}
 use Rattle.basics.proofs.Basics.{List, [], _∷_, _≤_, ℕ, _-_, _+_, _<_, suc, zero, _*_, min, max, le-trans}
-use Rattle.basics.proofs.Basics.{mul-le-mul-right, pow-le-pow-right, arith, eqb, ltb, leb, ltb-false, eqb-true}
+use Rattle.basics.proofs.Basics.{mul-le-mul, mul-le-mul-left, mul-le-mul-right, div-le-of-le-mul, pow-le-pow-right, arith, eqb, ltb, leb, ltb-false, eqb-true}
 use Rattle.basics.proofs.Basics.{ltb-true, not-false, leb-false, eqb-false}
 use lib.Pow.{pow-add}
 use Rattle.rules.specs.declared.{Fields.Fields, Settings.Settings, Supply.Supply, SupplyKind.SupplyKind}
-use Rattle.rules.specs.declared.{Pending.Pending, Meter.Meter, Action.Action, PointAction.PointAction}
-use Rattle.rules.specs.declared.{Answer.Answer, Effect.Effect}
-use Rattle.rules.specs.Fields.{supply, meter, reading, fields, withSupply, withPending, unsupplied}
+use Rattle.rules.specs.declared.{Pending.Pending, Code.Code, Meter.Meter, NewMeter.NewMeter, Span.Span, Action.Action}
+use Rattle.rules.specs.declared.{PointAction.PointAction, Answer.Answer, Effect.Effect}
+use Rattle.rules.specs.Fields.{supply, fitted, reading, fields, withSupply, withPending, unsupplied}
 use Rattle.rules.specs.Effects.{fieldsOf, names, spansIn, enrols, notice, effectiveDay, effectOf, failed, effect, dropped}
-use Rattle.rules.specs.Volumes.{fullTurn, unitOf, advanceOf, spanTo, registered}
+use Rattle.rules.specs.Volumes.{fullTurn, turnOf, unitOf, factorOf, advanceOf, spanTo, summed}
 use Rattle.rules.specs.Answers.{isAccepted}
 use Rattle.rules.specs.declared.{View.View}
 use Rattle.rules.specs.Rejections.{Row, firstOf, due, pendingDue, marksAfter, isFull, isBy, touches, anyPoint}
-use Rattle.rules.specs.Rejections.{outside, notPoint, notMark, notWheels, notEnrolled, outOfTime, indexDisagrees}
-use Rattle.rules.specs.Rejections.{lastResortNear, rowsAt, rows, shown, answerTo, accepted}
+use Rattle.rules.specs.Rejections.{outside, notPoint, notMark, notWheels, notMeter, badFactor, notEnrolled, outOfTime}
+use Rattle.rules.specs.Rejections.{indexDisagrees, lastResortNear, rowsAt, rows, shown, answerTo, accepted}
 use Rattle.rules.proofs.Views.{shown-in, dated, dated-also}
 use Rattle.rules.proofs.Accept.{pass, neither}
-use Rattle.agreement.specs.Sound.{perDay, PendingAhead}
+use Rattle.agreement.specs.Sound.{Side, wheels, normal, perDay, FactorFits, PendingAhead}
+use Rattle.agreement.proofs.Shares.{wholeOn, whole-by}
 use Rattle.agreement.proofs.Slots.{cond-holds}
-use Rattle.agreement.proofs.Good.{Wheels, Fine, Names, Good, marks-most, not-blank, unread, unchanged, naming, enrolled-by}
+use Rattle.agreement.proofs.Good.{Fitted, Fine, Names, Good, marks-most, not-blank, unread, unchanged, naming, enrolled-by}
 
 pass-near : (S : Settings) (t : ℕ) (k : SupplyKind) (rs : List Row) (a : Answer) → isAccepted (firstOf (lastResortNear S t k ∷ rs) a) ≡ true
     → isAccepted (firstOf rs a) ≡ true
@@ -37,7 +38,7 @@ is-enrolled : (p : ℕ) (v : View) → notEnrolled p v ≡ false → v .fields .
 is-enrolled p v h = not-false _ (neither (notPoint p) _ h .1)
 
 -- What a reading books: at most a full turn, which is at most 10^11 thousandths.
-turn-unit : (m : Meter) → fullTurn m * unitOf m ≤ perDay
+turn-unit : (m : Meter) → turnOf m * unitOf m ≤ perDay wheels
 unfolding fullTurn unitOf
 turn-unit m = let k : min (m .before) 8 + min (m .after) 3 + (3 - m .after) ≤ 11 = omega arith in
     rw (← (pow-add 10 (min (m .before) 8 + min (m .after) 3) (3 - m .after))) (pow-le-pow-right (omega arith) k)
@@ -50,12 +51,43 @@ advance-most x₁ x (suc zero) turn h a b c = omega (arith, ltb-true x x₁ (not
 advance-most x₁ x (suc (suc z)) turn h a b c = absurd (omega arith)
 
 span-most : (f : Fields) (d x z : ℕ) → notMark z ≡ false → indexDisagrees f x z ≡ false
-    → spanTo f d x z .advance * spanTo f d x z .unit ≤ perDay
+    → spanTo f d x z .advance * spanTo f d x z .unit ≤ perDay wheels
 unfolding spanTo
-span-most f d x z m i = let c = neither (leb (fullTurn (f .meter)) x || (eqb z 0 && ltb x (f .reading .index))) _ i in
-    let b = neither (leb (fullTurn (f .meter)) x) _ (c .0) in le-trans (mul-le-mul-right (unitOf (f .meter))
-    (advance-most (f .reading .index) x z (fullTurn (f .meter)) (ltb-false 1 z (neither (ltb z 0) (ltb 1 z) m .1)) (b .0) (b .1) (c .1)))
+span-most f d x z m i = let c = neither (leb (turnOf (f .meter)) x || (eqb z 0 && ltb x (f .reading .index))) _ i in
+    let b = neither (leb (turnOf (f .meter)) x) _ (c .0) in le-trans (mul-le-mul-right (unitOf (f .meter))
+    (advance-most (f .reading .index) x z (turnOf (f .meter)) (ltb-false 1 z (neither (ltb z 0) (ltb 1 z) m .1)) (b .0) (b .1) (c .1)))
     (turn-unit (f .meter))
+
+-- In normal cubic metres at most ten times as much.
+factor-most : (c : Code) → factorOf c ≤ 99999
+unfolding factorOf
+factor-most (Code.Cubic f) = omega arith
+factor-most Code.Normal = omega arith
+
+whole-most : (y : Side) (s : Span) → s .from < s .to → s .advance * s .unit ≤ perDay wheels → s .factor ≤ 99999
+    → wholeOn y s ≤ perDay y
+whole-most wheels s lt v f = v
+whole-most normal s lt v f = rw (whole-by s lt normal)
+    (div-le-of-le-mul 10000 (le-trans (mul-le-mul v f) (omega arith)))
+
+-- one day more
+day-more : (y : Side) (a b : ℕ) → a < b → perDay y + perDay y * a ≤ perDay y * b
+day-more wheels a b lt = omega arith
+day-more normal a b lt = omega arith
+
+-- the meter that an accepted call brings
+new-fitted : (m : NewMeter) → notMeter m ≡ false → badFactor m ≡ false → Fitted (fitted m)
+new-fitted m n b = let w = neither (notWheels (m .before) (m .after)) _ n in
+    let k = neither (outside 1 8 (m .before)) (outside 0 3 (m .after)) (w .0) in (
+      ltb-false 8 (m .before) (neither (ltb (m .before) 1) (ltb 8 (m .before)) (k .0) .1),
+      ltb-false 3 (m .after) (neither (ltb (m .after) 0) (ltb 3 (m .after)) (k .1) .1),
+      go (eqb (m .code) 1) (neither (eqb (m .code) 1 && outside 1 99999 (m .factor)) _ b .0),
+    )
+  where
+    go : (c : Bool) → (c && outside 1 99999 (m .factor)) ≡ false → FactorFits (cond c (Code.Cubic (m .factor)) Code.Normal)
+    go true q = let k = neither (ltb (m .factor) 1) (ltb 99999 (m .factor)) q in
+        (ltb-false (m .factor) 1 (k .0), ltb-false 99999 (m .factor) (k .1))
+    go false q = tt
 
 pending-dropped : (t s : ℕ) (q : Pending) → PendingAhead t q → PendingAhead t (dropped s q)
 pending-dropped t s Pending.Nothing h = tt
@@ -79,15 +111,15 @@ module _ (S : Settings) (A : 0 < S .a) (B : 0 < S .b) (day : ℕ) (u : List Bool
     asks : v .fields .enrolled ≡ true → (q : Pending) → PendingAhead t q → (e : Effect) → fieldsOf e ≡ withPending (v .fields) q
         → names e ≡ false → v .marks + due (withPending (v .fields) q .supply) ≤ 24 → Good t v e [] []
     asks y q a e fs n f =
-        unread t v (h .past) (h .wheels) e [] (rw fs refl) (rw fs refl) (rw fs (record { kind = h .ahead .kind; pending = a })) (rw (fs, n) refl)
+        unread t v (h .past) (h .meter) e [] (rw fs refl) (rw fs refl) (rw fs (record { kind = h .ahead .kind; pending = a })) (rw (fs, n) refl)
         (rw (fs, n) (refl, refl)) (rw (fs, n) f) (rw fs (not-blank y))
 
     -- a reading on day d
     reads : v .fields .enrolled ≡ true → (d x z : ℕ) (g : Fields) → g .reading .day ≡ d → g .enrolled ≡ v .fields .enrolled
-        → g .supply ≡ v .fields .supply → Wheels (g .meter) → outOfTime t d (v .fields) ≡ false
+        → g .supply ≡ v .fields .supply → Fitted (g .meter) → outOfTime t d (v .fields) ≡ false
         → notMark z ≡ false → indexDisagrees (v .fields) x z ≡ false
         → Good t v (Effect.Read (spanTo (v .fields) d x z) g) (spanTo (v .fields) d x z ∷ []) []
-    unfolding registered spanTo
+    unfolding summed spanTo
     reads y d x z g r n s w o m i = let c = neither (leb d (v .fields .reading .day)) (ltb t d) o in
         let lt : v .fields .reading .day < d = leb-false d (v .fields .reading .day) (c .0) in
         let le : d ≤ t = ltb-false t d (c .1) in
@@ -96,8 +128,12 @@ module _ (S : Settings) (A : 0 < S .a) (B : 0 < S .b) (day : ℕ) (u : List Bool
           hi = omega arith;
           made = ((refl, lt, omega arith), tt);
           once = not-blank y;
-          most = omega (arith, span-most (v .fields) d x z m i);
-          wheels = w;
+          most = λ y. rw r (omega (
+            arith,
+            day-more y (v .fields .reading .day) d lt,
+            whole-most y (spanTo (v .fields) d x z) lt (span-most (v .fields) d x z m i) (factor-most (v .fields .meter .code)),
+          ));
+          meter = w;
           ahead = rw s (h .ahead);
           keeps = ap (λ (x : Supply). x .holder) s;
           enrols = (n, refl);
@@ -107,30 +143,29 @@ module _ (S : Settings) (A : 0 < S .a) (B : 0 < S .b) (day : ℕ) (u : List Bool
 
     at-good : (p : ℕ) (a : PointAction) (b : Answer) → isAccepted (firstOf (rowsAt S day u t p a v) b) ≡ true
         → Good t v (effectOf S t a (v .fields)) (spansIn (effectOf S t a (v .fields))) (enrolledBy t (effectOf S t a (v .fields)))
-    unfolding effectOf rowsAt registered effectiveDay
-    at-good p (PointAction.Enrol b a x) _ ok = let c = pass _ _ _ _ ok in
-        let k = pass _ _ _ _ (pass _ _ _ _ (dated day t _ _ (c .1) .rest) .1) in
-        let w = neither (outside 1 8 b) (outside 0 3 a) (c .0) in let z = h .blank (k .0) in
+    unfolding effectOf rowsAt summed effectiveDay
+    at-good p (PointAction.Enrol m) _ ok = let c = pass _ _ _ _ ok in let b = pass _ _ _ _ (c .1) in
+        let k = pass _ _ _ _ (pass _ _ _ _ (dated day t _ _ (b .1) .rest) .1) in let z = h .blank (k .0) in
         record {
           lo = h .past;
           hi = omega arith;
           made = tt;
           once = λ n. refl;
-          most = omega (arith, h .past);
-          wheels = (ltb-false 8 b (neither (ltb b 1) (ltb 8 b) (w .0) .1), ltb-false 3 a (neither (ltb a 0) (ltb 3 a) (w .1) .1));
+          most = λ x. omega (arith, mul-le-mul-left (perDay x) (h .past));
+          meter = new-fitted m (c .0) (b .0);
           ahead = record { kind = tt; pending = tt };
           keeps = tt;
-          enrols = subst (λ (n : Bool). Names t n (fields true unsupplied 0 0 (meter b a) (reading t x)) (t ∷ [])) (sym (k .0)) (refl, refl, refl);
+          enrols = subst (λ (n : Bool). Names t n (fields true unsupplied 0 0 (fitted m) (reading t (m .index))) (t ∷ [])) (sym (k .0)) (refl, refl, refl);
           fit = omega (arith, z .0, marks-most v (Effect.Name (v .fields)));
           blank = not-blank refl;
         }
     at-good p (PointAction.IntoService s k) _ ok =
         let b = pass _ _ _ _ (pass _ _ _ _ (dated day t _ _ (pass _ _ _ _ ok .1) .rest) .1) in
-        naming t v (h .past) (h .wheels) (is-enrolled p v (b .0)) _ refl refl refl (record { kind = tt; pending = h .ahead .pending })
+        naming t v (h .past) (h .meter) (is-enrolled p v (b .0)) _ refl refl refl (record { kind = tt; pending = h .ahead .pending })
         (not-full (effectOf S t (PointAction.IntoService s k) (v .fields)) (pass _ _ _ _ (pass _ _ _ _ (b .1) .1) .0))
     at-good p (PointAction.DefaultSupply k) _ ok =
         let b = pass _ _ _ _ (dated-also day t _ _ _ (pass _ _ _ _ ok .1) .1 .rest) in
-        naming t v (h .past) (h .wheels) (is-enrolled p v (b .0)) _ refl refl refl (record { kind = omega arith; pending = h .ahead .pending })
+        naming t v (h .past) (h .meter) (is-enrolled p v (b .0)) _ refl refl refl (record { kind = omega arith; pending = h .ahead .pending })
         (not-full (effectOf S t (PointAction.DefaultSupply k) (v .fields)) (pass _ _ _ _ (pass _ _ _ _ (b .1) .1) .0))
     at-good p (PointAction.Request s k r) _ ok =
         let b = pass _ _ _ _ (pass _ _ _ _ (dated-also day t _ _ _ (pass _ _ _ _ ok .1) .1 .rest) .1) in
@@ -141,16 +176,14 @@ module _ (S : Settings) (A : 0 < S .a) (B : 0 < S .b) (day : ℕ) (u : List Bool
         asks (is-enrolled p v (pass _ _ _ _ (dated day t _ _ (pass _ _ _ _ ok .1) .rest) .0)) Pending.Nothing tt _ refl refl (omega (arith, h .fit))
     at-good p (PointAction.Reading d x z) _ ok = let c = pass _ _ _ _ ok in
         let k = pass _ _ _ _ (dated-also day t _ _ _ (c .1) .1 .rest) in let l = pass _ _ _ _ (k .1) in
-        reads (is-enrolled p v (k .0)) d x z _ refl refl refl (h .wheels) (l .0) (c .0) (pass _ _ _ _ (l .1) .0)
-    at-good p (PointAction.MeterChange x z b a y) _ ok = let c = pass _ _ _ _ ok in
-        let k = pass _ _ _ _ (dated day t _ _ (c .1) .rest) in let l = pass _ _ _ _ (k .1) in
-        let n = neither (notMark z) (notWheels b a) (c .0) in let w = neither (outside 1 8 b) (outside 0 3 a) (n .1) in
+        reads (is-enrolled p v (k .0)) d x z _ refl refl refl (h .meter) (l .0) (c .0) (pass _ _ _ _ (l .1) .0)
+    at-good p (PointAction.MeterChange x z m) _ ok = let c = pass _ _ _ _ ok in let b = pass _ _ _ _ (c .1) in
+        let k = pass _ _ _ _ (dated day t _ _ (b .1) .rest) in let l = pass _ _ _ _ (k .1) in
+        let n = neither (notMark z) (notMeter m) (c .0) in
         let i = neither (indexDisagrees (v .fields) x z) _ (pass _ _ _ _ (l .1) .0) in
-        reads (is-enrolled p v (k .0)) t x z _ refl refl refl
-        (ltb-false 8 b (neither (ltb b 1) (ltb 8 b) (w .0) .1), ltb-false 3 a (neither (ltb a 0) (ltb 3 a) (w .1) .1))
-        (l .0) (n .0) (i .0)
+        reads (is-enrolled p v (k .0)) t x z _ refl refl refl (new-fitted m (n .1) (b .0)) (l .0) (n .0) (i .0)
     at-good p PointAction.OutOfService _ ok = let b = pass _ _ _ _ (dated day t _ _ ok .rest) in
-        naming t v (h .past) (h .wheels) (is-enrolled p v (b .0)) _ refl refl refl (record { kind = tt; pending = tt })
+        naming t v (h .past) (h .meter) (is-enrolled p v (b .0)) _ refl refl refl (record { kind = tt; pending = tt })
         (not-full (effectOf S t PointAction.OutOfService (v .fields)) (pass _ _ _ _ (pass _ _ _ _ (b .1) .1) .0))
     at-good p (PointAction.Suspend m) _ ok = unchanged t v h _ refl refl refl refl
 
@@ -174,9 +207,9 @@ module _ (S : Settings) (A : 0 < S .a) (B : 0 < S .b) (day : ℕ) (u : List Bool
               ((b || isBy s (v .fields .supply .pending)) && isFull v e) ≡ false → Good t v e (spansIn e) (enrolledBy t e)
           go true e k = let y = enrolled-by t v h (λ q. let w : v .fields .supply .holder ≡ 0 = ap (λ (x : Supply). x .holder) q in
               omega (arith, eqb-true (v .fields .supply .holder) s e)) in
-              naming t v (h .past) (h .wheels) y taken refl refl refl (record { kind = omega arith; pending = ahead }) (not-full (Effect.Name taken) k)
+              naming t v (h .past) (h .meter) y taken refl refl refl (record { kind = omega arith; pending = ahead }) (not-full (Effect.Name taken) k)
           go false e k =
-              unread t v (h .past) (h .wheels) (Effect.Keep (withPending (v .fields) left)) [] refl refl
+              unread t v (h .past) (h .meter) (Effect.Keep (withPending (v .fields) left)) [] refl refl
               (record { kind = h .ahead .kind; pending = ahead }) refl (refl, refl) (omega (arith, h .fit, due-dropped s (v .fields .supply .pending)))
               (λ z. (h .blank z .0, ap (λ (x : Supply). supply (x .holder) (x .kind) (dropped s (x .pending))) (h .blank z .1)))
 

@@ -1,4 +1,5 @@
 pub mod Shares
+pub mod Parts
 pub mod Tally
 pub mod Slots
 pub mod Jump

@@ -3,7 +3,7 @@ use Rattle.basics.proofs.Basics.{_≡_, refl, sym, _∙_, ap₂, fun-ext, subst
 use Rattle.basics.proofs.Basics.{[], _∷_, _++_, append-assoc, append-nil, ℕ, _-_, _<_, arith, ltb, getD-replicate}
 use Rattle.basics.proofs.Basics.{ltb-false}
 use Rattle.rules.specs.declared.{Register.Register, Span.Span, Opening.Opening, Call.Call, Answer.Answer}
-use Rattle.rules.specs.Volumes.{volume, registered}
+use Rattle.rules.specs.Volumes.{summed}
 use Rattle.rules.specs.Answers.{isAccepted}
 use Rattle.rules.specs.Rejections.{openingAnswer}
 use Rattle.rules.specs.Pinned.Register
@@ -26,7 +26,7 @@ lasting o ok = let a = pass _ _ _ _ (pass _ _ _ _ ok .1) in let b = pass _ _ _ _
 )
 
 pub opened-agree : (o : Opening) → isAccepted (openingAnswer o) ≡ true → Agree (λ p. []) (λ p. []) (DayBook.opened o) (Register.opened o)
-unfolding DayBook.opened Register.opened tally recent volume registered sumVolumes
+unfolding DayBook.opened Register.opened tally recent summed sumVolumes
 opened-agree o ok =
     record {
       settings = refl;
@@ -37,7 +37,7 @@ opened-agree o ok =
       points = λ p lo hi. rw (getD-replicate 32 (p - 1) blankPoint noPoint (omega arith)) (record {
         point = record {
           same = refl;
-          firm = record {
+          firm = λ x. record {
             sized = record { slots = refl; some = omega arith };
             falling = tt;
             most = omega arith;
@@ -45,16 +45,16 @@ opened-agree o ok =
             begun = λ y. absurd (false≢true y);
           };
           live = (refl, tt);
-          told = refl;
-          still = λ d le. refl;
-          sum = refl;
+          told = λ x. refl;
+          still = λ x d le. refl;
+          sum = λ x. refl;
           held = (refl, tt);
           outside = λ z. refl;
           inside = λ y. absurd (false≢true y);
         };
         fine = record {
           past = omega arith;
-          wheels = (omega arith, omega arith);
+          meter = (omega arith, omega arith, tt);
           ahead = record { kind = tt; pending = tt };
           fit = omega arith;
           blank = λ z. (refl, refl);

@@ -11,7 +11,7 @@ use Rattle.rules.specs.Pinned.Register
 use Rattle.rules.specs.Pinned.Register.{noPeriod, entered, view, register, pointAt, advanced, says, done, applied}
 use Rattle.rules.proofs.Accept.{pass}
 use Rattle.rules.proofs.Views.{passed}
-use Rattle.agreement.specs.Sound.{Rising, SoundPoint, Sound, SoundRegisters}
+use Rattle.agreement.specs.Sound.{Side, wheels, Rising, SoundPoint, Sound, SoundRegisters}
 use Rattle.agreement.proofs.Tally.{oldest, Desc}
 use Rattle.agreement.proofs.Slots.{recent, Sized, used-count}
 use Rattle.agreement.proofs.Cover.{total-read}
@@ -27,77 +27,81 @@ use Rattle.rules.specs.DayBook
 use Rattle.rules.specs.DayBook.{Page}
 
 -- Starts that rise in the slots fall in their list.
-rising-falls : (n e : ℕ) (ps : List Period) → Rising e n ps ≡ Desc e (recent n ps)
+rising-falls : (x : Side) (n e : ℕ) (ps : List Period) → Rising e n ps ≡ Desc e (recent x n ps)
 unfolding recent
-rising-falls zero e ps = refl
-rising-falls (suc n) e ps = rw (rising-falls n (getD ps n noPeriod .start) ps)
+rising-falls x zero e ps = refl
+rising-falls x (suc n) e ps = rw (rising-falls x n (getD ps n noPeriod .start) ps)
 
-oldest-first : (n : ℕ) (ps : List Period) → 0 < n → (x : ℕ) → oldest (recent n ps) x ≡ getD ps 0 noPeriod .start
+oldest-first : (x : Side) (n : ℕ) (ps : List Period) → 0 < n → (d : ℕ) → oldest (recent x n ps) d ≡ getD ps 0 noPeriod .start
 unfolding recent oldest
-oldest-first zero ps lt x = absurd (omega arith)
-oldest-first (suc zero) ps lt x = refl
-oldest-first (suc (suc n)) ps lt x = oldest-first (suc n) ps (omega arith) (getD ps (suc n) noPeriod .start)
+oldest-first x zero ps lt d = absurd (omega arith)
+oldest-first x (suc zero) ps lt d = refl
+oldest-first x (suc (suc n)) ps lt d = oldest-first x (suc n) ps (omega arith) (getD ps (suc n) noPeriod .start)
 
-recent-none : (n : ℕ) (ps : List Period) → n ≡ 0 → recent n ps ≡ []
+recent-none : (x : Side) (n : ℕ) (ps : List Period) → n ≡ 0 → recent x n ps ≡ []
 unfolding recent
-recent-none zero ps q = refl
-recent-none (suc n) ps q = absurd (omega arith)
+recent-none x zero ps q = refl
+recent-none x (suc n) ps q = absurd (omega arith)
 
 pub record Hale (t : ℕ) (g : Point) : Type 0 where
-  pub firm : Firm t (g .fields) (g .history)
+  pub firm : (x : Side) → Firm x t (g .fields) (g .history)
   pub fine : Fine t (view t g)
 
 sound-hale : (t : ℕ) (g : Point) → SoundPoint t g → Hale t g
 sound-hale t g h = let z : Sized (g .history) = record { slots = h .slots; some = omega (arith, h .room) } in
     let u = used-count (g .history) z in
     record {
-      firm = record {
+      firm = λ x. record {
         sized = z;
-        falling = rw (rising-falls _ _ _) at (h .rising);
-        most = rw (total-read g z) at (h .volume);
-        none = λ n. recent-none _ _ (h .blank n .0);
-        begun = λ y. record { start = _; is = oldest-first _ _ (h .begun y .0); read = h .begun y .1 };
+        falling = rw (rising-falls x _ _ _) at (h .rising);
+        most = rw (total-read g z x) at (h .volume x);
+        none = λ n. recent-none x _ _ (h .blank n .0);
+        begun = λ y. record { start = _; is = oldest-first x _ _ (h .begun y .0); read = h .begun y .1 };
       };
       fine = record {
         past = h .read;
-        wheels = h .wheels;
+        meter = (h .wheels .0, h .wheels .1, h .factor);
         ahead = h .ahead;
         fit = omega (arith, u, h .room);
         blank = λ n. (u ∙ h .blank n .0, h .blank n .1);
       };
     }
 
-none-some : (n : ℕ) (ps : List Period) (s : ℕ) → ((x : ℕ) → oldest (recent n ps) x ≡ s) → 0 < n
+none-some : (x : Side) (n : ℕ) (ps : List Period) (s : ℕ) → ((d : ℕ) → oldest (recent x n ps) d ≡ s) → 0 < n
 unfolding recent oldest
-none-some zero ps s o = let a = o 0 in let b = o 1 in absurd (omega arith)
-none-some (suc n) ps s o = omega arith
+none-some x zero ps s o = let a = o 0 in let b = o 1 in absurd (omega arith)
+none-some x (suc n) ps s o = omega arith
 
 hale-sound : (t : ℕ) (g : Point) → Hale t g → SoundPoint t g
-hale-sound t g h = let u = used-count (g .history) (h .firm .sized) in
+hale-sound t g h = let f = h .firm wheels in let u = used-count (g .history) (f .sized) in
     record {
-      slots = h .firm .sized .slots;
-      rising = rw (rising-falls _ _ _) (h .firm .falling);
+      slots = f .sized .slots;
+      rising = rw (rising-falls wheels _ _ _) (f .falling);
       room = omega (arith, u, h .fine .fit);
       ahead = h .fine .ahead;
       read = h .fine .past;
-      wheels = h .fine .wheels;
-      volume = rw (total-read g (h .firm .sized)) (h .firm .most);
+      wheels = (h .fine .meter .0, h .fine .meter .1);
+      factor = h .fine .meter .2;
+      volume = λ x. rw (total-read g (f .sized) x) (h .firm x .most);
       blank = λ n. (sym u ∙ h .fine .blank n .0, h .fine .blank n .1);
-      begun = λ y. let b = h .firm .begun y in let some = none-some _ _ (b .start) (b .is) in
-          (some, omega (arith, b .read, b .is 0, oldest-first _ (g .history .periods) some 0));
+      begun = λ y. let b = f .begun y in let some = none-some wheels _ _ (b .start) (b .is) in
+          (some, omega (arith, b .read, b .is 0, oldest-first wheels _ (g .history .periods) some 0));
     }
 
 -- An effect that is good keeps a point hale.
 effect-hale : (t : ℕ) (g : Point) → Hale t g → (e : Effect) (j : List ℕ) → Good t (view t g) e (spansIn e) j → t ≤ lastDay
     → Hale t (entered t e (g .history))
 effect-hale t g h e j k cal =
-    record { firm = firm-after t g (h .firm) e j k cal; fine = fine-entered t g (h .firm) e j k cal }
+    record { firm = λ x. firm-after x t g (h .firm x) e j k cal; fine = fine-entered wheels t g (h .firm wheels) e j k cal }
 
 module _ (S : Settings) (B : 0 < S .b) where
   day-hale : (t : ℕ) (g : Point) → Hale t g → suc t ≤ lastDay → Hale (suc t) (onDay S (suc t) g)
   day-hale t g h cal = let e : Effect = event S (suc t) (g .fields) in
-      let before = firm-later (h .firm) in let k = event-good S B t (view (suc t) g) (h .fine) .1 in
-      record { firm = firm-after (suc t) g before e [] k cal; fine = fine-entered (suc t) g before e [] k cal }
+      let k = event-good S B t (view (suc t) g) (h .fine) .1 in
+      record {
+        firm = λ x. firm-after x (suc t) g (firm-later (h .firm x)) e [] k cal;
+        fine = fine-entered wheels (suc t) g (firm-later (h .firm wheels)) e [] k cal;
+      }
 
 up-hale : (r : Register) → Sound r → (t : ℕ) → r .day ≤ t → t ≤ lastDay → (p : ℕ) → 1 ≤ p → p ≤ 32
     → Hale t (pointAt p (advanced t r .points))
@@ -146,7 +150,7 @@ module _ (r : Register) (c : Call) (h : Sound r) where
 -- What stands beside a page is hale.
 tied-hale : (t : ℕ) (l : List Span) (n : List ℕ) (g : Page) (r : Point) → Tied t l n g r → Hale t r
 tied-hale t l n g r h = record {
-  firm = subst (λ (f : Fields). Firm t f (r .history)) (h .point .same) (h .point .firm);
+  firm = λ x. subst (λ (f : Fields). Firm x t f (r .history)) (h .point .same) (h .point .firm x);
   fine = subst (Fine t) (views-agree t l n g r (h .point)) (h .fine);
 }
 

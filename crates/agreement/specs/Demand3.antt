@@ -7,8 +7,8 @@ use mathlib.Core.List.{List, [], _∷_, map}
 use mathlib.Core.Option.{some}
 use Prim.Native.Nat.{ℕ, _+_, _^_, _≤_}
 use lib.ListN.{take}
-use Rattle.rules.specs.declared.{Period.Period, Point.Point, Span.Span, Opening.Opening, Call.Call}
-use Rattle.rules.specs.Volumes.{fullTurn, volume, registered}
+use Rattle.rules.specs.declared.{Code.Code, Period.Period, Point.Point, Span.Span, Opening.Opening, Call.Call}
+use Rattle.rules.specs.Volumes.{turnOf, factorOf, volume, normal, registered, registeredNormal}
 use Rattle.rules.specs.Answers.{isAccepted}
 use Rattle.rules.specs.Rejections.{openingAnswer, due}
 use Rattle.rules.specs.Opening.{settingsOf}
@@ -16,8 +16,8 @@ use Rattle.rules.specs.Pinned.Register
 use Rattle.rules.specs.Pinned.Register.{pointAt}
 use Rattle.rules.specs.DayBook
 use Rattle.rules.specs.DayBook.{Page}
-use Rattle.rules.specs.Periods.{periodsOf, startsOf, volumesOf, markedDays, holderOn, covering, dailySums, total}
-use Rattle.rules.specs.Periods.{book, register}
+use Rattle.rules.specs.Periods.{periodsOf, startsOf, volumesOf, normalsOf, markedDays, holderOn, covering, dailySums}
+use Rattle.rules.specs.Periods.{total, book, register}
 
 -- One point of the register beside its page, where the last day is `last`; the readings and the enrolments come from
 -- the list.
@@ -37,9 +37,14 @@ pub record PointAgrees (last : ℕ) (readings : List Span) (enrolments : List �
     pub volumes : volumesOf point ≡ dailySums (volume readings) last (startsOf point)
     -- a point's volumes add up to its registered advance
     pub advance : total (volumesOf point) ≡ registered readings
-    -- never more than 24 periods, those that are due included; and the full turn is 10^w
+    -- 02, F-4: "Each period gains its Nm³ volume in thousandths"; "a point's Nm³ advance .. sums its readings'
+    -- converted totals"; "Demand 3 and the questions cover these as they cover the booked ones."
+    pub normals : normalsOf point ≡ dailySums (normal readings) last (startsOf point)
+    pub normal-advance : total (normalsOf point) ≡ registeredNormal readings
+    -- never more than 24 periods, those that are due included; the full turn is 10^w, and the factor the meter's own
     pub room : point .history .count + due (point .fields .supply) ≤ 24
-    pub turn : fullTurn (point .fields .meter) ≡ 10 ^ (point .fields .meter .before + point .fields .meter .after)
+    pub turn : turnOf (point .fields .meter) ≡ 10 ^ (point .fields .meter .before + point .fields .meter .after)
+    pub factor : (f : ℕ) → point .fields .meter .code ≡ Code.Cubic f → factorOf (point .fields .meter .code) ≡ f
 
 pub record Demand3 (o : Opening) (calls : List Call) : Type 0 where
   -- every answer is the day book's, "with the date it carries"

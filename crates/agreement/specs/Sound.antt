@@ -2,17 +2,17 @@
 -- call, accepted or refused, keeps it sound. proofs/Sound.antt proves it. Definitions only.
 use mathlib.Core.Path.{_≡_}
 use mathlib.Core.Bool.{true, false}
-use mathlib.Core.List.{List}
+use mathlib.Core.List.{List, map}
 use Prim.Native.Nat.{ℕ, zero, suc, _+_, _*_, _≤_, _<_}
 use lib.ListN.{length, getD}
 use Rattle.dates.specs.Dates.{lastDay}
 use Rattle.rules.specs.declared.{Period.Period, Point.Point, Register.Register, Supply.Supply, SupplyKind.SupplyKind}
-use Rattle.rules.specs.declared.{Pending.Pending, Opening.Opening, Call.Call}
+use Rattle.rules.specs.declared.{Pending.Pending, Code.Code, Opening.Opening, Call.Call}
 use Rattle.rules.specs.Fields.{unsupplied}
 use Rattle.rules.specs.Answers.{isAccepted}
 use Rattle.rules.specs.Rejections.{openingAnswer, due}
 use Rattle.rules.specs.Pinned.Register.{noPeriod, pointAt, opened, applied}
-use Rattle.rules.specs.Periods.{volumesOf, total}
+use Rattle.rules.specs.Periods.{periodsOf, total}
 
 -- What is due lies after day t.
 abbrev pub KindAhead : ℕ → SupplyKind → Type 0
@@ -34,9 +34,25 @@ abbrev pub Rising : ℕ → ℕ → List Period → Type 0
 Rising e zero ps = Unit {0}
 Rising e (suc n) ps = (getD ps n noPeriod .start < e) × Rising (getD ps n noPeriod .start) n ps
 
--- No reading gives more than this, a full turn of the largest meter, and each takes a day.
-abbrev pub perDay : ℕ
-perDay = 100000000000
+-- The two volumes: as the wheels count, and in normal cubic metres.
+pub data Side : Type 0 where
+  wheels : Side
+  normal : Side
+
+abbrev pub volumeOn : Side → Period → ℕ
+volumeOn wheels q = q .volume .0
+volumeOn normal q = q .normal .0
+
+-- No reading gives more than this, and each takes a day: a full turn of the largest meter, and ten times as much in
+-- normal cubic metres, since no factor is past 99,999.
+abbrev pub perDay : Side → ℕ
+perDay wheels = 100000000000
+perDay normal = 1000000000000
+
+-- 02, F-4: "for an m³ meter a correction factor in ten-thousandths, 1 to 99,999"
+abbrev pub FactorFits : Code → Type 0
+FactorFits (Code.Cubic f) = (1 ≤ f) × (f ≤ 99999)
+FactorFits Code.Normal = Unit {0}
 
 -- A point on the register's day t.
 pub record SoundPoint (t : ℕ) (g : Point) : Type 0 where
@@ -48,7 +64,8 @@ pub record SoundPoint (t : ℕ) (g : Point) : Type 0 where
   pub ahead : Ahead t (g .fields .supply)
   pub read : g .fields .reading .day ≤ t
   pub wheels : (g .fields .meter .before ≤ 8) × (g .fields .meter .after ≤ 3)
-  pub volume : total (volumesOf g) ≤ perDay * g .fields .reading .day
+  pub factor : FactorFits (g .fields .meter .code)
+  pub volume : (x : Side) → total (map (volumeOn x) (periodsOf g)) ≤ perDay x * g .fields .reading .day
   pub blank : g .fields .enrolled ≡ false → (g .history .count ≡ 0) × (g .fields .supply ≡ unsupplied)
   pub begun : g .fields .enrolled ≡ true
       → (0 < g .history .count) × (getD (g .history .periods) 0 noPeriod .start ≤ g .fields .reading .day)

@@ -14,8 +14,10 @@ lines-examples =
       holder-0-of-the-oldest = refl;
       holder-refused = refl;
       period-of-16000 = refl;
+      period-of-9500 = refl;
       period-off-the-calendar = refl;
       period-refused = refl;
       advance-20000 = refl;
+      advance-7-and-6 = refl;
       advance-refused = refl;
     }

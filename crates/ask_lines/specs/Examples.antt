@@ -4,7 +4,8 @@ use mathlib.Core.Path.{_≡_}
 use mathlib.Core.List.{List, [], _∷_, _++_}
 use Rattle.questions.specs.declared.PeriodAnswer.the-variants as period
 use Rattle.questions.specs.declared.AdvanceAnswer.the-variants as advance
-use Rattle.questions.specs.Pinned.Questions.{held, refusedHolder}
+use Rattle.rules.specs.Pinned.Register.{period as Register·period}
+use Rattle.questions.specs.Pinned.Questions.{held, refusedHolder, advances}
 use Rattle.line_text.specs.Ascii.{ascii}
 use Rattle.ask_lines.specs.Lines.{holderReply, periodReply, advanceReply}
 
@@ -15,11 +16,16 @@ pub record LinesExamples : Type 0 where
   pub holder-5 : holderReply (held 5 1) ≡ ended (ascii "ok;5;1")
   pub holder-0-of-the-oldest : holderReply (held 0 24) ≡ ended (ascii "ok;0;24")
   pub holder-refused : holderReply refusedHolder ≡ ended (ascii "refused;22;0")
-  pub period-of-16000 : periodReply (period.Of (record { start = 7674; holder = 5; volume = 16000 })) ≡
-      ended (ascii "ok;20210104;5;16000")
+  -- 02, F-4: "in document 01's case .. each volume stands twice"
+  pub period-of-16000 : periodReply (period.Of (Register·period 7674 5 16000 16000)) ≡
+      ended (ascii "ok;20210104;5;16000;16000")
+  -- the wheels' volume stands first
+  pub period-of-9500 : periodReply (period.Of (Register·period 7674 5 10000 9500)) ≡
+      ended (ascii "ok;20210104;5;10000;9500")
   -- a day off the calendar, on which no period that calls make starts
-  pub period-off-the-calendar : periodReply (period.Of (record { start = 73049; holder = 0; volume = 0 })) ≡
-      ended (ascii "ok;00000000;0;0")
+  pub period-off-the-calendar : periodReply (period.Of (Register·period 73049 0 0 0)) ≡
+      ended (ascii "ok;00000000;0;0;0")
   pub period-refused : periodReply period.OffRange ≡ ended (ascii "refused;22")
-  pub advance-20000 : advanceReply (advance.Volume 20000) ≡ ended (ascii "ok;20000")
+  pub advance-20000 : advanceReply (advance.Of (advances 20000 20000)) ≡ ended (ascii "ok;20000;20000")
+  pub advance-7-and-6 : advanceReply (advance.Of (advances 7 6)) ≡ ended (ascii "ok;7;6")
   pub advance-refused : advanceReply advance.OffRange ≡ ended (ascii "refused;22")

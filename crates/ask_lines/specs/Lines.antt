@@ -2,7 +2,7 @@
 -- Definitions only.
 use Prim.Native.Nat.{ℕ}
 use mathlib.Core.List.{List, [], _∷_, _++_}
-use Rattle.rules.specs.declared.{Register.Register}
+use Rattle.rules.specs.declared.{NormalVolume.NormalVolume, Register.Register, Volume.Volume}
 use Rattle.questions.specs.declared.{Held.Held, HolderAnswer.HolderAnswer, PeriodAnswer.PeriodAnswer}
 use Rattle.questions.specs.declared.{AdvanceAnswer.AdvanceAnswer}
 use Rattle.questions.specs.declared.PeriodAnswer.the-variants as period
@@ -29,13 +29,17 @@ one w v end = w ++ field v end
 abbrev pub two : List ℕ → ℕ → ℕ → List ℕ
 two w u v = one w u 59 ++ field v 10
 
--- `ok;` and the value.
-abbrev pub okOne : ℕ → List ℕ
-okOne v = one (ascii "ok;") v 10
+-- 02, F-4: "Demand 3 and the questions cover these as they cover the booked ones." The two volumes that end a line.
+abbrev pub volumes : Volume → NormalVolume → List ℕ
+volumes v n = field (v .0) 59 ++ field (n .0) 10
 
 -- 01: "period n of p (start, holder, volume; n from 1 to their count)".
-abbrev pub okPeriod : ℕ → ℕ → ℕ → List ℕ
-okPeriod start holder volume = ascii "ok;" ++ (dateField start 59 ++ (field holder 59 ++ field volume 10))
+abbrev pub okPeriod : ℕ → ℕ → Volume → NormalVolume → List ℕ
+okPeriod start holder v n = ascii "ok;" ++ (dateField start 59 ++ (field holder 59 ++ volumes v n))
+
+-- 01: "advance of p".
+abbrev pub okAdvance : Volume → NormalVolume → List ℕ
+okAdvance v n = ascii "ok;" ++ volumes v n
 
 -- `refused;` and the number.
 abbrev pub refusal : ℕ → List ℕ
@@ -51,11 +55,11 @@ unfoldable pub holderReply : HolderAnswer → List ℕ
 holderReply a = heldReply (a .held) (a .probes)
 
 unfoldable pub periodReply : PeriodAnswer → List ℕ
-periodReply (period.Of q) = okPeriod (q .start) (q .holder) (q .volume)
+periodReply (period.Of q) = okPeriod (q .start) (q .holder) (q .volume) (q .normal)
 periodReply period.OffRange = refusal (periodNumber period.OffRange)
 
 unfoldable pub advanceReply : AdvanceAnswer → List ℕ
-advanceReply (advance.Volume v) = okOne v
+advanceReply (advance.Of a) = okAdvance (a .volume) (a .normal)
 advanceReply advance.OffRange = refusal (advanceNumber advance.OffRange)
 
 -- The line that answers a question.

@@ -11,11 +11,13 @@ use questions::PeriodAnswer;
 use questions::advance_of;
 use questions::holder_of;
 use questions::period_of;
+use rules::NormalVolume;
 use rules::Register;
+use rules::Volume;
 ghost use Prim.Native.Nat.{_+_, _≤_};
 ghost use lib.ListN.{length};
 ghost use Rattle.line_text.specs.Between.Appending.{Appended, AppendedWithin};
-ghost use Rattle.ask_lines.specs.Lines.{field, dateField, one, two, okOne, okPeriod, refusal};
+ghost use Rattle.ask_lines.specs.Lines.{field, dateField, one, two, volumes, okPeriod, okAdvance, refusal};
 ghost use Rattle.ask_lines.specs.Lines.{holderReply, periodReply, advanceReply, reply};
 
 // The number of a question off its range.
@@ -25,15 +27,15 @@ const OFF_RANGE: u64 = 22;
 pub fn put_reply(out: &mut [u8], at: usize, r: Register, q: Question) -> usize
     ensures { λ x. ⌜ Appended at (reply r q) (now (out .entry)) (now (out .exit)) x ⌝ }
 {
-    let mut text = [0u8; 66];
+    let mut text = [0u8; 75];
     let end = put_answer(&mut text, 0, r, q);
     put_word(out, at, &text[..end])
 }
 
 // The answer to a question.
 fn put_answer(out: &mut [u8], at: usize, r: Register, q: Question) -> usize
-    requires { ⌜ at + 66 ≤ length (now out) ⌝ }
-    ensures { λ x. ⌜ AppendedWithin 66 at (reply r q) (now (out .entry)) (now (out .exit)) x ⌝ }
+    requires { ⌜ at + 75 ≤ length (now out) ⌝ }
+    ensures { λ x. ⌜ AppendedWithin 75 at (reply r q) (now (out .entry)) (now (out .exit)) x ⌝ }
 {
     match q {
         Question::Holder { point, day } => put_holder(out, at, holder_of(r, point, day)),
@@ -43,8 +45,8 @@ fn put_answer(out: &mut [u8], at: usize, r: Register, q: Question) -> usize
 }
 
 fn put_holder(out: &mut [u8], at: usize, answer: HolderAnswer) -> usize
-    requires { ⌜ at + 66 ≤ length (now out) ⌝ }
-    ensures { λ x. ⌜ AppendedWithin 66 at (holderReply answer) (now (out .entry)) (now (out .exit)) x ⌝ }
+    requires { ⌜ at + 75 ≤ length (now out) ⌝ }
+    ensures { λ x. ⌜ AppendedWithin 75 at (holderReply answer) (now (out .entry)) (now (out .exit)) x ⌝ }
 {
     let held = answer.held;
     match held {
@@ -54,39 +56,48 @@ fn put_holder(out: &mut [u8], at: usize, answer: HolderAnswer) -> usize
 }
 
 fn put_period(out: &mut [u8], at: usize, answer: PeriodAnswer) -> usize
-    requires { ⌜ at + 66 ≤ length (now out) ⌝ }
-    ensures { λ x. ⌜ AppendedWithin 66 at (periodReply answer) (now (out .entry)) (now (out .exit)) x ⌝ }
+    requires { ⌜ at + 75 ≤ length (now out) ⌝ }
+    ensures { λ x. ⌜ AppendedWithin 75 at (periodReply answer) (now (out .entry)) (now (out .exit)) x ⌝ }
 {
     match answer {
-        PeriodAnswer::Of(q) => put_ok_period(out, at, q.start as u64, q.holder as u64, q.volume),
+        PeriodAnswer::Of(q) => {
+            let volume = q.volume;
+            let normal = q.normal;
+            put_ok_period(out, at, q.start as u64, q.holder as u64, volume, normal)
+        }
         PeriodAnswer::OffRange => put_refusal(out, at, OFF_RANGE),
     }
 }
 
 fn put_advance(out: &mut [u8], at: usize, answer: AdvanceAnswer) -> usize
-    requires { ⌜ at + 66 ≤ length (now out) ⌝ }
-    ensures { λ x. ⌜ AppendedWithin 66 at (advanceReply answer) (now (out .entry)) (now (out .exit)) x ⌝ }
+    requires { ⌜ at + 75 ≤ length (now out) ⌝ }
+    ensures { λ x. ⌜ AppendedWithin 75 at (advanceReply answer) (now (out .entry)) (now (out .exit)) x ⌝ }
 {
     match answer {
-        AdvanceAnswer::Volume(v) => put_ok(out, at, v),
+        AdvanceAnswer::Of(a) => {
+            let volume = a.volume;
+            let normal = a.normal;
+            put_ok_advance(out, at, volume, normal)
+        }
         AdvanceAnswer::OffRange => put_refusal(out, at, OFF_RANGE),
     }
 }
 
 // `refused;` and a number.
 fn put_refusal(out: &mut [u8], at: usize, n: u64) -> usize
-    requires { ⌜ at + 66 ≤ length (now out) ⌝ }
-    ensures { λ x. ⌜ AppendedWithin 66 at (refusal n) (now (out .entry)) (now (out .exit)) x ⌝ }
+    requires { ⌜ at + 75 ≤ length (now out) ⌝ }
+    ensures { λ x. ⌜ AppendedWithin 75 at (refusal n) (now (out .entry)) (now (out .exit)) x ⌝ }
 {
     put_one(out, at, b"refused;", n, b'\n')
 }
 
-// `ok;` and a value.
-fn put_ok(out: &mut [u8], at: usize, v: u64) -> usize
-    requires { ⌜ at + 66 ≤ length (now out) ⌝ }
-    ensures { λ x. ⌜ AppendedWithin 66 at (okOne v) (now (out .entry)) (now (out .exit)) x ⌝ }
+// `ok;` and a point's advances.
+fn put_ok_advance(out: &mut [u8], at: usize, volume: Volume, normal: NormalVolume) -> usize
+    requires { ⌜ at + 75 ≤ length (now out) ⌝ }
+    ensures { λ x. ⌜ AppendedWithin 75 at (okAdvance volume normal) (now (out .entry)) (now (out .exit)) x ⌝ }
 {
-    put_one(out, at, b"ok;", v, b'\n')
+    let volume_at = put_word(out, at, b"ok;");
+    put_volumes(out, volume_at, volume, normal)
 }
 
 // A word and two numbers.
@@ -101,15 +112,33 @@ fn put_two(out: &mut [u8], at: usize, word: &[u8], v: u64, w: u64) -> usize
     put_field(out, next, w, b'\n')
 }
 
-// `ok;`, a period's start as a date, its holder and its volume.
-fn put_ok_period(out: &mut [u8], at: usize, start: u64, holder: u64, volume: u64) -> usize
-    requires { ⌜ at + 66 ≤ length (now out) ⌝ }
-    ensures { λ x. ⌜ AppendedWithin 66 at (okPeriod start holder volume) (now (out .entry)) (now (out .exit)) x ⌝ }
+// `ok;`, a period's start as a date, its holder and its volumes.
+fn put_ok_period(
+    out: &mut [u8],
+    at: usize,
+    start: u64,
+    holder: u64,
+    volume: Volume,
+    normal: NormalVolume,
+) -> usize
+    requires { ⌜ at + 75 ≤ length (now out) ⌝ }
+    ensures { λ x. ⌜
+        AppendedWithin 75 at (okPeriod start holder volume normal) (now (out .entry)) (now (out .exit)) x
+        ⌝ }
 {
     let start_at = put_word(out, at, b"ok;");
     let holder_at = put_date(out, start_at, start, b';');
     let volume_at = put_field(out, holder_at, holder, b';');
-    put_field(out, volume_at, volume, b'\n')
+    put_volumes(out, volume_at, volume, normal)
+}
+
+// The two volumes that end a line.
+fn put_volumes(out: &mut [u8], at: usize, volume: Volume, normal: NormalVolume) -> usize
+    requires { ⌜ at + 42 ≤ length (now out) ⌝ }
+    ensures { λ x. ⌜ AppendedWithin 42 at (volumes volume normal) (now (out .entry)) (now (out .exit)) x ⌝ }
+{
+    let normal_at = put_field(out, at, volume.0, b';');
+    put_field(out, normal_at, normal.0, b'\n')
 }
 
 // A word, and a number, which has at most 20 digits, with the byte behind it.

@@ -4,6 +4,7 @@ use Rattle.rules.proofs.Examples.{p-examples}
 use Rattle.rules.proofs.RowExamples.{row-examples}
 use Rattle.agreement.proofs.Theorem.{day-book-agrees}
 use Rattle.agreement.proofs.Sound.{sound-registers}
+use Rattle.agreement.proofs.Parts.{parts-add-up}
 use Rattle.questions.proofs.Asking.{asking}
 use Rattle.questions.proofs.Examples.{question-examples}
 use Rattle.line_values.proofs.OneText.{one-text}
@@ -27,6 +28,7 @@ demands =
       one-line = one-line;
       day-book-agrees = day-book-agrees;
       sound-registers = sound-registers;
+      parts-add-up = parts-add-up;
       questions = asking;
       question-examples = question-examples;
       closing-lines = listing-by-book;

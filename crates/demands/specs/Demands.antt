@@ -7,6 +7,7 @@ use Rattle.rules.specs.Examples.{PExamples}
 use Rattle.rules.specs.RowExamples.{RowExamples}
 use Rattle.agreement.specs.Demand3.{DayBookAgrees}
 use Rattle.agreement.specs.Sound.{SoundRegisters}
+use Rattle.agreement.specs.Parts.{PartsAddUp}
 use Rattle.questions.specs.Asking.{Asking}
 use Rattle.questions.specs.Examples.{QuestionExamples}
 use Rattle.line_values.specs.OneText.{OneText}
@@ -35,6 +36,8 @@ pub record Demands : Type 0 where
   pub day-book-agrees : DayBookAgrees
   -- What it rests on, of the register alone: starts rise, all that is due lies ahead and has room, no volume wraps.
   pub sound-registers : SoundRegisters
+  -- The parts of a reading add up to its total, in either volume and by whatever factor.
+  pub parts-add-up : PartsAddUp
   -- And so are its questions and its closing lines.
   pub questions : Asking
   pub closing-lines : ListingByBook

@@ -1,6 +1,6 @@
 -- Every answer is one of document 01's table.
 use Rattle.basics.proofs.Basics.{_≡_, refl, true, false, Bool, cond, _&&_, false≢true, _||_, List, [], _∷_, ℕ, _<_}
-use Rattle.basics.proofs.Basics.{arith, leb, leb-true}
+use Rattle.basics.proofs.Basics.{arith, eqb, leb, leb-true, eqb-true}
 use Rattle.rules.specs.declared.{Settings.Settings, SupplyKind.SupplyKind, Opening.Opening, Register.Register}
 use Rattle.rules.specs.declared.{Call.Call, View.View, Action.Action, PointAction.PointAction, Answer.Answer}
 use Rattle.rules.specs.Answers.{number}
@@ -47,6 +47,11 @@ dated : (a b c : Bool) (rs : List Row) (x : Answer) → isTabled (firstOf rs x) 
     isTabled (firstOf ((a ⇒ 22) ∷ (b ⇒ 20) ∷ (c ⇒ 21) ∷ rs) x) ≡ true
 dated a b c rs x h = row a 22 _ x refl (row b 20 _ x refl (row c 21 rs x refl h))
 
+-- 40 between them, where a meter is brought
+fitting : (a f b c : Bool) (rs : List Row) (x : Answer) → isTabled (firstOf rs x) ≡ true →
+    isTabled (firstOf ((a ⇒ 22) ∷ (f ⇒ 40) ∷ (b ⇒ 20) ∷ (c ⇒ 21) ∷ rs) x) ≡ true
+fitting a f b c rs x h = row a 22 _ x refl (row f 40 _ x refl (row b 20 _ x refl (row c 21 rs x refl h)))
+
 last : (a : Answer) → isTabled a ≡ true → isTabled (firstOf [] a) ≡ true
 unfolding firstOf
 last a h = h
@@ -54,7 +59,7 @@ last a h = h
 module _ (S : Settings) (day : ℕ) (u : List Bool) (t : ℕ) where
   rows-at : (p : ℕ) (a : PointAction) (v : View) → isTabled (firstOf (rowsAt S day u t p a v) (acceptedBy (effectOf S t a (v .fields)))) ≡ true
   unfolding rowsAt effectOf
-  rows-at p (PointAction.Enrol b a x) v = dated _ _ _ _ _ (row _ 2 _ _ refl (row _ 23 _ _ refl (row _ 28 _ _ refl (last _ refl))))
+  rows-at p (PointAction.Enrol m) v = fitting _ _ _ _ _ _ (row _ 2 _ _ refl (row _ 23 _ _ refl (row _ 28 _ _ refl (last _ refl))))
   rows-at p (PointAction.IntoService s k) v =
       dated _ _ _ _ _ (row _ 1 _ _ refl (row _ 2 _ _ refl (row _ 24 _ _ refl (row _ 30 _ _ refl (last _ refl)))))
   rows-at p (PointAction.DefaultSupply k) v = dated _ _ _ _ _ (row _ 2 _ _ refl (row _ 24 _ _ refl (row _ 30 _ _ refl (last _ refl))))
@@ -63,7 +68,7 @@ module _ (S : Settings) (day : ℕ) (u : List Bool) (t : ℕ) where
       (row _ 7 _ _ refl (row-8 S t (v .fields .supply .kind) _ _ (row _ 30 _ _ refl (last _ refl))))))))))
   rows-at p (PointAction.Cancel s) v = dated _ _ _ _ _ (row _ 2 _ _ refl (row _ 25 _ _ refl (row _ 26 _ _ refl (last _ refl))))
   rows-at p (PointAction.Reading d x z) v = dated _ _ _ _ _ (row _ 2 _ _ refl (row _ 27 _ _ refl (row _ 28 _ _ refl (last _ refl))))
-  rows-at p (PointAction.MeterChange x z b a y) v = dated _ _ _ _ _ (row _ 2 _ _ refl (row _ 27 _ _ refl (row _ 28 _ _ refl (last _ refl))))
+  rows-at p (PointAction.MeterChange x z m) v = fitting _ _ _ _ _ _ (row _ 2 _ _ refl (row _ 27 _ _ refl (row _ 28 _ _ refl (last _ refl))))
   rows-at p PointAction.OutOfService v =
       row _ 20 _ _ refl (row _ 21 _ _ refl (row _ 2 _ _ refl (row _ 6 _ _ refl (row _ 30 _ _ refl (last _ refl)))))
   rows-at p (PointAction.Suspend m) v = dated _ _ _ _ _ (row _ 2 _ _ refl (last _ refl))
@@ -107,12 +112,15 @@ and-right : (x y : Bool) → (x && y) ≡ true → y ≡ true
 and-right true y e = e
 and-right false y e = absurd (false≢true e)
 
+-- a number that is in one of two ranges is small where each is
+either : {n : ℕ} (x y : Bool) → (x ≡ true → n < 100) → (y ≡ true → n < 100) → (x || y) ≡ true → n < 100
+either true y f g h = f refl
+either false y f g h = g h
+
 number-small : (n : ℕ) → isNumber n ≡ true → n < 100
-number-small n h = go (leb 1 n && leb n 8) refl h
-  where
-    go : (b : Bool) → (leb 1 n && leb n 8) ≡ b → (b || (leb 20 n && leb n 31)) ≡ true → n < 100
-    go true e k = omega (arith, leb-true n 8 (and-right (leb 1 n) (leb n 8) e))
-    go false e k = omega (arith, leb-true n 31 (and-right (leb 20 n) (leb n 31) k))
+number-small n h = either _ (eqb n 40) (either (leb 1 n && leb n 8) (leb 20 n && leb n 31)
+    (λ e. omega (arith, leb-true n 8 (and-right (leb 1 n) (leb n 8) e)))
+    (λ e. omega (arith, leb-true n 31 (and-right (leb 20 n) (leb n 31) e)))) (λ e. omega (arith, eqb-true n 40 e)) h
 
 pub tabled-small : (a : Answer) → isTabled a ≡ true → number a < 100
 tabled-small Answer.Accepted h = omega arith

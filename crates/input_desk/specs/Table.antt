@@ -11,9 +11,9 @@ use Rattle.line_messages.specs.declared.{Message.Message}
 use Rattle.input_desk.specs.declared.{Desk.Desk}
 use Rattle.input_desk.specs.Pinned.Desk.{answerOf}
 
--- The numbers of "Rejection codes".
+-- The numbers of "Rejection codes"; 02, F-4: "New numbers: 40".
 abbrev pub isNumber : ℕ → Bool
-isNumber n = (leb 1 n && leb n 8) || (leb 20 n && leb n 31)
+isNumber n = (leb 1 n && leb n 8) || (leb 20 n && leb n 31) || eqb n 40
 
 abbrev pub carriesDay : Option ℕ → Bool
 carriesDay none = false

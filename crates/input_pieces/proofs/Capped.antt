@@ -1,4 +1,4 @@
--- The first bytes of a line, as many as are kept, say what the line says: one that is longer than 96 bytes is unreadable.
+-- The first bytes of a line, as many as are kept, say what the line says: one that is longer than 128 bytes is unreadable.
 use Rattle.basics.proofs.Basics.{_≡_, sym, _∙_, ap, List, _++_, ℕ, _<_, decLe, arith, length, take, length-take}
 use Rattle.basics.proofs.Basics.{take-all, lt-leb}
 use Rattle.line_text.specs.Longest.{longestLine}

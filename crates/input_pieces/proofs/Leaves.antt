@@ -4,7 +4,7 @@ use Rattle.basics.proofs.Basics.{le-trans, arith, getD, set, set-getD}
 use Rattle.rules.specs.declared.{Answer.Answer, Fields.Fields, Period.Period, Register.Register, Settings.Settings, Span.Span}
 use Rattle.rules.specs.Answers.{isAccepted}
 use Rattle.rules.specs.Fields.{blank}
-use Rattle.rules.specs.declared.{Reading.Reading}
+use Rattle.rules.specs.declared.{NormalVolume.NormalVolume, Reading.Reading, Volume.Volume}
 use Rattle.rules.specs.Pinned.Register.{period, noPeriod}
 use Rattle.line_messages.specs.declared.{Message.Message}
 use Rattle.input_tables.specs.declared.{Tables.Tables}
@@ -144,12 +144,12 @@ module _ (z : State) where
           pass-next h = record { turned = record { answer = told .answer; after = rw h at (stored (rw h)) }; sized = sized; calm = calm }
 
     -- a daily reading, stored by itself
-    pub daily-next : {t : ℕ} {now : Reading} {v : ℕ}
-        → Daily.Read t now v ≡ dailyOf (z .ready) (z .day) (z .quiet) m (getD ns i 0) (getD fs i blank) (getD ss (24 * i + k) noPeriod)
+    pub daily-next : {t : ℕ} {now : Reading} {v : Volume} {n : NormalVolume}
+        → Daily.Read t now v n ≡ dailyOf (z .ready) (z .day) (z .quiet) m (getD ns i 0) (getD fs i blank) (getD ss (24 * i + k) noPeriod)
         → Next d m Answer.Accepted (z .ready) (z .set) t (z .contracts) (set fs i (read (getD fs i blank) now)) ns
-        (set ss (24 * i + k) (period (getD ss (24 * i + k) noPeriod .start) (getD ss (24 * i + k) noPeriod .holder) v)) (z .quiet)
-    daily-next {t} {now} {v} e =
-        let h : Stores (z .ready) (z .day) (z .quiet) m (getD ns i 0) (getD fs i blank) (getD ss (24 * i + k) noPeriod) t now v =
+        (set ss (24 * i + k) (period (getD ss (24 * i + k) noPeriod .start) (getD ss (24 * i + k) noPeriod .holder) (v .0) (n .0))) (z .quiet)
+    daily-next {t} {now} {v} {n} e =
+        let h : Stores (z .ready) (z .day) (z .quiet) m (getD ns i 0) (getD fs i blank) (getD ss (24 * i + k) noPeriod) t now v n =
         rw (← e) at (daily-stores (z .day) (z .quiet) (getD ns i 0) (getD fs i blank) (getD ss (24 * i + k) noPeriod) (z .ready) m) in
         let y : Said = Said.Ruled (reads (h .span) (read (getD fs i blank) now)) in
         let hy : y ≡ saidHere m i k = sym (h .said (z .set) (z .contracts)) in

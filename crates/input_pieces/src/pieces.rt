@@ -184,7 +184,7 @@ pub(crate) fn answer_lines(
         let f = fields[i];
         let q = slots[24 * i + k];
         let daily = daily_of(ready, day, quiet, m, n, f, q);
-        if let Daily::Read(t, now, v) = daily {
+        if let Daily::Read(t, now, v, w) = daily {
             let mut g = f;
             g.reading = now;
             fields[i] = g;
@@ -192,6 +192,7 @@ pub(crate) fn answer_lines(
                 start: q.start,
                 holder: q.holder,
                 volume: v,
+                normal: w,
             };
             day = t;
             written = put_answer(out, written, kind, Answer::Accepted);

@@ -2,13 +2,13 @@
 use Rattle.basics.proofs.Basics.{_≡_, refl, _∙_, ap, true, false, Bool, cond, _&&_, List, [], ℕ, _-_, _<_, min, eqb}
 use Rattle.basics.proofs.Basics.{ltb, lt-ltb, eq-eqb, eqb-true, ltb-true}
 use Rattle.rules.specs.declared.{Action.Action, Answer.Answer, Effect.Effect, Fields.Fields, Period.Period, PointAction.PointAction}
-use Rattle.rules.specs.declared.{Reading.Reading, Settings.Settings, Span.Span, View.View, Call.Call}
+use Rattle.rules.specs.declared.{NormalVolume.NormalVolume, Reading.Reading, Settings.Settings, Span.Span, View.View, Volume.Volume, Call.Call}
 use Rattle.rules.specs.Answers.{isAccepted}
 use Rattle.rules.specs.Effects.{effectOf, atPoint}
 use Rattle.rules.specs.Fields.{reading, withReading}
 use Rattle.rules.specs.Pinned.Register.{period, bookedPeriod}
 use Rattle.rules.specs.Rejections.{rowsAt}
-use Rattle.rules.specs.Volumes.{given, spanTo}
+use Rattle.rules.specs.Volumes.{spanTo}
 use Rattle.point_volumes.specs.Between.{isFair, bookedNewest}
 use Rattle.point_answers.specs.Between.{answerAt}
 use Rattle.point_answers.proofs.Folded.{allRefuse, kept-first}
@@ -30,20 +30,22 @@ abbrev pub reads : Span → Fields → Ruling
 reads s f = record { answer = Answer.Accepted; effect = Effect.Read s f }
 
 -- In the words of the loop: what is said, and what it stores.
-pub record Stores (ready : Bool) (day quiet : ℕ) (m : Message) (n : ℕ) (f : Fields) (q : Period) (t : ℕ) (now : Reading) (v : ℕ) : Type 0 where
+pub record Stores (ready : Bool) (day quiet : ℕ) (m : Message) (n : ℕ) (f : Fields) (q : Period) (t : ℕ) (now : Reading) (v : Volume) (w : NormalVolume) : Type 0 where
   pub span : Span
   pub said : (S : Settings) (u : List Bool) → saidBy S day u ready m f n (q .start) ≡ Said.Ruled (reads span (read f now))
-  pub deed : deedOf quiet m (Said.Ruled (reads span (read f now))) n q ≡ slot t (read f now) n (min n 24 - 1) (period (q .start) (q .holder) v)
+  pub deed : deedOf quiet m (Said.Ruled (reads span (read f now))) n q ≡ slot t (read f now) n (min n 24 - 1) (period (q .start) (q .holder) (v .0) (w .0))
 
 abbrev pub DailyOf : Bool → ℕ → ℕ → Message → ℕ → Fields → Period → Daily → Type 0
-DailyOf ready day quiet m n f q (Daily.Read t now v) = Stores ready day quiet m n f q t now v
+DailyOf ready day quiet m n f q (Daily.Read t now v w) = Stores ready day quiet m n f q t now v w
 DailyOf ready day quiet m n f q Daily.Other = Unit {0}
 
-booked-shape : (s : Span) (q : Period) → bookedNewest s q ≡ period (q .start) (q .holder) (bookedNewest s q .volume)
+booked-shape : (s : Span) (q : Period) → bookedNewest s q
+    ≡ period (q .start) (q .holder) (bookedNewest s q .volume .0) (bookedNewest s q .normal .0)
 unfolding bookedNewest bookedPeriod
 booked-shape s q = go (isFair s)
   where
-    go : (b : Bool) → cond b (bookedPeriod (given s) (s .to) q) q ≡ period (q .start) (q .holder) (cond b (bookedPeriod (given s) (s .to) q) q .volume)
+    go : (b : Bool) → cond b (bookedPeriod s (s .to) q) q ≡ period (q .start) (q .holder) (cond b (bookedPeriod s (s .to) q) q .volume .0)
+        (cond b (bookedPeriod s (s .to) q) q .normal .0)
     go true = refl
     go false = refl
 
@@ -65,12 +67,12 @@ pub data Which (a : PointAction) : Type 0 where
 pub which : (a : PointAction) → Which a
 unfolding dailyAt
 which (PointAction.Reading d x z) = isReading d x z refl
-which (PointAction.Enrol b a x) = isOther (λ day p n f q. refl)
+which (PointAction.Enrol m) = isOther (λ day p n f q. refl)
 which (PointAction.IntoService s k) = isOther (λ day p n f q. refl)
 which (PointAction.DefaultSupply k) = isOther (λ day p n f q. refl)
 which (PointAction.Request s k r) = isOther (λ day p n f q. refl)
 which (PointAction.Cancel s) = isOther (λ day p n f q. refl)
-which (PointAction.MeterChange x z b a y) = isOther (λ day p n f q. refl)
+which (PointAction.MeterChange x z m) = isOther (λ day p n f q. refl)
 which PointAction.OutOfService = isOther (λ day p n f q. refl)
 which (PointAction.Suspend m) = isOther (λ day p n f q. refl)
 
@@ -84,7 +86,7 @@ module _ (day quiet : ℕ) (n : ℕ) (f : Fields) (q : Period) where
     read-stores p d x z h = go (isAccepted (readingSaid day p d x z f)) refl (liesIn n (q .start) (f .reading .day)) refl
       where
         go : (a : Bool) → isAccepted (readingSaid day p d x z f) ≡ a → (b : Bool) → liesIn n (q .start) (f .reading .day) ≡ b →
-            Stored (cond (a && b) (Daily.Read day (reading d x) (bookedNewest (spanTo f d x z) q .volume)) Daily.Other)
+            Stored (cond (a && b) (Daily.Read day (reading d x) (bookedNewest (spanTo f d x z) q .volume) (bookedNewest (spanTo f d x z) q .normal)) Daily.Other)
         go true ok true lies = record {
           span = spanTo f d x z;
           said = λ S u. rw (h, today, eq-eqb day day refl) (ap Said.Ruled (daily-ruling day p d x z f ok S u _ refl));

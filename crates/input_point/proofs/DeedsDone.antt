@@ -7,7 +7,6 @@ use Rattle.rules.specs.declared.{Action.Action}
 use Rattle.rules.specs.Pinned.Register.{period, history, noPeriod, startsOn, replaced, appended, named, bookedSlots, booked}
 use Rattle.rules.specs.Pinned.Register.{bookedPeriod}
 use Rattle.rules.specs.Fields.{blank}
-use Rattle.rules.specs.Volumes.{given}
 use Rattle.point_volumes.specs.Between.{isFair, bookedIfFair, bookedNewest}
 use Rattle.point_volumes.proofs.Newest.{newest-booked}
 use Rattle.point_effects.specs.Between.{noted}
@@ -39,10 +38,10 @@ module _ (t n : ℕ) (row : List Period) where
       go : (a b : Bool) →
           record {
             fields = f;
-            history = cond a (history n (set row (min n 24 - 1) (period t (f .supply .holder) (q .volume))))
-                (cond b (history (min n 24 + 1) (set row (min n 24) (period t (f .supply .holder) 0))) (history n row));
-          } ≡ pointAfter row n (cond a (slot t f n (min n 24 - 1) (period t (f .supply .holder) (q .volume)))
-          (cond b (slot t f (min n 24 + 1) (min n 24) (period t (f .supply .holder) 0)) (keptDeed t f n q)))
+            history = cond a (history n (set row (min n 24 - 1) (period t (f .supply .holder) (q .volume .0) (q .normal .0))))
+                (cond b (history (min n 24 + 1) (set row (min n 24) (period t (f .supply .holder) 0 0))) (history n row));
+          } ≡ pointAfter row n (cond a (slot t f n (min n 24 - 1) (period t (f .supply .holder) (q .volume .0) (q .normal .0)))
+          (cond b (slot t f (min n 24 + 1) (min n 24) (period t (f .supply .holder) 0 0)) (keptDeed t f n q)))
       go true b = refl
       go false true = refl
       go false false = kept-after f
@@ -54,7 +53,7 @@ module _ (t n : ℕ) (row : List Period) where
     where
       go : (b : Bool) →
           cond b (booked s (history n row)) (history n row)
-          ≡ history n (set row (min n 24 - 1) (cond b (bookedPeriod (given s) (s .to) q) q))
+          ≡ history n (set row (min n 24 - 1) (cond b (bookedPeriod s (s .to) q) q))
       go true = newest-booked s (history n row) (omega (arith, ltb-true 0 (min n 24) x)) (leb-true (q .start) (s .from) y)
       go false = ap (history n) (sym (set-getD row (min n 24 - 1) noPeriod))
 
@@ -63,8 +62,8 @@ module _ (t n : ℕ) (row : List Period) where
   back-after s f = go (isFair s)
     where
       go : (b : Bool) →
-          record { fields = f; history = cond b (history n (bookedSlots (given s) (s .from) (s .to) (min n 24) row)) (history n row) }
-          ≡ joined f n (cond b (history n (bookedSlots (given s) (s .from) (s .to) (min n 24) row)) (history n row) .periods)
+          record { fields = f; history = cond b (history n (bookedSlots s (s .to) (min n 24) row)) (history n row) }
+          ≡ joined f n (cond b (history n (bookedSlots s (s .to) (min n 24) row)) (history n row) .periods)
       go true = refl
       go false = refl
 
@@ -103,8 +102,8 @@ module _ (t n : ℕ) (q : Period) where
   naming-on f = go (ltb 0 (min n 24) && eqb (q .start) t) (ltb (min n 24) 24) refl
     where
       go : (a b : Bool) → ltb (min n 24) 24 ≡ b →
-          On t (cond a (slot t f n (min n 24 - 1) (period t (f .supply .holder) (q .volume)))
-          (cond b (slot t f (min n 24 + 1) (min n 24) (period t (f .supply .holder) 0)) (keptDeed t f n q)))
+          On t (cond a (slot t f n (min n 24 - 1) (period t (f .supply .holder) (q .volume .0) (q .normal .0)))
+          (cond b (slot t f (min n 24 + 1) (min n 24) (period t (f .supply .holder) 0 0)) (keptDeed t f n q)))
       go true b e = (refl, omega arith)
       go false true e = (refl, ltb-true (min n 24) 24 e)
       go false false e = (refl, omega arith)
@@ -168,15 +167,15 @@ deed-within quiet Message.Unreadable x n q = tt
 
 -- ---- booking keeps the number of slots
 
-slots-length : (g : ℕ → ℕ) (from n e : ℕ) (ps : List Period) → length (bookedSlots g from e n ps) ≡ length ps
+slots-length : (s : Span) (n e : ℕ) (ps : List Period) → length (bookedSlots s e n ps) ≡ length ps
 unfolding bookedSlots
-slots-length g from zero e ps = refl
-slots-length g from (suc n) e ps = go (leb (getD ps n noPeriod .start) from) (slots-length g from n _ _ ∙ length-set ps n _)
+slots-length s zero e ps = refl
+slots-length s (suc n) e ps = go (leb (getD ps n noPeriod .start) (s .from)) (slots-length s n _ _ ∙ length-set ps n _)
   where
     go : (b : Bool) →
-        length (bookedSlots g from (getD ps n noPeriod .start) n (set ps n (bookedPeriod g e (getD ps n noPeriod)))) ≡ length ps →
-        length (cond b (set ps n (bookedPeriod g e (getD ps n noPeriod)))
-        (bookedSlots g from (getD ps n noPeriod .start) n (set ps n (bookedPeriod g e (getD ps n noPeriod)))))
+        length (bookedSlots s (getD ps n noPeriod .start) n (set ps n (bookedPeriod s e (getD ps n noPeriod)))) ≡ length ps →
+        length (cond b (set ps n (bookedPeriod s e (getD ps n noPeriod)))
+        (bookedSlots s (getD ps n noPeriod .start) n (set ps n (bookedPeriod s e (getD ps n noPeriod)))))
         ≡ length ps
     go true h = length-set ps n _
     go false h = h
@@ -185,7 +184,7 @@ pub booked-length : (s : Span) (h : History) → length (bookedIfFair s h .perio
 unfolding bookedIfFair booked
 booked-length s h = go (isFair s)
   where
-    go : (b : Bool) → length (cond b (history (h .count) (bookedSlots (given s) (s .from) (s .to) (min (h .count) 24) (h .periods))) h .periods)
+    go : (b : Bool) → length (cond b (history (h .count) (bookedSlots s (s .to) (min (h .count) 24) (h .periods))) h .periods)
         ≡ length (h .periods)
-    go true = slots-length (given s) (s .from) (min (h .count) 24) (s .to) (h .periods)
+    go true = slots-length s (min (h .count) 24) (s .to) (h .periods)
     go false = refl

@@ -1,5 +1,5 @@
 // A daily reading: on the register's own day, before anything falls due, accepted, and all its days in the point's
-// newest period. It stores a reading and a volume, and nothing else.
+// newest period. It stores a reading and two volumes, and nothing else.
 use crate::deeds::lies_in;
 use line_messages::Message;
 use point_answers::reading_answer;
@@ -8,15 +8,17 @@ use point_volumes::book_newest;
 use point_volumes::span_to;
 use rules::Action;
 use rules::Fields;
+use rules::NormalVolume;
 use rules::Period;
 use rules::PointAction;
 use rules::Reading;
+use rules::Volume;
 ghost use mathlib.Core.Path.{_≡_};
 ghost use Rattle.input_point.specs.Between.Daily.{dailyRead, dailyAt, dailyOf};
 
 pub enum Daily {
-    // The day, the last reading from then on, and the newest period's volume.
-    Read(u32, Reading, u64),
+    // The day, the last reading from then on, and the newest period's two volumes.
+    Read(u32, Reading, Volume, NormalVolume),
     Other,
 }
 
@@ -37,7 +39,9 @@ fn daily_read(day: u32, p: u64, d: u64, x: u64, z: u64, n: usize, f: Fields, q: 
     let s = span_to(m, last, at, x, z);
     let booked = book_newest(s, q);
     let now = Reading { day: at, index: x };
-    Daily::Read(day, now, booked.volume)
+    let volume = booked.volume;
+    let normal = booked.normal;
+    Daily::Read(day, now, volume, normal)
 }
 
 fn daily_at(day: u32, p: u64, a: PointAction, n: usize, f: Fields, q: Period) -> Daily

@@ -6,8 +6,10 @@ use point_volumes::book_newest;
 use rules::Action;
 use rules::Effect;
 use rules::Fields;
+use rules::NormalVolume;
 use rules::Period;
 use rules::Span;
+use rules::Volume;
 ghost use mathlib.Core.Path.{_≡_};
 ghost use mathlib.Core.Bool.{_&&_};
 ghost use Prim.Native.Nat.{min};
@@ -77,6 +79,8 @@ fn naming_deed(t: u32, g: Fields, n: usize, q: Period) -> Deed
     let s = g.supply;
     let holder = s.holder;
     let start = q.start;
+    let volume = q.volume;
+    let normal = q.normal;
     if starts_on(n, start, t) {
         return Deed::Slot(Entry {
             today: t,
@@ -86,7 +90,8 @@ fn naming_deed(t: u32, g: Fields, n: usize, q: Period) -> Deed
             period: Period {
                 start: t,
                 holder: holder,
-                volume: q.volume,
+                volume: volume,
+                normal: normal,
             },
         });
     }
@@ -99,7 +104,8 @@ fn naming_deed(t: u32, g: Fields, n: usize, q: Period) -> Deed
             period: Period {
                 start: t,
                 holder: holder,
-                volume: 0,
+                volume: Volume(0),
+                normal: NormalVolume(0),
             },
         });
     }

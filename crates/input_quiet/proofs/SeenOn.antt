@@ -35,18 +35,18 @@ module _ (d s : ℕ) (h : History) (w : Whole h) where
   replaced-seen : (f : Fields) → seenIn f (replaced d s h) ≡ seen f (used h) d
   unfolding replaced
   replaced-seen f = ap (λ (q : Period). seen f (used h) (q .start))
-      (getD-set-same (h .periods) (used h - 1) (period d s (newest h .volume)) noPeriod (omega arith))
+      (getD-set-same (h .periods) (used h - 1) (period d s (newest h .volume .0) (newest h .normal .0)) noPeriod (omega arith))
 
   appended-seen : (f : Fields) → seenIn f (appended d s h) ≡ cond (ltb (used h) 24) (seen f (used h + 1) d) (seenIn f h)
   unfolding appended
   appended-seen f = go (ltb (used h) 24) refl
     where
       go : (b : Bool) → ltb (used h) 24 ≡ b →
-          seenIn f (cond b (history (used h + 1) (set (h .periods) (used h) (period d s 0))) h)
+          seenIn f (cond b (history (used h + 1) (set (h .periods) (used h) (period d s 0 0))) h)
           ≡ cond b (seen f (used h + 1) d) (seenIn f h)
       go true e = let lt = ltb-true (used h) 24 e in let m : min (used h + 1) 24 ≡ used h + 1 = omega arith in
           let k : used h + 1 - 1 ≡ used h = omega arith in
-          rw (m, k, getD-set-same (h .periods) (used h) (period d s 0) noPeriod (omega arith))
+          rw (m, k, getD-set-same (h .periods) (used h) (period d s 0 0) noPeriod (omega arith))
       go false e = refl
 
   named-seen : (f g : Fields) → seenIn f (named d s h) ≡ namedSeen d f (seenIn g h)
@@ -65,8 +65,8 @@ module _ (d s : ℕ) (h : History) (w : Whole h) where
   named-whole = go (startsOn d h) (ltb (used h) 24)
     where
       go : (a b : Bool) →
-          Whole (cond a (history (h .count) (set (h .periods) (used h - 1) (period d s (newest h .volume))))
-          (cond b (history (used h + 1) (set (h .periods) (used h) (period d s 0))) h))
+          Whole (cond a (history (h .count) (set (h .periods) (used h - 1) (period d s (newest h .volume .0) (newest h .normal .0))))
+          (cond b (history (used h + 1) (set (h .periods) (used h) (period d s 0 0))) h))
       go true b = simp length-set w
       go false true = simp length-set w
       go false false = w

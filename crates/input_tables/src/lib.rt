@@ -2,9 +2,11 @@
 use point_volumes::book;
 use rules::Fields;
 use rules::History;
+use rules::NormalVolume;
 use rules::Period;
 use rules::Point;
 use rules::Span;
+use rules::Volume;
 ghost use mathlib.Core.Path.{_≡_};
 ghost use Rattle.input_tables.specs.Between.Tables.{Apart, pointsOf, bookedAt};
 
@@ -34,7 +36,8 @@ pub fn tables_of(ps: [Point; 32]) -> Tables
     let none = Period {
         start: 0,
         holder: 0,
-        volume: 0,
+        volume: Volume(0),
+        normal: NormalVolume(0),
     };
     let mut fields = [first; 32];
     let mut counts: [usize; 32] = [0; 32];

@@ -33,6 +33,7 @@ unfolding leapRow monthLength next dateOf monthStart yearStart dayNumber isReal 
 transcript-examples =
     record {
       of-document-01 = record { by-desk = refl; by-book = refl };
+      cubic-metres = record { by-desk = refl; by-book = refl };
       line-before-set = record { by-desk = refl; by-book = refl };
       set-refused-then-accepted = record { by-desk = refl; by-book = refl };
       later-set = record { by-desk = refl; by-book = refl };

@@ -20,5 +20,7 @@ answer-examples =
       first-period = refl;
       second-period = refl;
       total-of-1 = refl;
+      cubic-period = refl;
+      cubic-total = refl;
       largest-volume = refl;
     }

@@ -4,7 +4,7 @@ use mathlib.Core.Bool.{Bool, true, false, cond}
 use mathlib.Core.List.{List, [], _∷_, _++_}
 use mathlib.Core.Option.{Option, none, some}
 use lib.Dec.{eqb}
-use Rattle.rules.specs.declared.{Answer.Answer, Period.Period}
+use Rattle.rules.specs.declared.{Answer.Answer, Period.Period, Volume.Volume, NormalVolume.NormalVolume}
 use Rattle.rules.specs.Answers.{isAccepted, number, date}
 use Rattle.line_text.specs.Ascii.{ascii}
 use Rattle.line_text.specs.Decimal.{decimal, fixed}
@@ -43,10 +43,15 @@ answerLine k a =
     word (shownKind k (number a)) ++ sep (verdict (isAccepted a) ∷
     sep (decimal (number a) (sep (dateShown (date a) feed))))
 
+-- 02, F-4: "Each period gains its Nm³ volume in thousandths, the fifth field of its line; a point's Nm³ advance, the
+-- fourth of its `total` line": the two volumes that end a line.
+abbrev pub volumesShown : Volume → NormalVolume → List ℕ
+volumesShown v n = sep (decimal (v .0) (sep (decimal (n .0) feed)))
+
 -- 01: "its periods (point; start; holder; volume)".
 unfoldable pub periodLine : ℕ → Period → List ℕ
-periodLine p q = decimal p (sep (dayText (q .start) (sep (decimal (q .holder) (sep (decimal (q .volume) feed))))))
+periodLine p q = decimal p (sep (dayText (q .start) (sep (decimal (q .holder) (volumesShown (q .volume) (q .normal))))))
 
 -- 01: "and `total`; point; advance".
-unfoldable pub totalLine : ℕ → ℕ → List ℕ
-totalLine p v = ascii "total" ++ sep (decimal p (sep (decimal v feed)))
+unfoldable pub totalLine : ℕ → Volume → NormalVolume → List ℕ
+totalLine p v n = ascii "total" ++ sep (decimal p (volumesShown v n))

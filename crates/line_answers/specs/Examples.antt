@@ -4,12 +4,17 @@ use Prim.Native.Nat.{ℕ}
 use mathlib.Core.Path.{_≡_}
 use mathlib.Core.List.{List, [], _∷_, _++_}
 use Rattle.rules.specs.declared.{Answer.Answer}
+use Rattle.rules.specs.Pinned.Register.{period}
 use Rattle.line_text.specs.Ascii.{ascii}
 use Rattle.line_kinds.specs.declared.{Kind.Kind}
 use Rattle.line_answers.specs.Answers.{answerLine, periodLine, totalLine}
 
 abbrev pub ended : List ℕ → List ℕ
 ended l = l ++ (10 ∷ [])
+
+-- A total line by its numbers: the point, the wheels' own volume, the normal one.
+abbrev pub total : ℕ → ℕ → ℕ → List ℕ
+total p v n = totalLine p (record { 0 = v }) (record { 0 = n })
 
 pub record AnswerExamples : Type 0 where
   -- 01: "Answer line: kind; 1 accepted or 0 rejected; number, 0 if accepted; a date (e or the deadline, else
@@ -24,9 +29,12 @@ pub record AnswerExamples : Type 0 where
   -- a day off the calendar, which no answer of the register carries
   pub off-the-calendar : answerLine Kind.Demcf (Answer.AcceptedOn 73049) ≡ ended (ascii "demcf;1;0;00000000")
   -- 01: "its periods (point; start; holder; volume) and `total`; point; advance"
-  pub first-period : periodLine 1 (record { start = 7671; holder = 0; volume = 4000 }) ≡
-      ended (ascii "1;20210101;0;4000")
-  pub second-period : periodLine 1 (record { start = 7674; holder = 5; volume = 16000 }) ≡
-      ended (ascii "1;20210104;5;16000")
-  pub total-of-1 : totalLine 1 20000 ≡ ended (ascii "total;1;20000")
-  pub largest-volume : totalLine 32 18446744073709551615 ≡ ended (ascii "total;32;18446744073709551615")
+  -- 02, F-4: "in document 01's case .. each volume stands twice"
+  pub first-period : periodLine 1 (period 7671 0 4000 4000) ≡ ended (ascii "1;20210101;0;4000;4000")
+  pub second-period : periodLine 1 (period 7674 5 16000 16000) ≡ ended (ascii "1;20210104;5;16000;16000")
+  pub total-of-1 : total 1 20000 20000 ≡ ended (ascii "total;1;20000;20000")
+  -- two volumes that differ, the wheels' own first
+  pub cubic-period : periodLine 1 (period 7671 5 2000 1900) ≡ ended (ascii "1;20210101;5;2000;1900")
+  pub cubic-total : total 1 2000 1900 ≡ ended (ascii "total;1;2000;1900")
+  pub largest-volume : total 32 18446744073709551615 18446744073709551615 ≡
+      ended (ascii "total;32;18446744073709551615;18446744073709551615")

@@ -9,9 +9,11 @@ use line_text::write::put_day;
 use line_text::write::put_number;
 use line_text::write::put_word;
 use rules::Answer;
+use rules::NormalVolume;
 use rules::Period;
+use rules::Volume;
 ghost use mathlib.Core.Path.{_≡_};
-ghost use Prim.Native.Nat.{_+_};
+ghost use Prim.Native.Nat.{_+_, _≤_};
 ghost use mathlib.Core.List.{[], _∷_};
 ghost use lib.ListN.{length};
 ghost use Rattle.line_text.specs.Between.Appending.{Appended};
@@ -19,7 +21,8 @@ ghost use Rattle.line_text.specs.Decimal.{decimal};
 ghost use Rattle.line_text.specs.Days.{dayText};
 ghost use Rattle.line_kinds.specs.Kinds.{word as Kinds·word};
 ghost use Rattle.rules.specs.Answers.{isAccepted, number, date};
-ghost use Rattle.line_answers.specs.Answers.{shownKind, verdict, dateShown, answerLine, periodLine, totalLine};
+ghost use Rattle.line_answers.specs.Answers.{shownKind, verdict, dateShown, answerLine};
+ghost use Rattle.line_answers.specs.Answers.{volumesShown, periodLine, totalLine};
 
 // The first day past the calendar.
 const NO_DAY: u64 = LAST_DAY as u64 + 1;
@@ -55,6 +58,7 @@ pub fn put_period(out: &mut [u8], at: usize, point: u64, period: Period) -> usiz
     let start = period.start as u64;
     let holder = period.holder as u64;
     let volume = period.volume;
+    let normal = period.normal;
     let size = period_size(point, period);
     if out.len() < at {
         return at;
@@ -66,17 +70,21 @@ pub fn put_period(out: &mut [u8], at: usize, point: u64, period: Period) -> usiz
     let start_at = put_byte(out, point_end, b';');
     let start_end = put_day(out, start_at, start);
     let holder_at = put_byte(out, start_end, b';');
-    let holder_end = put_number(out, holder_at, holder);
-    let volume_at = put_byte(out, holder_end, b';');
-    let volume_end = put_number(out, volume_at, volume);
-    put_byte(out, volume_end, b'\n')
+    let volumes_at = put_number(out, holder_at, holder);
+    put_volumes(out, volumes_at, volume, normal)
 }
 
-// A point's registered advance.
-pub fn put_total(out: &mut [u8], at: usize, point: u64, advance: u64) -> usize
-    ensures { λ r. ⌜ Appended at (totalLine point advance) (now (out .entry)) (now (out .exit)) r ⌝ }
+// A point's registered advance, as the wheels count it and in normal cubic metres.
+pub fn put_total(
+    out: &mut [u8],
+    at: usize,
+    point: u64,
+    advance: Volume,
+    normal: NormalVolume,
+) -> usize
+    ensures { λ r. ⌜ Appended at (totalLine point advance normal) (now (out .entry)) (now (out .exit)) r ⌝ }
 {
-    let size = total_size(point, advance);
+    let size = total_size(point, advance, normal);
     if out.len() < at {
         return at;
     }
@@ -84,10 +92,20 @@ pub fn put_total(out: &mut [u8], at: usize, point: u64, advance: u64) -> usize
         return at;
     }
     let point_at = put_word(out, at, b"total;");
-    let point_end = put_number(out, point_at, point);
-    let advance_at = put_byte(out, point_end, b';');
-    let advance_end = put_number(out, advance_at, advance);
-    put_byte(out, advance_end, b'\n')
+    let volumes_at = put_number(out, point_at, point);
+    put_volumes(out, volumes_at, advance, normal)
+}
+
+// The two volumes that end a closing line, each behind its `;`.
+fn put_volumes(out: &mut [u8], at: usize, volume: Volume, normal: NormalVolume) -> usize
+    requires { ⌜ at + length (volumesShown volume normal) ≤ length (now out) ⌝ }
+    ensures { λ r. ⌜ Appended at (volumesShown volume normal) (now (out .entry)) (now (out .exit)) r ⌝ }
+{
+    let volume_at = put_byte(out, at, b';');
+    let volume_end = put_number(out, volume_at, volume.0);
+    let normal_at = put_byte(out, volume_end, b';');
+    let normal_end = put_number(out, normal_at, normal.0);
+    put_byte(out, normal_end, b'\n')
 }
 
 // The lengths of the lines; that of an answer's by the kind and the number that it shows.
@@ -103,13 +121,21 @@ fn period_size(point: u64, period: Period) -> usize
     ensures { λ r. ⌜ r ≡ length (periodLine point period) ⌝ }
 {
     let holder = period.holder as u64;
-    digit_count(point) + digit_count(holder) + digit_count(period.volume) + 12
+    let volume = period.volume;
+    let normal = period.normal;
+    digit_count(point) + digit_count(holder) + volumes_size(volume, normal) + 10
 }
 
-fn total_size(point: u64, advance: u64) -> usize
-    ensures { λ r. ⌜ r ≡ length (totalLine point advance) ⌝ }
+fn total_size(point: u64, advance: Volume, normal: NormalVolume) -> usize
+    ensures { λ r. ⌜ r ≡ length (totalLine point advance normal) ⌝ }
 {
-    digit_count(point) + digit_count(advance) + 8
+    digit_count(point) + volumes_size(advance, normal) + 6
+}
+
+fn volumes_size(volume: Volume, normal: NormalVolume) -> usize
+    ensures { λ r. ⌜ (r ≡ length (volumesShown volume normal)) × (r ≤ 43) ⌝ }
+{
+    digit_count(volume.0) + digit_count(normal.0) + 3
 }
 
 // The number of an answer, 0 if accepted.

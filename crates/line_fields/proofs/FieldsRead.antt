@@ -4,7 +4,7 @@ use Rattle.line_values.proofs.Places.{Ends, ends-self, end-place}
 use Rattle.line_fields.specs.declared.{KnownDate.KnownDate, LineFields.LineFields, Shape.Shape}
 use Rattle.line_fields.specs.Between.Known.{IsKnown}
 use Rattle.line_fields.specs.Pinned.Reading.{values, unread, fieldsIn}
-use Rattle.line_fields.specs.Between.Shapes.{sortsOf}
+use Rattle.line_fields.specs.Between.Shapes.{mostFields, sortsOf}
 use Rattle.line_fields.specs.Between.With.{AllWith, fieldsInWith, ReadsFields}
 use Rattle.line_fields.proofs.Handed.{fields-rest}
 use Rattle.line_fields.proofs.KnownStays.{known-stays}
@@ -12,7 +12,7 @@ use Rattle.line_fields.proofs.KnownStays.{known-stays}
 -- what follows the fields is the end of the text
 pub fields-in-rest : (k : KnownDate) (s : Shape) (l : List ℕ) → Ends l (fieldsInWith k s l .rest)
 unfolding fieldsInWith
-fields-in-rest k s l = cases (leb (s .count) 7) (λ e. rw e (fields-rest k (sortsOf s) [] l)) (λ e. rw e (ends-self l))
+fields-in-rest k s l = cases (leb (s .count) mostFields) (λ e. rw e (fields-rest k (sortsOf s) [] l)) (λ e. rw e (ends-self l))
 
 -- what the code read of the text s
 module _ (last : KnownDate) (shape : Shape) (from : ℕ) (s after : List ℕ) (r : LineFields) (h : ReadsFields last shape from s after r) where

@@ -9,6 +9,7 @@ use Rattle.line_values.specs.Pinned.Days.{dayIn}
 use Rattle.line_values.proofs.Places.{Ends, ends-self, ends-cons, ends-on, ends-short, Leaves, number-leaves, day-leaves, end-place, further}
 use Rattle.line_fields.specs.declared.{Sort.Sort, Shape.Shape, KnownDate.KnownDate, LineFields.LineFields, FieldFound.FieldFound}
 use Rattle.line_fields.specs.Between.Known.{knownText}
+use Rattle.line_fields.specs.Between.Shapes.{mostFields}
 use Rattle.line_fields.specs.Between.With.{ParsedWith, value, none, knownBy, dateWith, valueWith, fieldWith, AllWith, withAll, onWith}
 use Rattle.line_fields.specs.Between.With.{fieldsWith, fieldsInWith}
 use Rattle.line_fields.specs.Between.With.{foundWith, lineFieldsAt, valuesAfter, ReadsFields}
@@ -89,8 +90,8 @@ fields-step s i k t ts acc = field-then s i (fieldWith k t (drop i s)) _ _ (fiel
     (λ n r d. fields-rest d ts (acc ++ (n ∷ [])) r)
 
 -- at the end: the values, and zeros behind them
-pub handed-here : (s : List ℕ) (at i : ℕ) (vs : List ℕ) (ok : Bool) (k : KnownDate) → i ≤ 7 → length vs ≡ 7 →
-    drop i vs ≡ replicate (7 - i) 0 →
+pub handed-here : (s : List ℕ) (at i : ℕ) (vs : List ℕ) (ok : Bool) (k : KnownDate) → i ≤ mostFields → length vs ≡ mostFields →
+    drop i vs ≡ replicate (mostFields - i) 0 →
     handed s at (withAll ok (take i vs) (drop at s) k) ≡ (record { ok = ok; end = at; known = k }, vs)
 handed-here s at i vs ok k b n z = let end : at + (length (drop at s) - length (drop at s)) ≡ at = omega arith in
     rw (end, length-take-le i vs (omega arith), ← z, take-append-drop i vs)

@@ -6,7 +6,7 @@ use Rattle.line_values.specs.Pinned.Days.{dayIn}
 use Rattle.line_fields.specs.declared.{KnownDate.KnownDate, Shape.Shape, Sort.Sort}
 use Rattle.line_fields.specs.Between.Known.{packed, knownText, firstKnown, IsKnown}
 use Rattle.line_fields.specs.Pinned.Reading.{AllParsed, unread, valueOf, fieldOf, andThen, fieldsOf, fieldsIn}
-use Rattle.line_fields.specs.Between.Shapes.{sortsOf}
+use Rattle.line_fields.specs.Between.Shapes.{mostFields, sortsOf}
 use Rattle.line_fields.specs.Between.With.{ParsedWith, value, none, knownBy, dateRead, dateWith, valueWith, fieldWith}
 use Rattle.line_fields.specs.Between.With.{AllWith, onWith, fieldsWith, fieldsInWith, allOf}
 use Rattle.line_fields.specs.Between.KnownStays.{KnownStays}
@@ -53,7 +53,7 @@ fields-as k (s ∷ ss) acc l h = then-as (fieldWith k s l) (fieldOf s l) _ _ _ (
 
 all-as : (k : KnownDate) (s : Shape) (l : List ℕ) → IsKnown k → AllAs (fieldsInWith k s l) (fieldsIn s l)
 unfolding fieldsInWith fieldsIn
-all-as k s l h = cases (leb (s .count) 7) (λ e. rw e (fields-as k (sortsOf s) [] l h)) (λ e. rw e (refl, h))
+all-as k s l h = cases (leb (s .count) mostFields) (λ e. rw e (fields-as k (sortsOf s) [] l h)) (λ e. rw e (refl, h))
 
 pub known-stays : KnownStays
 known-stays = record { first = first-right; same = λ k s l h. all-as k s l h .0; right = λ k s l h. all-as k s l h .1 }

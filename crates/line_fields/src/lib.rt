@@ -17,7 +17,7 @@ pub enum Sort {
 }
 
 // The most fields that a line has.
-pub const MOST_FIELDS: usize = 7;
+pub const MOST_FIELDS: usize = 9;
 
 // The fields of a line behind its kind: how many, at most MOST_FIELDS. The first is a date, and so is the one at
 // second.

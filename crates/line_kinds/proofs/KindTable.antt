@@ -21,7 +21,7 @@ pub record Sound (k : Kind) : Type 0 where
   pub few : shapeOf k .count ≤ mostFields
   pub inside : rowOf k .word .len ≤ length (rowOf k .word .bytes)
   pub short : length (word k) ≤ 8
-  pub small : length (word k) + widths (sortsOf (shapeOf k)) ≤ 90
+  pub small : length (word k) + widths (sortsOf (shapeOf k)) ≤ 116
 
 pub sound : (k : Kind) → Sound k
 unfolding sortsFrom kindIn isSame

@@ -27,13 +27,13 @@ abbrev pub rowOf : Kind → KindRow
 rowOf Kind.Set = row (ascii "set") 6 0
 rowOf Kind.Ctr = row (ascii "ctr") 2 0
 rowOf Kind.Def = row (ascii "def") 2 0
-rowOf Kind.Enr = row (ascii "enr") 5 0
+rowOf Kind.Enr = row (ascii "enr") 7 0
 rowOf Kind.Demmespc = row (ascii "demmespc") 4 0
 rowOf Kind.I = row (ascii "i") 3 0
 rowOf Kind.Demcf = row (ascii "demcf") 5 4
 rowOf Kind.Adc = row (ascii "adc") 3 0
 rowOf Kind.Ri = row (ascii "ri") 5 2
-rowOf Kind.Cdt = row (ascii "cdt") 7 0
+rowOf Kind.Cdt = row (ascii "cdt") 9 0
 rowOf Kind.Demmhs = row (ascii "demmhs") 2 0
 rowOf Kind.Sus = row (ascii "sus") 3 0
 rowOf Kind.Jour = row (ascii "jour") 1 0

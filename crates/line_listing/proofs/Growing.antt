@@ -16,8 +16,7 @@ pub lines-none : (p : ℕ) (ps : List Period) → periodLines p 0 ps ≡ []
 unfolding periodLines
 lines-none p ps = refl
 
--- the lines of a point of two digits, with any holder of 8 bits and any volume of 64
-pub period-within : (p : ℕ) (q : Period) → p < 100 → q .holder < 256 → q .volume < 2 ^ 64 → length (periodLine p q) ≤
-    37
-period-within p q hp hh hv = period-short p q 2 3 20 (omega arith) (omega arith) (omega arith) (omega arith)
-    (omega arith) (omega arith)
+-- the lines of a point of two digits, with any holder of 8 bits and any volumes of 64
+pub period-within : (p : ℕ) (q : Period) → p < 100 → q .holder < 256 → q .volume .0 < 2 ^ 64 → q .normal .0 < 2 ^ 64
+    → length (periodLine p q) ≤ 58
+period-within p q hp hh hv hn = period-short p q 2 3 (omega arith) (omega arith) (omega arith) (omega arith) hv hn

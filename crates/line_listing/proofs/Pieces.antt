@@ -20,7 +20,7 @@ one r from room = let k : from + taken from room + 1 ≡ from + 1 + taken from r
     rw (k, ← (drop-drop (taken from room) from (r .points)))
     (listing-split (from + 1) (taken from room) (drop from (r .points)))
 
-goes-on : (from room : ℕ) → from < 32 → 918 ≤ room → from < from + taken from room
+goes-on : (from room : ℕ) → from < 32 → 1443 ≤ room → from < from + taken from room
 goes-on from room h k = omega arith
 
 in-range : (from room : ℕ) → from ≤ 32 → from + taken from room ≤ 32

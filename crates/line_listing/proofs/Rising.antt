@@ -32,7 +32,7 @@ abbrev from-to : ℕ → ℕ → Listed
 from-to n k = record { next = n; written = k }
 
 pub listed : (r : Register) (from n : ℕ) (o o₁ : List ℕ) (e : ℕ) → n ≡ taken from (length o) →
-    AppendedWithin (n * 918) 0 (listingFrom (from + 1) (take n (drop from (r .points)))) o o₁ e →
+    AppendedWithin (n * 1443) 0 (listingFrom (from + 1) (take n (drop from (r .points)))) o o₁ e →
     ListedFrom r from o o₁ (from-to (from + n) e)
 listed r from n o o₁ e h w = let short = w .short in let p = room-put 0 _ o o₁ e (w .text) (omega arith) in
     record {

@@ -26,22 +26,23 @@ abbrev pub line : List ℕ → List ℕ → List ℕ
 line t l = t ++ (10 ∷ l)
 
 abbrev pub first : Point
-first = pointWith enrolled 2 (period 7671 0 4000 ∷ period 7674 5 16000 ∷ [])
+first = pointWith enrolled 2 (period 7671 0 4000 4000 ∷ period 7674 5 16000 16000 ∷ [])
 
--- One period in use, and another one in a slot beyond the count.
+-- One period in use, whose two volumes differ, and another one in a slot beyond the count.
 abbrev pub third : Point
-third = pointWith enrolled 1 (period 7680 0 7 ∷ period 7681 9 9 ∷ [])
+third = pointWith enrolled 1 (period 7680 0 7 6 ∷ period 7681 9 9 9 ∷ [])
 
 -- Not enrolled, whatever its slots hold.
 abbrev pub second : Point
-second = pointWith blank 2 (period 7671 0 4000 ∷ period 7674 5 16000 ∷ [])
+second = pointWith blank 2 (period 7671 0 4000 4000 ∷ period 7674 5 16000 16000 ∷ [])
 
 pub record ListingExamples : Type 0 where
-  -- 01, "Output": the last three lines
+  -- 01, "Output": the last three lines; 02, F-4: "in document 01's case .. each volume stands twice"
   pub of-document-01 : listing (registerOf (first ∷ replicate 31 blankPoint)) ≡
-      line (ascii "1;20210101;0;4000") (line (ascii "1;20210104;5;16000") (line (ascii "total;1;20000") []))
+      line (ascii "1;20210101;0;4000;4000") (line (ascii "1;20210104;5;16000;16000")
+      (line (ascii "total;1;20000;20000") []))
   -- "per enrolled point, rising"
   pub first-and-third : listing (registerOf (first ∷ second ∷ third ∷ replicate 29 blankPoint)) ≡
-      line (ascii "1;20210101;0;4000") (line (ascii "1;20210104;5;16000") (line (ascii "total;1;20000")
-      (line (ascii "3;20210110;0;7") (line (ascii "total;3;7") []))))
+      line (ascii "1;20210101;0;4000;4000") (line (ascii "1;20210104;5;16000;16000") (line (ascii "total;1;20000;20000")
+      (line (ascii "3;20210110;0;7;6") (line (ascii "total;3;7;6") []))))
   pub none-enrolled : listing (registerOf (replicate 32 blankPoint)) ≡ []

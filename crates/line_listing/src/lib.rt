@@ -3,9 +3,11 @@ use line_answers::put_period;
 use line_answers::put_total;
 use point_periods::period_count;
 use questions::advance_in;
+use rules::NormalVolume;
 use rules::Period;
 use rules::Point;
 use rules::Register;
+use rules::Volume;
 ghost use mathlib.Core.Path.{_≡_};
 ghost use Prim.Native.Nat.{_+_, _-_, _*_, _≤_, _<_};
 ghost use lib.ListN.{length};
@@ -15,8 +17,8 @@ ghost use Rattle.line_answers.specs.Answers.{periodLine};
 ghost use Rattle.line_listing.specs.Pinned.Listing.{periodLines, pointLines};
 ghost use Rattle.line_listing.specs.Pinned.Pieces.{taken, ListedFrom, linesBehind};
 
-// The most bytes that the lines of one point take: 24 periods of at most 37 bytes, and a total of at most 30.
-const ROOM: usize = 918;
+// The most bytes that the lines of one point take: 24 periods of at most 58 bytes, and a total of at most 51.
+const ROOM: usize = 1443;
 
 // What a call has done: the points before next are listed, and the text has so many bytes.
 pub struct Listed {
@@ -54,8 +56,8 @@ fn taken_from(from: usize, room: usize) -> usize
 
 // The lines of n points behind the first ones, from the start of out on.
 fn put_points(out: &mut [u8], points: [Point; 32], from: usize, n: usize) -> usize
-    requires { ⌜ (n ≤ 32 - from) × (n * 918 ≤ length (now out)) ⌝ }
-    ensures { λ x. ⌜ AppendedWithin (n * 918) 0 (linesBehind from n points) (now (out .entry)) (now (out .exit)) x ⌝ }
+    requires { ⌜ (n ≤ 32 - from) × (n * 1443 ≤ length (now out)) ⌝ }
+    ensures { λ x. ⌜ AppendedWithin (n * 1443) 0 (linesBehind from n points) (now (out .entry)) (now (out .exit)) x ⌝ }
 {
     let mut at: usize = 0;
     let mut i: usize = 0;
@@ -70,8 +72,8 @@ fn put_points(out: &mut [u8], points: [Point; 32], from: usize, n: usize) -> usi
 
 // The lines of point p: none where it is not enrolled.
 fn put_point(out: &mut [u8], at: usize, p: u64, g: Point) -> usize
-    requires { ⌜ (p < 100) × (at + 918 ≤ length (now out)) ⌝ }
-    ensures { λ x. ⌜ AppendedWithin 918 at (pointLines p g) (now (out .entry)) (now (out .exit)) x ⌝ }
+    requires { ⌜ (p < 100) × (at + 1443 ≤ length (now out)) ⌝ }
+    ensures { λ x. ⌜ AppendedWithin 1443 at (pointLines p g) (now (out .entry)) (now (out .exit)) x ⌝ }
 {
     let f = g.fields;
     if !f.enrolled {
@@ -82,35 +84,49 @@ fn put_point(out: &mut [u8], at: usize, p: u64, g: Point) -> usize
     let ps = h.periods;
     let total_at = put_periods(out, at, p, n, ps);
     let total = advance_in(h);
-    put_total(out, total_at, p, total)
+    let advance = total.volume;
+    let normal = total.normal;
+    put_total(out, total_at, p, advance, normal)
 }
 
 // The lines of the first n periods of point p.
 fn put_periods(out: &mut [u8], at: usize, p: u64, n: usize, ps: [Period; 24]) -> usize
-    requires { ⌜ (p < 100) × (n ≤ 24) × (at + 37 * n ≤ length (now out)) ⌝ }
-    ensures { λ x. ⌜ AppendedWithin (37 * n) at (periodLines p n ps) (now (out .entry)) (now (out .exit)) x ⌝ }
+    requires { ⌜ (p < 100) × (n ≤ 24) × (at + 58 * n ≤ length (now out)) ⌝ }
+    ensures { λ x. ⌜ AppendedWithin (58 * n) at (periodLines p n ps) (now (out .entry)) (now (out .exit)) x ⌝ }
 {
     let mut end = at;
     let mut i: usize = 0;
     while i < n {
         let q = ps[i];
-        end = put_line(out, end, p, q.start, q.holder, q.volume);
+        let volume = q.volume;
+        let normal = q.normal;
+        end = put_line(out, end, p, q.start, q.holder, volume, normal);
         i += 1;
     }
     end
 }
 
-// One period's line, which has at most 37 bytes.
-fn put_line(out: &mut [u8], at: usize, p: u64, start: u32, holder: u8, volume: u64) -> usize
+// One period's line, which has at most 58 bytes.
+fn put_line(
+    out: &mut [u8],
+    at: usize,
+    p: u64,
+    start: u32,
+    holder: u8,
+    volume: Volume,
+    normal: NormalVolume,
+) -> usize
     requires { ⌜ p < 100 ⌝ }
     ensures { λ x. ⌜
-        AppendedWithin 37 at (periodLine p (period start holder volume)) (now (out .entry)) (now (out .exit)) x
+        AppendedWithin 58 at (periodLine p (period start holder (volume .0) (normal .0))) (now (out .entry))
+        (now (out .exit)) x
         ⌝ }
 {
     let q = Period {
         start,
         holder,
         volume,
+        normal,
     };
     put_period(out, at, p, q)
 }

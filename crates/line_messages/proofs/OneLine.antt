@@ -49,7 +49,7 @@ module _ (m : Message) where
   pub sorts-own : sortsIn (said m .fields) ≡ sortsOf (shapeOf (kindOf m))
   sorts-own = ap (λ (s : Said). sortsIn (s .fields)) said-own ∙ sorts-as _ 0 _ _
 
-  pub line-short : fitAll (said m .fields) ≡ true → length (lineOf m) ≤ 90
+  pub line-short : fitAll (said m .fields) ≡ true → length (lineOf m) ≤ 116
   line-short fit = let fields = rw sorts-own at (fields-short (said m .fields) fit) in
       let sum = length-append (word (kindOf m)) (fieldsText (said m .fields)) in let small = sound (kindOf m) .small in
       omega arith
@@ -108,7 +108,7 @@ module _ (m : Message) (fit : isWritable m ≡ true) where
 text-was : (l : List ℕ) (m : Message) → readLine l ≡ m → (m ≡ Message.Unreadable → ⊥) → (l ≡ textOf m) × (isWritable m ≡ true)
 text-was l m e n = let w = line-was l m e n in (w .0 ∙ sym (its-text m (w .1)), w .1)
 
-pub text-short : (m : Message) → length (textOf m) ≤ 90
+pub text-short : (m : Message) → length (textOf m) ≤ 116
 unfolding textOf
 text-short m = cases (isWritable m) (λ e. rw e (line-short m (writable-fit m e))) (λ e. rw e (omega arith))
 

@@ -32,13 +32,13 @@ call-back : (t : ℕ) (a : Action) → messageOf (saidOn t a .kind) (valuesIn (s
 call-back t (Action.Contract s) = refl
 call-back t (Action.Failure s) = refl
 call-back t Action.Day = refl
-call-back t (Action.At p (PointAction.Enrol b a x)) = refl
+call-back t (Action.At p (PointAction.Enrol m)) = refl
 call-back t (Action.At p (PointAction.IntoService s k)) = refl
 call-back t (Action.At p (PointAction.DefaultSupply k)) = refl
 call-back t (Action.At p (PointAction.Request s k r)) = refl
 call-back t (Action.At p (PointAction.Cancel s)) = refl
 call-back t (Action.At p (PointAction.Reading d x z)) = refl
-call-back t (Action.At p (PointAction.MeterChange x z b a y)) = refl
+call-back t (Action.At p (PointAction.MeterChange x z m)) = refl
 call-back t (Action.At p PointAction.OutOfService) = refl
 call-back t (Action.At p (PointAction.Suspend m)) = refl
 

@@ -3,8 +3,9 @@
 use Prim.Native.Nat.{ℕ}
 use mathlib.Core.Path.{_≡_}
 use mathlib.Core.List.{List, [], _∷_, _++_}
-use lib.ListN.{replicate}
+use lib.ListN.{length, replicate}
 use Rattle.rules.specs.declared.{Action.Action, PointAction.PointAction}
+use Rattle.rules.specs.Scenes.{enrol, change}
 use Rattle.line_text.specs.Ascii.{ascii}
 use Rattle.line_messages.specs.declared.{Message.Message}
 use Rattle.line_messages.specs.Pinned.Messages.{ask, askAt}
@@ -13,6 +14,11 @@ use Rattle.line_messages.specs.Pinned.Reading.{readLine}
 abbrev pub opening : ℕ → ℕ → ℕ → ℕ → ℕ → ℕ → Message
 opening d w a b default resort =
     Message.Open (record { day = d; w = w; a = a; b = b; default = default; resort = resort })
+
+-- A line of twelve digits in every number.
+abbrev pub longest : List ℕ
+longest =
+    ascii "cdt;21991231;999999999999;999999999999;999999999999;999999999999;999999999999;999999999999;999999999999;999999999999"
 
 -- A line is read, or it is unreadable.
 abbrev pub Says : List ℕ → Message → Type 0
@@ -26,13 +32,15 @@ pub record LineExamples : Type 0 where
   pub set-2021 : Says (ascii "set;20210101;2;30;40;1;2") (opening 7671 2 30 40 1 2)
   pub ctr-5 : Says (ascii "ctr;20210101;5") (ask 7671 (Action.Contract 5))
   pub def-5 : Says (ascii "def;20210101;5") (ask 7671 (Action.Failure 5))
-  pub enr-1 : Says (ascii "enr;20210101;1;3;0;990") (askAt 7671 1 (PointAction.Enrol 3 0 990))
+  pub enr-1 : Says (ascii "enr;20210101;1;3;0;990;2;0") (askAt 7671 1 (enrol 3 0 990 2 0))
+  pub enr-cubic : Says (ascii "enr;20210101;1;3;0;990;1;9500") (askAt 7671 1 (enrol 3 0 990 1 9500))
   pub demmespc-1 : Says (ascii "demmespc;20210104;1;5;77") (askAt 7674 1 (PointAction.IntoService 5 77))
   pub i-1 : Says (ascii "i;20210104;1;77") (askAt 7674 1 (PointAction.DefaultSupply 77))
   pub demcf-1 : Says (ascii "demcf;20210601;1;5;77;20210622") (askAt 7822 1 (PointAction.Request 5 77 7843))
   pub adc-1 : Says (ascii "adc;20210519;1;5") (askAt 7809 1 (PointAction.Cancel 5))
   pub ri-1 : Says (ascii "ri;20210114;1;20210113;10;1") (askAt 7684 1 (PointAction.Reading 7683 10 1))
-  pub cdt-1 : Says (ascii "cdt;20210114;1;10;0;4;2;123") (askAt 7684 1 (PointAction.MeterChange 10 0 4 2 123))
+  pub cdt-1 : Says (ascii "cdt;20210114;1;10;0;4;2;123;2;0") (askAt 7684 1 (change 10 0 4 2 123 2 0))
+  pub cdt-cubic : Says (ascii "cdt;20210114;1;10;0;4;2;123;1;9500") (askAt 7684 1 (change 10 0 4 2 123 1 9500))
   pub demmhs-1 : Says (ascii "demmhs;20210114;1") (askAt 7684 1 PointAction.OutOfService)
   pub sus-1 : Says (ascii "sus;20210114;1;0") (askAt 7684 1 (PointAction.Suspend 0))
   pub jour-2021 : Says (ascii "jour;20210114") (ask 7684 Action.Day)
@@ -46,13 +54,15 @@ pub record LineExamples : Type 0 where
   pub set-missing : Refused31 (ascii "set;20210101;2;30;40;1")
   pub ctr-missing : Refused31 (ascii "ctr;20210101")
   pub def-missing : Refused31 (ascii "def;20210101")
-  pub enr-missing : Refused31 (ascii "enr;20210101;1;3;0")
+  pub enr-missing : Refused31 (ascii "enr;20210101;1;3;0;990;2")
+  pub enr-no-code : Refused31 (ascii "enr;20210101;1;3;0;990")
   pub demmespc-missing : Refused31 (ascii "demmespc;20210104;1;5")
   pub i-missing : Refused31 (ascii "i;20210104;1")
   pub demcf-missing : Refused31 (ascii "demcf;20210601;1;5;77")
   pub adc-missing : Refused31 (ascii "adc;20210519;1")
   pub ri-missing : Refused31 (ascii "ri;20210114;1;20210113;10")
-  pub cdt-missing : Refused31 (ascii "cdt;20210114;1;10;0;4;2")
+  pub cdt-missing : Refused31 (ascii "cdt;20210114;1;10;0;4;2;123;2")
+  pub cdt-no-code : Refused31 (ascii "cdt;20210114;1;10;0;4;2;123")
   pub demmhs-missing : Refused31 (ascii "demmhs;20210114")
   pub sus-missing : Refused31 (ascii "sus;20210114;1")
   pub jour-missing : Refused31 (ascii "jour")
@@ -60,13 +70,13 @@ pub record LineExamples : Type 0 where
   pub set-extra : Refused31 (ascii "set;20210101;2;30;40;1;2;1")
   pub ctr-extra : Refused31 (ascii "ctr;20210101;5;1")
   pub def-extra : Refused31 (ascii "def;20210101;5;1")
-  pub enr-extra : Refused31 (ascii "enr;20210101;1;3;0;990;1")
+  pub enr-extra : Refused31 (ascii "enr;20210101;1;3;0;990;2;0;1")
   pub demmespc-extra : Refused31 (ascii "demmespc;20210104;1;5;77;1")
   pub i-extra : Refused31 (ascii "i;20210104;1;77;1")
   pub demcf-extra : Refused31 (ascii "demcf;20210601;1;5;77;20210622;1")
   pub adc-extra : Refused31 (ascii "adc;20210519;1;5;1")
   pub ri-extra : Refused31 (ascii "ri;20210114;1;20210113;10;1;1")
-  pub cdt-extra : Refused31 (ascii "cdt;20210114;1;10;0;4;2;123;1")
+  pub cdt-extra : Refused31 (ascii "cdt;20210114;1;10;0;4;2;123;2;0;1")
   pub demmhs-extra : Refused31 (ascii "demmhs;20210114;1;1")
   pub sus-extra : Refused31 (ascii "sus;20210114;1;0;1")
   pub jour-extra : Refused31 (ascii "jour;20210114;1")
@@ -105,5 +115,10 @@ pub record LineExamples : Type 0 where
   pub empty-line : Refused31 []
   pub carriage-return : Refused31 (ascii "jour;20210114" ++ (13 ∷ []))
   pub line-feed-inside : Refused31 (ascii "jour;20210114" ++ (10 ∷ []))
-  -- 01: "A line has at most 96 bytes"
-  pub ninety-seven-bytes : Refused31 (ascii "ctr;20210101;5" ++ replicate 83 48)
+  -- 02, F-4: "a line may have 128 bytes": the longest that is read has 116, and none is read with a digit more
+  pub bytes-116 : length longest ≡ 116
+  pub longest-read : Says longest (askAt 73048 999999999999
+      (change 999999999999 999999999999 999999999999 999999999999 999999999999 999999999999 999999999999))
+  pub bytes-117 : Refused31 (longest ++ (57 ∷ []))
+  pub bytes-128 : Refused31 (ascii "ctr;20210101;5" ++ replicate 114 48)
+  pub bytes-129 : Refused31 (ascii "ctr;20210101;5" ++ replicate 115 48)

@@ -1,7 +1,7 @@
 -- 01, Message lines: "A line is its kind, then today, then the call's fields in the order above". Definitions only.
 use Prim.Native.Nat.{ℕ}
 use mathlib.Core.List.{List, [], _∷_, _++_}
-use Rattle.rules.specs.declared.{Opening.Opening, Action.Action, PointAction.PointAction}
+use Rattle.rules.specs.declared.{Opening.Opening, Action.Action, NewMeter.NewMeter, PointAction.PointAction}
 use Rattle.line_fields.specs.Fields.{Field, date, num, fieldsText}
 use Rattle.line_kinds.specs.declared.{Kind.Kind}
 use Rattle.line_kinds.specs.Kinds.{word}
@@ -15,17 +15,19 @@ pub record Said : Type 0 where
 abbrev pub line : Kind → List Field → Said
 line k fs = record { kind = k; fields = fs }
 
+-- 02, F-4: "The lines `enr` and `cdt` gain the two fields at their end": the fields of the meter that they bring.
+abbrev pub meterFields : NewMeter → List Field
+meterFields m = num (m .before) ∷ num (m .after) ∷ num (m .index) ∷ num (m .code) ∷ num (m .factor) ∷ []
+
 -- The calls that name a point: t is today, p the point.
 abbrev pub saidAt : ℕ → ℕ → PointAction → Said
-saidAt t p (PointAction.Enrol before after index) =
-    line Kind.Enr (date t ∷ num p ∷ num before ∷ num after ∷ num index ∷ [])
+saidAt t p (PointAction.Enrol m) = line Kind.Enr (date t ∷ num p ∷ meterFields m)
 saidAt t p (PointAction.IntoService s key) = line Kind.Demmespc (date t ∷ num p ∷ num s ∷ num key ∷ [])
 saidAt t p (PointAction.DefaultSupply key) = line Kind.I (date t ∷ num p ∷ num key ∷ [])
 saidAt t p (PointAction.Request s key r) = line Kind.Demcf (date t ∷ num p ∷ num s ∷ num key ∷ date r ∷ [])
 saidAt t p (PointAction.Cancel s) = line Kind.Adc (date t ∷ num p ∷ num s ∷ [])
 saidAt t p (PointAction.Reading d x z) = line Kind.Ri (date t ∷ num p ∷ date d ∷ num x ∷ num z ∷ [])
-saidAt t p (PointAction.MeterChange x z before after fresh) =
-    line Kind.Cdt (date t ∷ num p ∷ num x ∷ num z ∷ num before ∷ num after ∷ num fresh ∷ [])
+saidAt t p (PointAction.MeterChange x z m) = line Kind.Cdt (date t ∷ num p ∷ num x ∷ num z ∷ meterFields m)
 saidAt t p PointAction.OutOfService = line Kind.Demmhs (date t ∷ num p ∷ [])
 saidAt t p (PointAction.Suspend mark) = line Kind.Sus (date t ∷ num p ∷ num mark ∷ [])
 

@@ -25,5 +25,5 @@ pub record OneLine : Type 0 where
   pub one-text : (l₁ l₂ : List ℕ) (m : Message) → readLine l₁ ≡ m → readLine l₂ ≡ m → (m ≡ Message.Unreadable → ⊥) →
       l₁ ≡ l₂
   pub one-message : (m₁ m₂ : Message) → isWritable m₁ ≡ true → isWritable m₂ ≡ true → textOf m₁ ≡ textOf m₂ → m₁ ≡ m₂
-  -- no line is longer than 90 bytes
-  pub short : (m : Message) → length (textOf m) ≤ 90
+  -- no line is longer than 116 bytes
+  pub short : (m : Message) → length (textOf m) ≤ 116

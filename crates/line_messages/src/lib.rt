@@ -8,6 +8,7 @@ use line_kinds::row_of;
 use line_text::LONGEST_LINE;
 use rules::Action;
 use rules::Call;
+use rules::NewMeter;
 use rules::Opening;
 use rules::PointAction;
 ghost use mathlib.Core.Path.{_≡_};
@@ -108,9 +109,13 @@ pub fn message_of(kind: Kind, v: [u64; MOST_FIELDS]) -> Message
             today,
             a,
             PointAction::Enrol {
-                before: b,
-                after: c,
-                index: d,
+                meter: NewMeter {
+                    before: b,
+                    after: c,
+                    index: d,
+                    code: e,
+                    factor: f,
+                },
             },
         ),
         Kind::Demmespc => asks_at(
@@ -147,9 +152,13 @@ pub fn message_of(kind: Kind, v: [u64; MOST_FIELDS]) -> Message
             PointAction::MeterChange {
                 index: b,
                 zero: c,
-                before: d,
-                after: e,
-                fresh: f,
+                meter: NewMeter {
+                    before: d,
+                    after: e,
+                    index: f,
+                    code: v[7],
+                    factor: v[8],
+                },
             },
         ),
         Kind::Demmhs => asks_at(today, a, PointAction::OutOfService),

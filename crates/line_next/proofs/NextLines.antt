@@ -3,6 +3,7 @@ use Rattle.basics.proofs.Basics.{_≡_, refl, sym, _∙_, ap, ap₂, true, fals
 use Rattle.basics.proofs.Basics.{append-assoc, append-nil, _≤_, ℕ, _+_, _<_, suc, add-one, arith, eqb, leb, length}
 use Rattle.basics.proofs.Basics.{drop, take, getD, length-append, length-drop, drop-of-length-le, take-append-drop}
 use Rattle.basics.proofs.Basics.{drop-cons, take-at, take-length, ne-eqb, eq-eqb, eqb-true, cases}
+use Rattle.line_text.specs.Longest.{longestLine}
 use Rattle.line_values.specs.Pinned.Words.{isSame}
 use Rattle.line_fields.specs.Pinned.Reading.{values, unread, fieldsOf}
 use Rattle.line_fields.specs.Fields.{fieldsText}
@@ -81,7 +82,7 @@ first-line t (c ∷ r) l p e h = let ten : c ≡ 10 = eqb-true c 10 h in
 -- a word that names no kind is no line
 no-line : (w : List ℕ) → wordEnd w ≡ length w → kindNamed w ≡ Kind.Unknown → readLine w ≡ Message.Unreadable
 unfolding readLine fieldsOf sortsFrom
-no-line w e u = rw (name, rest) (cases (leb (length w) 96) (λ q. rw q) (λ q. rw q)) where
+no-line w e u = rw (name, rest) (cases (leb (length w) longestLine) (λ q. rw q) (λ q. rw q)) where
   name : kindNamed (take (wordEnd w) w) ≡ Kind.Unknown
   name = rw (e, take-length w) u
 

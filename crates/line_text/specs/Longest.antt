@@ -1,6 +1,6 @@
--- 01, Message lines: "A line has at most 96 bytes without its line feed". Definitions only.
+-- 02, F-4: "a line may have 128 bytes"; 01: "without its line feed". Definitions only.
 use Prim.Native.Nat.{ℕ}
 
 -- In the code `LONGEST_LINE`.
 abbrev pub longestLine : ℕ
-longestLine = 96
+longestLine = 128

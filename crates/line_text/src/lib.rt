@@ -2,4 +2,4 @@
 pub mod write;
 
 // The most bytes that a line can have without its line feed.
-pub const LONGEST_LINE: usize = 96;
+pub const LONGEST_LINE: usize = 128;

@@ -73,7 +73,7 @@ fn values_of(m: Message) -> Values
     match m {
         Message::Open(o) => Values {
             kind: Kind::Set,
-            values: [o.day, o.w, o.a, o.b, o.default, o.resort, 0],
+            values: [o.day, o.w, o.a, o.b, o.default, o.resort, 0, 0, 0],
         },
         Message::Ask(c) => {
             let action = c.action;
@@ -81,7 +81,7 @@ fn values_of(m: Message) -> Values
         }
         Message::Unreadable => Values {
             kind: Kind::Unknown,
-            values: [0, 0, 0, 0, 0, 0, 0],
+            values: [0, 0, 0, 0, 0, 0, 0, 0, 0],
         },
     }
 }
@@ -92,16 +92,16 @@ fn call_values(t: u64, action: Action) -> Values
     match action {
         Action::Contract { supplier } => Values {
             kind: Kind::Ctr,
-            values: [t, supplier, 0, 0, 0, 0, 0],
+            values: [t, supplier, 0, 0, 0, 0, 0, 0, 0],
         },
         Action::Failure { supplier } => Values {
             kind: Kind::Def,
-            values: [t, supplier, 0, 0, 0, 0, 0],
+            values: [t, supplier, 0, 0, 0, 0, 0, 0, 0],
         },
         Action::At { point, act } => point_values(t, point, act),
         Action::Day => Values {
             kind: Kind::Jour,
-            values: [t, 0, 0, 0, 0, 0, 0],
+            values: [t, 0, 0, 0, 0, 0, 0, 0, 0],
         },
     }
 }
@@ -110,53 +110,45 @@ fn point_values(t: u64, p: u64, act: PointAction) -> Values
     ensures { λ r. ⌜ r ≡ valuesOf (saidAt t p act) ⌝ }
 {
     match act {
-        PointAction::Enrol {
-            before,
-            after,
-            index,
-        } => Values {
+        PointAction::Enrol { meter: m } => Values {
             kind: Kind::Enr,
-            values: [t, p, before, after, index, 0, 0],
+            values: [t, p, m.before, m.after, m.index, m.code, m.factor, 0, 0],
         },
         PointAction::IntoService { supplier, key } => Values {
             kind: Kind::Demmespc,
-            values: [t, p, supplier, key, 0, 0, 0],
+            values: [t, p, supplier, key, 0, 0, 0, 0, 0],
         },
         PointAction::DefaultSupply { key } => Values {
             kind: Kind::I,
-            values: [t, p, key, 0, 0, 0, 0],
+            values: [t, p, key, 0, 0, 0, 0, 0, 0],
         },
         PointAction::Request { supplier, key, day } => Values {
             kind: Kind::Demcf,
-            values: [t, p, supplier, key, day, 0, 0],
+            values: [t, p, supplier, key, day, 0, 0, 0, 0],
         },
         PointAction::Cancel { supplier } => Values {
             kind: Kind::Adc,
-            values: [t, p, supplier, 0, 0, 0, 0],
+            values: [t, p, supplier, 0, 0, 0, 0, 0, 0],
         },
         PointAction::Reading { day, index, zero } => Values {
             kind: Kind::Ri,
-            values: [t, p, day, index, zero, 0, 0],
+            values: [t, p, day, index, zero, 0, 0, 0, 0],
         },
         PointAction::MeterChange {
-            index,
-            zero,
-            before,
-            after,
-            fresh,
-        } => {
-            Values {
-                kind: Kind::Cdt,
-                values: [t, p, index, zero, before, after, fresh],
-            }
-        }
+            index: x,
+            zero: z,
+            meter: m,
+        } => Values {
+            kind: Kind::Cdt,
+            values: [t, p, x, z, m.before, m.after, m.index, m.code, m.factor],
+        },
         PointAction::OutOfService => Values {
             kind: Kind::Demmhs,
-            values: [t, p, 0, 0, 0, 0, 0],
+            values: [t, p, 0, 0, 0, 0, 0, 0, 0],
         },
         PointAction::Suspend { mark } => Values {
             kind: Kind::Sus,
-            values: [t, p, mark, 0, 0, 0, 0],
+            values: [t, p, mark, 0, 0, 0, 0, 0, 0],
         },
     }
 }

@@ -55,16 +55,7 @@ pub fn answer_at(
     ensures { λ r. ⌜ r ≡ answerAt set day contracts today p a v ⌝ }
 {
     match a {
-        PointAction::Enrol {
-            before,
-            after,
-            index,
-        } => enrol(
-            situation(set, day, contracts, today, p, v),
-            before,
-            after,
-            index,
-        ),
+        PointAction::Enrol { meter } => enrol(situation(set, day, contracts, today, p, v), meter),
         PointAction::IntoService { supplier, key } => into_service(
             situation(set, day, contracts, today, p, v),
             supplier,
@@ -96,19 +87,11 @@ pub fn answer_at(
             let f = v.fields;
             reading_answer(day, today, p, d, index, zero, f)
         }
-        PointAction::MeterChange {
-            index,
-            zero,
-            before,
-            after,
-            fresh,
-        } => meter_change(
+        PointAction::MeterChange { index, zero, meter } => meter_change(
             situation(set, day, contracts, today, p, v),
             index,
             zero,
-            before,
-            after,
-            fresh,
+            meter,
         ),
         PointAction::OutOfService => out_of_service(situation(set, day, contracts, today, p, v)),
         PointAction::Suspend { mark } => suspend(situation(set, day, contracts, today, p, v), mark),

@@ -1,5 +1,6 @@
 // The rows of the table for each call that names a point, in the order of the numbers: the first that applies.
 use point_checks::bad_day;
+use point_checks::bad_factor;
 use point_checks::effective_day;
 use point_checks::index_disagrees;
 use point_checks::is_accepted;
@@ -10,7 +11,7 @@ use point_checks::is_pending;
 use point_checks::near;
 use point_checks::no_contract;
 use point_checks::not_enrolled;
-use point_checks::not_wheels;
+use point_checks::not_meter;
 use point_checks::or;
 use point_checks::out_of_time;
 use point_checks::outside;
@@ -20,6 +21,7 @@ use point_volumes::full_turn;
 use point_volumes::turn_of;
 use rules::Answer;
 use rules::Fields;
+use rules::NewMeter;
 use rules::Pending;
 use rules::PointAction;
 use rules::Settings;
@@ -86,17 +88,18 @@ fn late_row(first: Answer, set: Settings, t: u64, q: Pending) -> Answer
     first
 }
 
-pub(crate) fn enrol(x: Situation, before: u64, after: u64, index: u64) -> Answer
-    ensures { λ r. ⌜ r ≡ answerIn x (PointAction.Enrol before after index) ⌝ }
+pub(crate) fn enrol(x: Situation, m: NewMeter) -> Answer
+    ensures { λ r. ⌜ r ≡ answerIn x (PointAction.Enrol m) ⌝ }
 {
     let v = x.view;
     let f = v.fields;
-    let a = row(Answer::Accepted, not_wheels(before, after), 22);
+    let a = row(Answer::Accepted, not_meter(m), 22);
+    let a = row(a, bad_factor(m), 40);
     let a = row(a, is_past(x.today), 20);
     let a = row(a, x.today < x.day as u64, 21);
     let a = row(a, outside(1, 32, x.point), 2);
     let a = row(a, f.enrolled, 23);
-    row(a, full_turn(before, after) <= index, 28)
+    row(a, full_turn(m.before, m.after) <= m.index, 28)
 }
 
 pub(crate) fn into_service(x: Situation, s: u64, key: u64) -> Answer
@@ -221,31 +224,25 @@ fn dated_reading(today: u64, p: u64, d: u64, x: u64, z: u64, f: Fields) -> Answe
     Answer::Accepted
 }
 
-pub(crate) fn meter_change(
-    x: Situation,
-    index: u64,
-    zero: u64,
-    before: u64,
-    after: u64,
-    fresh: u64,
-) -> Answer
-    ensures { λ r. ⌜ r ≡ answerIn x (PointAction.MeterChange index zero before after fresh) ⌝ }
+pub(crate) fn meter_change(x: Situation, index: u64, zero: u64, m: NewMeter) -> Answer
+    ensures { λ r. ⌜ r ≡ answerIn x (PointAction.MeterChange index zero m) ⌝ }
 {
     let v = x.view;
     let f = v.fields;
-    let m = f.meter;
+    let old = f.meter;
     let last = f.reading;
-    let a = row(
-        Answer::Accepted,
-        or(outside(0, 1, zero), not_wheels(before, after)),
-        22,
-    );
+    let a = row(Answer::Accepted, or(outside(0, 1, zero), not_meter(m)), 22);
+    let a = row(a, bad_factor(m), 40);
     let a = row(a, is_past(x.today), 20);
     let a = row(a, x.today < x.day as u64, 21);
     let a = row(a, not_enrolled(x.point, f.enrolled), 2);
     let a = row(a, out_of_time(x.today, x.today, last.day), 27);
-    let old = index_disagrees(turn_of(m), last.index, index, zero);
-    row(a, or(old, full_turn(before, after) <= fresh), 28)
+    let disagrees = index_disagrees(turn_of(old), last.index, index, zero);
+    row(
+        a,
+        or(disagrees, full_turn(m.before, m.after) <= m.index),
+        28,
+    )
 }
 
 pub(crate) fn out_of_service(x: Situation) -> Answer

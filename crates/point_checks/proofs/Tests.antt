@@ -38,7 +38,7 @@ near-less d t k n h e = same-leb (d - t) k d (t + n) (λ w. omega arith) (λ w. 
 abbrev pub disagree : ℕ → ℕ → ℕ → Bool
 disagree z x last = (eqb z 0 && ltb x last) || (eqb z 1 && not (ltb x last))
 
-or-false : (b : Bool) → b ≡ (b || false)
+pub or-false : (b : Bool) → b ≡ (b || false)
 or-false true = refl
 or-false false = refl
 

@@ -12,12 +12,14 @@ pub use days::too_late;
 pub use marks::is_full;
 pub use marks::view_of;
 use rules::Answer;
+use rules::NewMeter;
 use rules::Pending;
 ghost use mathlib.Core.Path.{_≡_};
 ghost use mathlib.Core.Bool.{not, _&&_, _||_};
 ghost use lib.Dec.{eqb, leb, ltb};
 ghost use Rattle.rules.specs.Answers.{isAccepted};
-ghost use Rattle.rules.specs.Rejections.{outside as Rejections·outside, notWheels, notPoint, noContract};
+ghost use Rattle.rules.specs.Rejections.{outside as Rejections·outside, notWheels, notMeter, badFactor};
+ghost use Rattle.rules.specs.Rejections.{notPoint, noContract};
 ghost use Rattle.rules.specs.Rejections.{isPending, isBy};
 
 pub fn is_accepted(a: Answer) -> bool
@@ -51,10 +53,30 @@ pub fn outside(lo: u64, hi: u64, n: u64) -> bool
 }
 
 // 22: the wheels of a meter are out of range.
-pub fn not_wheels(before: u64, after: u64) -> bool
+fn not_wheels(before: u64, after: u64) -> bool
     ensures { λ r. ⌜ r ≡ notWheels before after ⌝ }
 {
     or(outside(1, 8, before), outside(0, 3, after))
+}
+
+// 22: the wheels or the code of a meter.
+pub fn not_meter(m: NewMeter) -> bool
+    ensures { λ r. ⌜ r ≡ notMeter m ⌝ }
+{
+    or(not_wheels(m.before, m.after), outside(1, 2, m.code))
+}
+
+// 40: the factor is out of range where cubic metres are counted, or not 0 where normal ones are.
+pub fn bad_factor(m: NewMeter) -> bool
+    ensures { λ r. ⌜ r ≡ badFactor m ⌝ }
+{
+    if m.code == 1 {
+        return outside(1, 99999, m.factor);
+    }
+    if m.code == 2 {
+        return m.factor != 0;
+    }
+    false
 }
 
 // 1: s is not under contract.

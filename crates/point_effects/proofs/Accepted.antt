@@ -1,15 +1,15 @@
 -- What the checks have seen to where they let a call through: its numbers fit, and its reading can be booked.
 use Rattle.basics.proofs.Basics.{_≡_, refl, true, false, Bool, cond, _||_, [], _≤_, ℕ, _+_, _<_, eqb, ltb, leb, le-leb}
-use Rattle.basics.proofs.Basics.{ltb-false, leb-false}
+use Rattle.basics.proofs.Basics.{_&&_, not, true≢false, ltb-false, leb-false, eqb-true, eq-eqb, decLe, arith}
 use Rattle.dates.specs.Dates.{lastDay}
 use Rattle.dates.specs.Months.{threeMonthsAfter}
-use Rattle.rules.specs.declared.{Effect.Effect, Fields.Fields, History.History, PointAction.PointAction}
+use Rattle.rules.specs.declared.{Effect.Effect, Fields.Fields, History.History, NewMeter.NewMeter, PointAction.PointAction}
 use Rattle.rules.specs.declared.{Settings.Settings, SupplyKind.SupplyKind}
 use Rattle.rules.specs.Fields.{supply, withSupply, withPending}
 use Rattle.rules.specs.Effects.{spansIn, effectiveDay, effectOf, dropped, failed}
-use Rattle.rules.specs.Rejections.{outside, notMark, notWheels, notSupplier, notKey, isPast, rowsAt}
+use Rattle.rules.specs.Rejections.{outside, notMark, notWheels, notMeter, badFactor, notSupplier, notKey, isPast, rowsAt}
 use Rattle.rules.specs.Pinned.Register.{entered}
-use Rattle.rules.specs.Volumes.{fullTurn, spanTo}
+use Rattle.rules.specs.Volumes.{turnOf, spanTo}
 use Rattle.rules.proofs.Accept.{pass, neither}
 use Rattle.rules.proofs.Views.{dated, dated-also, passed-at}
 use Rattle.point_volumes.proofs.Readings.{read-span, read-booked}
@@ -22,11 +22,32 @@ within lo hi n h = let k = neither (ltb n lo) (ltb hi n) h in (ltb-false n lo (k
 wheels : (b a : ℕ) → notWheels b a ≡ false → (b ≤ 8) × (a ≤ 3)
 wheels b a h = let k = neither (outside 1 8 b) (outside 0 3 a) h in (within 1 8 b (k .0) .1, within 0 3 a (k .1) .1)
 
+-- An accepted meter: a factor that is none is 0.
+abbrev pub Fits : NewMeter → Type 0
+Fits m = (m .before ≤ 8) × (m .after ≤ 3) × (m .factor ≤ 99999)
+
+-- A meter that rows 22 and 40 let through.
+meter-fits : (m : NewMeter) → notMeter m ≡ false → badFactor m ≡ false → Fits m
+meter-fits m h k = let n = neither (notWheels (m .before) (m .after)) (outside 1 2 (m .code)) h in
+    let w = wheels (m .before) (m .after) (n .0) in let c = within 1 2 (m .code) (n .1) in
+    let b = neither (eqb (m .code) 1 && outside 1 99999 (m .factor)) (eqb (m .code) 2 && not (eqb (m .factor) 0)) k in (
+      w .0,
+      w .1,
+      elim (decLe (m .code) 1) [
+        | yes q ↦ within 1 99999 (m .factor) (rw (eq-eqb (m .code) 1 (omega arith)) at (b .0)) .1
+        | no q ↦ zero-fits (eqb (m .factor) 0) refl (rw (eq-eqb (m .code) 2 (omega arith)) at (b .1))
+      ],
+    )
+  where
+    zero-fits : (x : Bool) → eqb (m .factor) 0 ≡ x → not x ≡ false → m .factor ≤ 99999
+    zero-fits true q z = let e : m .factor ≡ 0 = eqb-true (m .factor) 0 q in omega arith
+    zero-fits false q z = absurd (true≢false z)
+
 -- A reading goes forward to a day of the calendar, and the wheels have its index.
 pub record Readable (f : Fields) (d x z : ℕ) : Type 0 where
   pub calendar : d ≤ lastDay
   pub forward : f .reading .day < d
-  pub index : x < fullTurn (f .meter)
+  pub index : x < turnOf (f .meter)
   pub mark : z ≤ 1
 
 module _ (S : Settings) (t : ℕ) (f : Fields) where
@@ -34,9 +55,9 @@ module _ (S : Settings) (t : ℕ) (f : Fields) where
   unfolding answerAt
   today-fits a h = passed-at S (h .day) (h .contracts) t (h .point) a (h .view) _ (h .ok) .0
 
-  pub enrol-fits : (b a x : ℕ) → Accepted S t (PointAction.Enrol b a x) f → (b ≤ 8) × (a ≤ 3)
+  pub enrol-fits : (m : NewMeter) → Accepted S t (PointAction.Enrol m) f → Fits m
   unfolding answerAt rowsAt
-  enrol-fits b a x h = wheels b a (pass _ _ _ _ (h .ok) .0)
+  enrol-fits m h = let k = pass _ _ _ _ (h .ok) in meter-fits m (k .0) (pass _ _ _ _ (k .1) .0)
 
   pub service-fits : (s k : ℕ) → Accepted S t (PointAction.IntoService s k) f → (s ≤ 99) × (k ≤ 999999999)
   unfolding answerAt rowsAt
@@ -66,21 +87,22 @@ module _ (S : Settings) (t : ℕ) (f : Fields) where
       rw (← (h .same)) (record {
         calendar = ltb-false lastDay d (b .0);
         forward = leb-false d (h .view .fields .reading .day) (neither (leb d (h .view .fields .reading .day)) (ltb t d) (c .0) .0);
-        index = leb-false (fullTurn (h .view .fields .meter)) x (i .0);
+        index = leb-false (turnOf (h .view .fields .meter)) x (i .0);
         mark = within 0 1 z (a .0) .1;
       })
 
-  pub change-fits : (x z b a y : ℕ) → Accepted S t (PointAction.MeterChange x z b a y) f → Readable f t x z × (b ≤ 8) × (a ≤ 3)
+  pub change-fits : (x z : ℕ) (m : NewMeter) → Accepted S t (PointAction.MeterChange x z m) f → Readable f t x z × Fits m
   unfolding answerAt rowsAt
-  change-fits x z b a y h = let k = pass _ _ _ _ (h .ok) in let n = neither (notMark z) (notWheels b a) (k .0) in
-      let d = dated (h .day) t _ _ (k .1) in let c = pass _ _ _ _ (pass _ _ _ _ (d .rest) .1) in
-      let e = pass _ _ _ _ (c .1) in let i = neither _ _ (neither _ _ (neither _ (leb _ y) (e .0) .0) .0) in
+  change-fits x z m h = let k = pass _ _ _ _ (h .ok) in let n = neither (notMark z) (notMeter m) (k .0) in
+      let j = pass _ _ _ _ (k .1) in
+      let d = dated (h .day) t _ _ (j .1) in let c = pass _ _ _ _ (pass _ _ _ _ (d .rest) .1) in
+      let e = pass _ _ _ _ (c .1) in let i = neither _ _ (neither _ _ (neither _ (leb _ (m .index)) (e .0) .0) .0) in
       let r : Readable f t x z = rw (← (h .same)) (record {
         calendar = d .calendar;
         forward = leb-false t (h .view .fields .reading .day) (neither (leb t (h .view .fields .reading .day)) (ltb t t) (c .0) .0);
-        index = leb-false (fullTurn (h .view .fields .meter)) x (i .0);
+        index = leb-false (turnOf (h .view .fields .meter)) x (i .0);
         mark = within 0 1 z (n .0) .1;
-      }) in let w = wheels b a (n .1) in (r, w .0, w .1)
+      }) in (r, meter-fits m (n .1) (j .0))
 
 -- An effect without a reading, and that of an accepted call, are written down as the definition enters them.
 pub unread-noted : (t : ℕ) (e : Effect) (h : History) → spansIn e ≡ [] → noted t e h ≡ entered t e h
@@ -96,13 +118,13 @@ read-noted t f g d x z h k = let e = read-span f d x z (k .index) (k .mark) in
 pub accepted-noted : (S : Settings) (t : ℕ) (a : PointAction) (f : Fields) (h : History) → Accepted S t a f
     → noted t (effectOf S t a f) h ≡ entered t (effectOf S t a f) h
 unfolding effectOf
-accepted-noted S t (PointAction.Enrol b a x) f h k = unread-noted t _ h refl
+accepted-noted S t (PointAction.Enrol m) f h k = unread-noted t _ h refl
 accepted-noted S t (PointAction.IntoService s y) f h k = unread-noted t _ h refl
 accepted-noted S t (PointAction.DefaultSupply y) f h k = unread-noted t _ h refl
 accepted-noted S t (PointAction.Request s y r) f h k = unread-noted t _ h refl
 accepted-noted S t (PointAction.Cancel s) f h k = unread-noted t _ h refl
 accepted-noted S t (PointAction.Reading d x z) f h k = read-noted t f _ d x z h (reading-fits S t f d x z k)
-accepted-noted S t (PointAction.MeterChange x z b a y) f h k = read-noted t f _ t x z h (change-fits S t f x z b a y k .0)
+accepted-noted S t (PointAction.MeterChange x z m) f h k = read-noted t f _ t x z h (change-fits S t f x z m k .0)
 accepted-noted S t PointAction.OutOfService f h k = unread-noted t _ h refl
 accepted-noted S t (PointAction.Suspend m) f h k = unread-noted t _ h refl
 

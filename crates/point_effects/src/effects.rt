@@ -4,9 +4,11 @@ use point_checks::effective_day;
 use point_checks::is_by;
 use point_checks::is_full;
 use point_volumes::span_to;
+use rules::Code;
 use rules::Effect;
 use rules::Fields;
 use rules::Meter;
+use rules::NewMeter;
 use rules::Pending;
 use rules::PointAction;
 use rules::Reading;
@@ -18,10 +20,10 @@ ghost use mathlib.Core.Path.{_≡_};
 ghost use mathlib.Core.Bool.{true, _&&_};
 ghost use Prim.Native.Nat.{ℕ, _+_, _≤_, _<_};
 ghost use Rattle.rules.specs.Effects.{dropped as Effects·dropped, effectiveDay, effectOf, failed as Effects·failed};
-ghost use Rattle.rules.specs.Fields.{fields, meter, reading as Fields·reading, supply, unsupplied};
+ghost use Rattle.rules.specs.Fields.{codeOf, fitted as Fields·fitted, fields, reading as Fields·reading, supply, unsupplied};
 ghost use Rattle.rules.specs.Fields.{withSupply, withPending, withKey, withMark, withReading};
 ghost use Rattle.rules.specs.Rejections.{touches, isFull};
-ghost use Rattle.rules.specs.Volumes.{fullTurn, spanTo};
+ghost use Rattle.rules.specs.Volumes.{turnOf, spanTo};
 ghost use Rattle.point_effects.specs.Between.{Accepted, failedBy};
 
 // The same fields with another supply.
@@ -47,29 +49,47 @@ fn with_pending(f: Fields, q: Pending) -> Fields
     with_supply(f, after)
 }
 
-fn enrol(t: u32, before: u64, after: u64, index: u64) -> Effect
-    requires { ⌜ (before ≤ 8) × (after ≤ 3) ⌝ }
-    ensures { λ r. ⌜ r ≡ Effect.Enrol (fields true unsupplied 0 0 (meter before after) (Fields·reading t index)) ⌝ }
+fn code_of(code: u64, factor: u64) -> Code
+    requires { ⌜ factor ≤ 99999 ⌝ }
+    ensures { λ r. ⌜ r ≡ codeOf code factor ⌝ }
+{
+    if code == 1 {
+        return Code::Cubic(factor as u32);
+    }
+    Code::Normal
+}
+
+// The meter that a call brings.
+fn fitted(m: NewMeter) -> Meter
+    requires { ⌜ (m .before ≤ 8) × (m .after ≤ 3) × (m .factor ≤ 99999) ⌝ }
+    ensures { λ r. ⌜ r ≡ Fields·fitted m ⌝ }
+{
+    Meter {
+        before: m.before as u8,
+        after: m.after as u8,
+        code: code_of(m.code, m.factor),
+    }
+}
+
+fn enrol(t: u32, m: NewMeter) -> Effect
+    requires { ⌜ (m .before ≤ 8) × (m .after ≤ 3) × (m .factor ≤ 99999) ⌝ }
+    ensures { λ r. ⌜ r ≡ Effect.Enrol (fields true unsupplied 0 0 (Fields·fitted m) (Fields·reading t (m .index))) ⌝ }
 {
     let none = Supply {
         holder: 0,
         kind: SupplyKind::None,
         pending: Pending::Nothing,
     };
-    let m = Meter {
-        before: before as u8,
-        after: after as u8,
-    };
     let first = Reading {
         day: t,
-        index: index,
+        index: m.index,
     };
     Effect::Enrol(Fields {
         enrolled: true,
         supply: none,
         key: 0,
         mark: 0,
-        meter: m,
+        meter: fitted(m),
         reading: first,
     })
 }
@@ -103,7 +123,7 @@ fn request(set: Settings, t: u32, s: u64, r: u64, f: Fields) -> Effect
 
 // A reading of x on day d, and the meter and the last reading from then on.
 fn read(f: Fields, d: u32, x: u64, z: u64, m: Meter, now: Reading) -> Effect
-    requires { ⌜ (x < fullTurn (f .meter)) × (z ≤ 1) ⌝ }
+    requires { ⌜ (x < turnOf (f .meter)) × (z ≤ 1) ⌝ }
     ensures { λ r. ⌜ r ≡ Effect.Read (spanTo f d x z) (withReading f m now) ⌝ }
 {
     let old = f.meter;
@@ -141,11 +161,7 @@ pub(crate) fn effect_of(set: Settings, t: u32, a: PointAction, f: Fields) -> Eff
     ensures { λ r. ⌜ r ≡ effectOf set t a f ⌝ }
 {
     match a {
-        PointAction::Enrol {
-            before,
-            after,
-            index,
-        } => enrol(t, before, after, index),
+        PointAction::Enrol { meter } => enrol(t, meter),
         PointAction::IntoService { supplier, key } => served(
             f,
             supplier as u8,
@@ -172,22 +188,12 @@ pub(crate) fn effect_of(set: Settings, t: u32, a: PointAction, f: Fields) -> Eff
             };
             read(f, day as u32, index, zero, m, now)
         }
-        PointAction::MeterChange {
-            index,
-            zero,
-            before,
-            after,
-            fresh,
-        } => {
-            let m = Meter {
-                before: before as u8,
-                after: after as u8,
-            };
+        PointAction::MeterChange { index, zero, meter } => {
             let now = Reading {
                 day: t,
-                index: fresh,
+                index: meter.index,
             };
-            read(f, t, index, zero, m, now)
+            read(f, t, index, zero, fitted(meter), now)
         }
         PointAction::OutOfService => unsupplied_effect(f),
         PointAction::Suspend { mark } => suspend(f, mark),

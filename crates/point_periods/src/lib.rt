@@ -1,6 +1,8 @@
 // A point's periods in their slots: how many there are, and a holder named.
 use rules::History;
+use rules::NormalVolume;
 use rules::Period;
+use rules::Volume;
 ghost use mathlib.Core.Path.{_≡_};
 ghost use Prim.Native.Nat.{_-_, _<_, min};
 ghost use Rattle.rules.specs.Pinned.Register.{used, startsOn, replaced as Register·replaced};
@@ -40,11 +42,14 @@ fn replaced(day: u32, s: u8, h: History) -> History
 {
     let n = slots(h.count);
     let q = h.periods[n - 1];
+    let volume = q.volume;
+    let normal = q.normal;
     let mut next = h;
     next.periods[n - 1] = Period {
         start: day,
         holder: s,
-        volume: q.volume,
+        volume: volume,
+        normal: normal,
     };
     next
 }
@@ -61,7 +66,8 @@ fn appended(day: u32, s: u8, h: History) -> History
     next.periods[n] = Period {
         start: day,
         holder: s,
-        volume: 0,
+        volume: Volume(0),
+        normal: NormalVolume(0),
     };
     next.count = n + 1;
     next

@@ -10,12 +10,14 @@ both false b h = absurd (false≢true h)
 
 pub fair : (s : Span) → isFair s ≡ true → Fair s
 fair s h = let a = both _ (leb (s .advance * s .unit) mostVolume) h in
-    let b = both _ (leb (s .advance) mostVolume) (a .0) in let c = both _ (leb (s .unit) 1000) (b .0) in
+    let b = both _ (leb (s .advance) mostVolume) (a .0) in let k = both _ (leb (s .factor) 99999) (b .0) in
+    let c = both _ (leb (s .unit) 1000) (k .0) in
     let d = both (ltb (s .from) (s .to)) (leb (s .to) lastDay) (c .0) in
     record {
       forward = ltb-true _ _ (d .0);
       within = leb-true _ _ (d .1);
       unit = leb-true _ _ (c .1);
+      factor = leb-true _ _ (k .1);
       small = leb-true _ _ (b .1);
       volume = leb-true _ _ (a .1);
     }

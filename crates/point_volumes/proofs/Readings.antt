@@ -4,21 +4,21 @@ use Rattle.basics.proofs.Basics.{_≡_, refl, true, false, Bool, cond, _&&_, _�
 use Rattle.basics.proofs.Basics.{mul-assoc, arith, ltb, leb, lt-ltb, le-leb, ltb-true, leb-true}
 use Rattle.dates.specs.Dates.{lastDay}
 use Rattle.rules.specs.declared.{Fields.Fields, History.History, Meter.Meter, Period.Period, Reading.Reading}
-use Rattle.rules.specs.Volumes.{fullTurn, unitOf, advanceOf, spanTo, given}
+use Rattle.rules.specs.Volumes.{turnOf, unitOf, advanceOf, spanTo}
 use Rattle.rules.specs.Pinned.Register.{bookedPeriod, booked}
 use Rattle.point_volumes.specs.Between.{advanceRead, spanRead, mostVolume, isFair, bookedIfFair, bookedNewest}
-use Rattle.point_volumes.proofs.Powers.{turn-most, unit-most, turn-unit}
+use Rattle.point_volumes.proofs.Powers.{turn-most, unit-most, turn-unit, factor-most}
 
 advance-most : (last x z turn : ℕ) → x < turn → z ≤ 1 → advanceOf last x z turn ≤ 2 * turn
 unfolding advanceOf
 advance-most last x z turn a b = omega (arith, mul-le-mul-right turn b)
 
 -- V, or nothing: two full turns at the most.
-read-most : (m : Meter) (last x z : ℕ) → advanceRead last x z (fullTurn m) ≤ 2 * fullTurn m
-read-most m last x z = go (ltb x (fullTurn m)) (leb z 1) refl refl
+read-most : (m : Meter) (last x z : ℕ) → advanceRead last x z (turnOf m) ≤ 2 * turnOf m
+read-most m last x z = go (ltb x (turnOf m)) (leb z 1) refl refl
   where
-    go : (a b : Bool) → ltb x (fullTurn m) ≡ a → leb z 1 ≡ b → cond (a && b) (advanceOf last x z (fullTurn m)) 0 ≤ 2 * fullTurn m
-    go true true p q = advance-most last x z (fullTurn m) (ltb-true _ _ p) (leb-true _ _ q)
+    go : (a b : Bool) → ltb x (turnOf m) ≡ a → leb z 1 ≡ b → cond (a && b) (advanceOf last x z (turnOf m)) 0 ≤ 2 * turnOf m
+    go true true p q = advance-most last x z (turnOf m) (ltb-true _ _ p) (leb-true _ _ q)
     go true false p q = omega arith
     go false b p q = omega arith
 
@@ -26,7 +26,7 @@ module _ (m : Meter) (last : Reading) (d x z : ℕ) where
   volume-most : spanRead m last d x z .advance * spanRead m last d x z .unit ≤ mostVolume
   unfolding spanRead
   volume-most = le-trans (mul-le-mul-right (unitOf m) (read-most m (last .index) x z))
-      (rw (mul-assoc 2 (fullTurn m) (unitOf m)) (omega (arith, turn-unit m)))
+      (rw (mul-assoc 2 (turnOf m) (unitOf m)) (omega (arith, turn-unit m)))
 
   module _ (forward : last .day < d) (within : d ≤ lastDay) where
     fair-read : isFair (spanRead m last d x z) ≡ true
@@ -35,7 +35,8 @@ module _ (m : Meter) (last : Reading) (d x z : ℕ) where
       lt-ltb _ _ forward,
       le-leb _ _ within,
       le-leb _ _ (unit-most m),
-      le-leb (advanceRead (last .index) x z (fullTurn m)) mostVolume (omega (arith, a, turn-most m)),
+      le-leb _ _ (factor-most (m .code)),
+      le-leb (advanceRead (last .index) x z (turnOf m)) mostVolume (omega (arith, a, turn-most m)),
       le-leb _ _ v,
     )
 
@@ -43,11 +44,11 @@ module _ (m : Meter) (last : Reading) (d x z : ℕ) where
     unfolding bookedIfFair
     read-booked h = rw fair-read
 
-    pub read-newest : (q : Period) → bookedNewest (spanRead m last d x z) q ≡ bookedPeriod (given (spanRead m last d x z)) d q
+    pub read-newest : (q : Period) → bookedNewest (spanRead m last d x z) q ≡ bookedPeriod (spanRead m last d x z) d q
     unfolding bookedNewest spanRead
     read-newest q = rw fair-read
 
 -- An index that the wheels have.
-pub read-span : (f : Fields) (d x z : ℕ) → x < fullTurn (f .meter) → z ≤ 1 → spanRead (f .meter) (f .reading) d x z ≡ spanTo f d x z
+pub read-span : (f : Fields) (d x z : ℕ) → x < turnOf (f .meter) → z ≤ 1 → spanRead (f .meter) (f .reading) d x z ≡ spanTo f d x z
 unfolding spanRead spanTo
 read-span f d x z a b = rw (lt-ltb _ _ a, le-leb _ _ b)

@@ -1,4 +1,5 @@
 // What a reading advances.
+use crate::meter::factor_of;
 use crate::meter::turn_of;
 use crate::meter::unit_of;
 use rules::Meter;
@@ -42,10 +43,12 @@ pub fn span_to(m: Meter, last: Reading, d: u32, x: u64, z: u64) -> Span
     ensures { λ r. ⌜ r ≡ spanRead m last d x z ⌝ }
 {
     let turn = turn_of(m);
+    let code = m.code;
     Span {
         from: last.day,
         to: d,
         advance: advance_read(last.index, x, z, turn),
         unit: unit_of(m),
+        factor: factor_of(code),
     }
 }

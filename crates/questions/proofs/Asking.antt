@@ -1,22 +1,26 @@
 -- The questions after any list of calls. The statement is specs/Asking.antt.
-use Rattle.basics.proofs.Basics.{_≡_, refl, sym, _∙_, ap, true, false, Bool, cond, _&&_, _||_, or-true, some, Option}
+use Rattle.basics.proofs.Basics.{_≡_, refl, sym, _∙_, ap, ap₂, true, false, Bool, cond, _&&_, _||_, or-true, some, Option}
 use Rattle.basics.proofs.Basics.{none, List, [], _∷_, _≤_, ℕ, _-_, _<_, suc, zero, _^_, not-suc-le-zero, decLe, arith}
 use Rattle.basics.proofs.Basics.{eqb, ltb, leb, length, lt-ltb, le-leb, le-ltb, lt-leb, ne-eqb, not-true, not-false}
 use Rattle.basics.proofs.Basics.{cases}
+use Rattle.dates.specs.Dates.{lastDay}
 use Rattle.rules.specs.declared.{Opening.Opening, Call.Call, Register.Register, Span.Span, Point.Point}
 use Rattle.questions.specs.declared.{Held.Held, PeriodAnswer.PeriodAnswer, AdvanceAnswer.AdvanceAnswer}
 use Rattle.questions.specs.declared.PeriodAnswer.the-variants as period
 use Rattle.questions.specs.declared.AdvanceAnswer.the-variants as advance
-use Rattle.rules.specs.Volumes.{volume, registered}
+use Rattle.rules.specs.Volumes.{registered, registeredNormal}
 use Rattle.rules.specs.Answers.{isAccepted}
 use Rattle.questions.specs.Pinned.Questions.{heldNumber, heldTold, holderNumber, holderTold, periodNumber, periodTold, advanceNumber, advanceTold}
 use Rattle.rules.specs.Rejections.{openingAnswer, notPoint}
 use Rattle.rules.specs.Pinned.Register.{used, pointAt}
-use Rattle.questions.specs.Pinned.Questions.{unasked, refusedHolder, holderAmong, holderAnswer, periodAnswer, advanceAnswer}
+use Rattle.questions.specs.Pinned.Questions.{unasked, refusedHolder, holderAmong, holderAnswer, periodAnswer, sumOf, advances, advanceAnswer}
 use Rattle.rules.specs.DayBook.{opened, readings, enrolments, Page}
 use Rattle.rules.specs.Periods.{periodsOf, holderOn, book, register}
+use Rattle.agreement.specs.Sound.{Side, wheels, normal, volumeOn}
+use Rattle.agreement.proofs.Shares.{daysOn, wholesOn}
 use Rattle.agreement.proofs.Tally.{oldest}
-use Rattle.agreement.proofs.Slots.{listed, Sized, used-count, take-listed}
+use Rattle.agreement.proofs.Slots.{listed, Sized, used-count, length-listed}
+use Rattle.agreement.proofs.Firm.{within}
 use Rattle.agreement.proofs.Tied.{Tied}
 use Rattle.agreement.proofs.Run.{run-agrees}
 use Rattle.agreement.proofs.Theorem.{day-book-agrees}
@@ -41,7 +45,7 @@ period-number (period.Of q) = refl
 period-number period.OffRange = refl
 
 advance-number : (a : AdvanceAnswer) → advanceNumber a ≡ askedNumber (advanceTold a)
-advance-number (advance.Volume v) = refl
+advance-number (advance.Of a) = refl
 advance-number advance.OffRange = refl
 
 -- One point, after a list of calls.
@@ -70,21 +74,21 @@ module _ (o : Opening) (ok : isAccepted (openingAnswer o) ≡ true) (calls : Lis
     tied = rw same-day at (run-agrees o ok calls .points p lo hi)
 
     pub point-sized : Sized (pointAt p (r .points) .history)
-    point-sized = tied .point .firm .sized
+    point-sized = tied .point .firm wheels .sized
 
     pub rising : Rising (pointAt p (r .points) .history)
-    rising = let f = tied .point .firm in
+    rising = let f = tied .point .firm wheels in
         falling-rise (point .history) (suc (r .day)) (rw (used-count (point .history) (f .sized)) (f .falling))
 
     -- the periods that the register keeps are the day book's
     pub periods-are : periodsOf (pointAt p (r .points)) ≡ bookPeriods o calls p
     unfolding bookPeriods
     periods-are = let h = tied .point in
-        rw same-day (periods-told point (h .firm .sized) (volume l) (g .cells) (h .told) (r .day) (h .live))
+        rw same-day (periods-told point (h .firm wheels .sized) (λ x. daysOn x l) (g .cells) (h .told) (r .day) (h .live))
 
-    unborn : unasked r p ≡ true → (n ≡ []) × (listed (point .history) ≡ [])
+    unborn : unasked r p ≡ true → (n ≡ []) × (point .history .count ≡ 0)
     unborn off = let h = tied .point in let z : g .fields .enrolled ≡ false = rw (h .same) (not-true _ (rw (le-ltb p 1 lo, le-ltb 32 p hi) at off)) in
-        (h .outside z, h .firm .none z)
+        (h .outside z, sym (length-listed wheels (point .history)) ∙ ap length (h .firm wheels .none z))
 
   -- a point that may not be asked of: the day book has nothing to tell
   module _ (off : unasked r p ≡ true) where
@@ -95,7 +99,7 @@ module _ (o : Opening) (ok : isAccepted (openingAnswer o) ≡ true) (calls : Lis
     unfolding nth
     none-kept true m = rw (or-true (notPoint p))
     none-kept false m = cases (notPoint p) (λ e. rw e) (λ e. let k = range-in 1 32 p e in
-        rw (e, ← periods-are (k .0) (k .1), take-listed (point .history) (point-sized (k .0) (k .1)), unborn (k .0) (k .1) off .1))
+        rw (e, ← periods-are (k .0) (k .1), unborn (k .0) (k .1) off .1))
 
   -- a point that may be asked of
   module _ (on : unasked r p ≡ false) where
@@ -110,16 +114,16 @@ module _ (o : Opening) (ok : isAccepted (openingAnswer o) ≡ true) (calls : Lis
 
     -- the oldest period starts with the enrolment
     abbrev born : ℕ
-    born = oldest (listed (point .history)) (suc (r .day))
+    born = oldest (listed wheels (point .history)) (suc (r .day))
 
     since : n ≡ born ∷ []
-    since = h .point .inside (rw (h .point .same) (not-false _ (neither (notPoint p) _ on .1))) (suc (r .day))
+    since = h .point .inside (rw (h .point .same) (not-false _ (neither (notPoint p) _ on .1))) wheels (suc (r .day))
 
     used-all : used (point .history) ≡ point .history .count
-    used-all = used-count (point .history) (h .point .firm .sized)
+    used-all = used-count (point .history) (h .point .firm wheels .sized)
 
     slots : point .history .count ≤ length (point .history .periods)
-    slots = omega (arith, h .point .firm .sized .slots, h .point .firm .sized .some)
+    slots = omega (arith, h .point .firm wheels .sized .slots, h .point .firm wheels .sized .some)
 
     holder-walk : (d : ℕ) → holderAnswer r p d ≡ cond (ltb (r .day) d) refusedHolder (holderAmong d 0 (point .history .count) (point .history .periods))
     unfolding holderAnswer
@@ -135,16 +139,19 @@ module _ (o : Opening) (ok : isAccepted (openingAnswer o) ≡ true) (calls : Lis
     holder-early : (d : ℕ) → d < born → holderAnswer r p d ≡ refusedHolder
     holder-early d lt = elim (decLe d (r .day)) [
       | yes due ↦ rw (holder-walk d, le-ltb (r .day) d due)
-          (among-before d 0 (point .history .count) (point .history .periods) (suc (r .day)) (h .point .firm .falling) (omega arith))
+          (among-before d 0 (point .history .count) (point .history .periods) (suc (r .day)) (h .point .firm wheels .falling) (omega arith))
       | no late ↦ holder-late d (omega arith)
     ]
 
-    advance-asked : advanceAnswer r p ≡ advance.Volume (registered l)
+    -- the sums of either side do not wrap, and are the readings'
+    sum-asked : (x : Side) → sumOf (volumeOn x) (point .history .count) (point .history .periods) ≡ wholesOn x l
+    sum-asked x = let days : g .fields .reading .day ≤ lastDay = omega (arith, h .fine .past, run-day o ok calls) in
+        let small : wholesOn x l < 2 ^ 64 = omega (arith, h .point .sum x, h .point .firm x .most, within x (g .fields .reading .day) days) in
+        sum-exact x (point .history .count) (point .history .periods) (rw (h .point .sum x) small) ∙ h .point .sum x
+
+    advance-asked : advanceAnswer r p ≡ advance.Of (advances (registered l) (registeredNormal l))
     unfolding advanceAnswer
-    advance-asked =
-        let small : registered l < 2 ^ 64 = omega (arith, h .point .sum, h .point .firm .most, h .fine .past, run-day o ok calls) in
-        rw (on, used-all) (ap advance.Volume
-        (sum-exact (point .history .count) (point .history .periods) (rw (h .point .sum) small) ∙ h .point .sum))
+    advance-asked = rw (on, used-all) (ap₂ (λ (v n : ℕ). advance.Of (advances v n)) (sum-asked wheels) (sum-asked normal))
 
     period-asked : (m : ℕ) → periodTold (periodAnswer r p m) ≡ cond (eqb m 0) none (nth (m - 1) (periodsOf point))
     unfolding periodAnswer
@@ -179,7 +186,7 @@ module _ (o : Opening) (ok : isAccepted (openingAnswer o) ≡ true) (calls : Lis
   unfolding bookProbes
   probes-is d = rw (← (holder-is d)) (cases (unasked r p) (λ off. unfold holderAnswer in rw off)
       (λ on. let k = here on in let a = day-book-agrees o ok calls .points p (k .0) (k .1) in
-      rw (← (a .starts), ← (used-all on)) (probes-told r p d (omega (arith, h on .point .firm .sized .slots)) (rising (k .0) (k .1)))))
+      rw (← (a .starts), ← (used-all on)) (probes-told r p d (omega (arith, h on .point .firm wheels .sized .slots)) (rising (k .0) (k .1)))))
 
   period-is : (m : ℕ) → periodTold (periodAnswer r p m) ≡ bookPeriod o calls p m
   unfolding bookPeriod
@@ -188,7 +195,7 @@ module _ (o : Opening) (ok : isAccepted (openingAnswer o) ≡ true) (calls : Lis
 
   pub advance-is : advanceTold (advanceAnswer r p) ≡ bookAdvance o calls p
   unfolding bookAdvance
-  advance-is = cases (unasked r p) (λ off. rw (none-made off (λ e. some (registered l))) (unfold advanceAnswer in rw off))
+  advance-is = cases (unasked r p) (λ off. rw (none-made off (λ e. some (advances (registered l) (registeredNormal l)))) (unfold advanceAnswer in rw off))
       (λ on. rw (is-point on, since on) (ap advanceTold (advance-asked on)))
 
   answered-on : (e d : ℕ) → 1 ≤ p → p ≤ 32 → n ≡ e ∷ [] → e ≤ d → d ≤ r .day → holderNumber (holderAnswer r p d) ≡ 0

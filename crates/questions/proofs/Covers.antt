@@ -8,6 +8,7 @@ use Rattle.questions.specs.Pinned.Questions.{holderNumber, holderTold}
 use Rattle.rules.specs.Pinned.Register.{noPeriod}
 use Rattle.questions.specs.Pinned.Questions.{refusedHolder, holderAmong, sumOf}
 use Rattle.rules.specs.Periods.{covering, isBeforeNext}
+use Rattle.agreement.specs.Sound.{Side, wheels, volumeOn}
 use Rattle.agreement.proofs.Tally.{sumVolumes, oldest, Desc, desc-up, oldest-le}
 use Rattle.agreement.proofs.Slots.{recent}
 
@@ -58,15 +59,16 @@ module _ (d : ℕ) where
   among-covered k n ps x le q = among-covers k n ps [] x le (refl, refl) (rw (append-nil (take n ps)) q)
 
   -- where the oldest period begins after day d, all do
-  pub among-before : (k n : ℕ) (ps : List Period) (e : ℕ) → Desc e (recent n ps) → d < oldest (recent n ps) e
+  pub among-before : (k n : ℕ) (ps : List Period) (e : ℕ) → Desc e (recent wheels n ps) → d < oldest (recent wheels n ps) e
       → holderAmong d k n ps ≡ refusedHolder
   unfolding holderAmong recent oldest
   among-before k zero ps e r o = refl
   among-before k (suc n) ps e r o = let p : Period = getD ps n noPeriod in
-      let w = oldest-le (p .start) (recent n ps) (desc-up (recent n ps) (omega arith) (r .1)) in
+      let w = oldest-le (p .start) (recent wheels n ps) (desc-up (recent wheels n ps) (omega arith) (r .1)) in
       rw (lt-leb (p .start) d (omega (arith, o, w))) (among-before (k + 1) n ps (p .start) (r .1) o)
 
-pub sum-exact : (n : ℕ) (ps : List Period) → sumVolumes (recent n ps) < 2 ^ 64 → sumOf n ps ≡ sumVolumes (recent n ps)
+pub sum-exact : (x : Side) (n : ℕ) (ps : List Period) → sumVolumes (recent x n ps) < 2 ^ 64
+    → sumOf (volumeOn x) n ps ≡ sumVolumes (recent x n ps)
 unfolding sumOf recent sumVolumes
-sum-exact zero ps fits = refl
-sum-exact (suc n) ps fits = rw (sum-exact n ps (omega arith)) (mod-eq-of-lt (omega arith) ∙ omega arith)
+sum-exact x zero ps fits = refl
+sum-exact x (suc n) ps fits = rw (sum-exact x n ps (omega arith)) (mod-eq-of-lt (omega arith) ∙ omega arith)

@@ -8,6 +8,7 @@ use Rattle.rules.specs.Pinned.Register.{noPeriod, used, newest, pointAt}
 use Rattle.questions.specs.declared.{HolderAnswer.HolderAnswer}
 use Rattle.questions.specs.Pinned.Questions.{unasked, refusedHolder, holderAmong, holderIn, holderAnswer, holderTold}
 use Rattle.questions.specs.Latest.{walked, laterThan, probesFor, startsIn, Rising, Searched}
+use Rattle.agreement.specs.Sound.{wheels}
 use Rattle.agreement.proofs.Tally.{Desc}
 use Rattle.agreement.proofs.Slots.{recent}
 use Rattle.questions.proofs.Walks.{among-found}
@@ -86,7 +87,7 @@ pub newest-one : (d : ℕ) (h : History) → 0 < used h → newest h .start ≤ 
 newest-one d h any le = ap (λ (a : HolderAnswer). a .probes) (among-found d 0 (h .periods) (used h) any le)
 
 -- periods that fall from the newest down rise from the oldest up, and all start before day e
-rises : (n : ℕ) (ps : List Period) (e : ℕ) → Desc e (recent n ps) → Below n ps e × Rises n ps
+rises : (n : ℕ) (ps : List Period) (e : ℕ) → Desc e (recent wheels n ps) → Below n ps e × Rises n ps
 unfolding recent
 rises zero ps e r = (λ j lt. absurd (omega arith), λ i j lt le. absurd (omega arith))
 rises (suc n) ps e r = let w = rises n ps (getD ps n noPeriod .start) (r .1) in (
@@ -100,5 +101,5 @@ rises (suc n) ps e r = let w = rises n ps (getD ps n noPeriod .start) (r .1) in 
   ],
 )
 
-pub falling-rise : (h : History) (e : ℕ) → Desc e (recent (used h) (h .periods)) → Rising h
+pub falling-rise : (h : History) (e : ℕ) → Desc e (recent wheels (used h) (h .periods)) → Rising h
 falling-rise h e r = rises (used h) (h .periods) e r .1

@@ -23,10 +23,13 @@ module _ (d k : ℕ) (ps : List Period) where
   unfolding holderAmong
   among-none = refl
 
-pub sum-next : (i : ℕ) (ps : List Period) → sumOf (i + 1) ps ≡ (sumOf i ps + getD ps i noPeriod .volume) % 2 ^ 64
-unfolding sumOf
-sum-next i ps = rw (add-one i)
+module _ (vol : Period → ℕ) (ps : List Period) where
+  -- one period more
+  pub sum-next : (i sum more : ℕ) → sum ≡ sumOf vol i ps → more ≡ (sum + vol (getD ps i noPeriod)) % 2 ^ 64
+      → more ≡ sumOf vol (i + 1) ps
+  unfolding sumOf
+  sum-next i sum more e m = rw (add-one i, ← e) m
 
-pub sum-none : (ps : List Period) → sumOf 0 ps ≡ 0
-unfolding sumOf
-sum-none ps = refl
+  pub sum-none : sumOf vol 0 ps ≡ 0
+  unfolding sumOf
+  sum-none = refl

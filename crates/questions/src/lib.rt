@@ -3,13 +3,15 @@ use point_checks::or;
 use point_checks::outside;
 use point_periods::period_count;
 use rules::History;
+use rules::NormalVolume;
 use rules::Period;
 use rules::Register;
+use rules::Volume;
 ghost use mathlib.Core.Path.{_≡_};
-ghost use Prim.Native.Nat.{_≤_};
-ghost use Rattle.rules.specs.Pinned.Register.{used, pointAt};
+ghost use Prim.Native.Nat.{_+_, _%_, _^_, _≤_};
+ghost use Rattle.rules.specs.Pinned.Register.{pointAt};
 ghost use Rattle.questions.specs.Pinned.Questions.{unasked, holderAmong, holderAnswer};
-ghost use Rattle.questions.specs.Pinned.Questions.{periodAnswer, sumOf, advanceAnswer};
+ghost use Rattle.questions.specs.Pinned.Questions.{periodAnswer, advanceAmong, advanceIn, advanceAnswer};
 
 // The answers to questions; a question off its range is refused.
 pub enum Held {
@@ -28,8 +30,14 @@ pub enum PeriodAnswer {
     OffRange,
 }
 
+// A point's registered advance, as the wheels count and in normal cubic metres.
+pub struct Advance {
+    pub volume: Volume,
+    pub normal: NormalVolume,
+}
+
 pub enum AdvanceAnswer {
-    Volume(u64),
+    Of(Advance),
     OffRange,
 }
 
@@ -108,27 +116,44 @@ pub fn period_of(r: Register, p: u64, n: u64) -> PeriodAnswer
     PeriodAnswer::Of(q)
 }
 
-// The volumes of the first n periods, added up.
-fn sum_of(n: usize, ps: [Period; 24]) -> u64
-    requires { ⌜ n ≤ 24 ⌝ }
-    ensures { λ x. ⌜ x ≡ sumOf n ps ⌝ }
+// Volumes of one kind, added; the sum wraps.
+fn plus(a: Volume, b: Volume) -> Volume
+    ensures { λ x. ⌜ x .0 ≡ (a .0 + b .0) % 2 ^ 64 ⌝ }
 {
-    let mut sum: u64 = 0;
+    Volume(std::num::wrapping_add_u64(a.0, b.0))
+}
+
+fn plus_normal(a: NormalVolume, b: NormalVolume) -> NormalVolume
+    ensures { λ x. ⌜ x .0 ≡ (a .0 + b .0) % 2 ^ 64 ⌝ }
+{
+    NormalVolume(std::num::wrapping_add_u64(a.0, b.0))
+}
+
+// The volumes of the first n periods, added up.
+fn sums_of(n: usize, ps: [Period; 24]) -> Advance
+    requires { ⌜ n ≤ 24 ⌝ }
+    ensures { λ x. ⌜ x ≡ advanceAmong n ps ⌝ }
+{
+    let mut volume = Volume(0);
+    let mut normal = NormalVolume(0);
     let mut i: usize = 0;
     while i < n {
         let q = ps[i];
-        sum = std::num::wrapping_add_u64(sum, q.volume);
+        let v = q.volume;
+        let m = q.normal;
+        volume = plus(volume, v);
+        normal = plus_normal(normal, m);
         i += 1;
     }
-    sum
+    Advance { volume, normal }
 }
 
 // What the volumes of a point's periods add up to.
-pub fn advance_in(h: History) -> u64
-    ensures { λ x. ⌜ x ≡ sumOf (used h) (h .periods) ⌝ }
+pub fn advance_in(h: History) -> Advance
+    ensures { λ x. ⌜ x ≡ advanceIn h ⌝ }
 {
     let ps = h.periods;
-    sum_of(period_count(h), ps)
+    sums_of(period_count(h), ps)
 }
 
 // The registered advance of point p.
@@ -139,5 +164,5 @@ pub fn advance_of(r: Register, p: u64) -> AdvanceAnswer
         return AdvanceAnswer::OffRange;
     }
     let h = history_of(r, p);
-    AdvanceAnswer::Volume(advance_in(h))
+    AdvanceAnswer::Of(advance_in(h))
 }

@@ -5,9 +5,11 @@ use point_effects::catch_up;
 use point_effects::fail;
 use point_effects::fills;
 use point_effects::note;
+use rules::Code;
 use rules::Fields;
 use rules::History;
 use rules::Meter;
+use rules::NormalVolume;
 use rules::Pending;
 use rules::Period;
 use rules::Point;
@@ -16,6 +18,7 @@ use rules::Register;
 use rules::Settings;
 use rules::Supply;
 use rules::SupplyKind;
+use rules::Volume;
 ghost use mathlib.Core.Path.{_≡_};
 ghost use mathlib.Core.List.{map};
 ghost use Rattle.rules.specs.Rejections.{anyPoint};
@@ -40,6 +43,7 @@ pub(crate) fn blank_point() -> Point
             meter: Meter {
                 before: 0,
                 after: 0,
+                code: Code::Normal,
             },
             reading: Reading { day: 0, index: 0 },
         },
@@ -48,7 +52,8 @@ pub(crate) fn blank_point() -> Point
             periods: [Period {
                 start: 0,
                 holder: 0,
-                volume: 0,
+                volume: Volume(0),
+                normal: NormalVolume(0),
             }; 24],
         },
     }

@@ -1,5 +1,6 @@
 // Readings and meter changes.
 use crate::apply_at;
+use rules::NewMeter;
 use rules::Outcome;
 use rules::PointAction;
 use rules::Register;
@@ -24,17 +25,8 @@ pub fn reading(r: Register, today: u64, p: u64, d: u64, x: u64, z: u64) -> Outco
 }
 
 // 9. The meter is read for the last time and exchanged.
-pub fn meter_change(
-    r: Register,
-    today: u64,
-    p: u64,
-    x: u64,
-    z: u64,
-    before: u64,
-    after: u64,
-    fresh: u64,
-) -> Outcome
-    ensures { λ o. ⌜ o ≡ applied r (callAt today p (PointAction.MeterChange x z before after fresh)) ⌝ }
+pub fn meter_change(r: Register, today: u64, p: u64, x: u64, z: u64, meter: NewMeter) -> Outcome
+    ensures { λ o. ⌜ o ≡ applied r (callAt today p (PointAction.MeterChange x z meter)) ⌝ }
 {
     apply_at(
         r,
@@ -43,9 +35,7 @@ pub fn meter_change(
         PointAction::MeterChange {
             index: x,
             zero: z,
-            before: before,
-            after: after,
-            fresh: fresh,
+            meter: meter,
         },
     )
 }

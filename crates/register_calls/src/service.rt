@@ -1,5 +1,6 @@
 // Points in and out of service, and their suspension.
 use crate::apply_at;
+use rules::NewMeter;
 use rules::Outcome;
 use rules::PointAction;
 use rules::Register;
@@ -7,20 +8,11 @@ ghost use mathlib.Core.Path.{_≡_};
 ghost use Rattle.rules.specs.Pinned.Register.{applied};
 ghost use Rattle.register.specs.Between.Calls.{callAt};
 
-// 3. Point p is enrolled, with the wheels of its meter and its index.
-pub fn enrol(r: Register, today: u64, p: u64, before: u64, after: u64, index: u64) -> Outcome
-    ensures { λ x. ⌜ x ≡ applied r (callAt today p (PointAction.Enrol before after index)) ⌝ }
+// 3. Point p is enrolled with its meter.
+pub fn enrol(r: Register, today: u64, p: u64, meter: NewMeter) -> Outcome
+    ensures { λ x. ⌜ x ≡ applied r (callAt today p (PointAction.Enrol meter)) ⌝ }
 {
-    apply_at(
-        r,
-        today,
-        p,
-        PointAction::Enrol {
-            before: before,
-            after: after,
-            index: index,
-        },
-    )
+    apply_at(r, today, p, PointAction::Enrol { meter: meter })
 }
 
 // 4. Point p goes into service with supplier s.

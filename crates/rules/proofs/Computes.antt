@@ -33,7 +33,7 @@ effects = 0
 
 unfoldable pub volumes : ℕ
 unfolding Volumes.fullTurn Volumes.unitOf Volumes.advanceOf Volumes.spanTo Volumes.upTo Volumes.share
-    Volumes.given Volumes.dayVolume Volumes.volume Volumes.registered
+    Volumes.given Volumes.dayVolume Volumes.factorOf Volumes.normalGiven Volumes.dayNormal Volumes.summed
 volumes = 0
 
 unfoldable pub rejections : ℕ

@@ -81,12 +81,12 @@ p-examples =
       cancel-across-may-9-2013-too-late = plays (rw (after-april-19 .0, across-may-9 .0)) (rw (after-april-19 .0));
       seven-in-ten = record { by-register = refl; by-book = refl };
       seven-in-ten-booked =
-          record { periods = refl; advance = refl; starts = refl; holders = refl; volumes = refl; total = refl };
+          record { periods = refl; advance = (refl, refl); starts = refl; holders = refl; volumes = (refl, refl); total = (refl, refl) };
       first-three-shares = refl;
       last-seven-shares = refl;
       default-on-8000 = record { by-register = refl; by-book = refl };
       starts-8000-8030-8070 =
-          record { periods = refl; advance = refl; starts = refl; holders = refl; volumes = refl; total = refl };
+          record { periods = refl; advance = (refl, refl); starts = refl; holders = refl; volumes = (refl, refl); total = (refl, refl) };
       request-on-8008 = plays (rw three-months-after-8008) refl;
       request-on-8009 = plays (rw three-months-after-8009) refl;
       january-1-2021 = unfold computes in refl;
@@ -95,12 +95,12 @@ p-examples =
       sample-opening = refl;
       sample-answers = record { by-register = refl; by-book = refl };
       sample-periods =
-          record { periods = refl; advance = refl; starts = refl; holders = refl; volumes = refl; total = refl };
+          record { periods = refl; advance = (refl, refl); starts = refl; holders = refl; volumes = (refl, refl); total = (refl, refl) };
       both-events-by-8070 =
-          record { periods = refl; advance = refl; starts = refl; holders = refl; volumes = refl; total = refl };
+          record { periods = refl; advance = (refl, refl); starts = refl; holders = refl; volumes = (refl, refl); total = (refl, refl) };
       one-event-by-8069 =
-          record { periods = refl; advance = refl; starts = refl; holders = refl; volumes = refl; total = refl };
+          record { periods = refl; advance = (refl, refl); starts = refl; holders = refl; volumes = (refl, refl); total = (refl, refl) };
       june-22-2021 = unfold computes in refl;
       two-holders-on-one-day =
-          record { periods = refl; advance = refl; starts = refl; holders = refl; volumes = refl; total = refl };
+          record { periods = refl; advance = (refl, refl); starts = refl; holders = refl; volumes = (refl, refl); total = (refl, refl) };
     }

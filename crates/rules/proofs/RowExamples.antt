@@ -8,6 +8,7 @@ use Rattle.rules.specs.RowExamples.Services.{ServiceExamples}
 use Rattle.rules.specs.RowExamples.Requests.{RequestExamples}
 use Rattle.rules.specs.RowExamples.LastDays.{LastDayExamples}
 use Rattle.rules.specs.RowExamples.Readings.{ReadingExamples}
+use Rattle.rules.specs.RowExamples.Meters.{MeterExamples}
 use Rattle.rules.specs.RowExamples.Full.{FullExamples}
 use Rattle.rules.specs.RowExamples.Events.{EventExamples}
 use Rattle.rules.specs.RowExamples.Varied.{VariedExamples}
@@ -80,16 +81,16 @@ contract-examples =
       protected-suppliers = record { by-register = refl; by-book = refl };
       own-request-dropped = record { by-register = refl; by-book = refl };
       own-request-dropped-periods =
-          record { periods = refl; advance = refl; starts = refl; holders = refl; volumes = refl; total = refl };
+          record { periods = refl; advance = (refl, refl); starts = refl; holders = refl; volumes = (refl, refl); total = (refl, refl) };
       held-point-gets-last-resort = record { by-register = refl; by-book = refl };
       other-request-stays = record { by-register = refl; by-book = refl };
       other-request-takes-effect =
-          record { periods = refl; advance = refl; starts = refl; holders = refl; volumes = refl; total = refl };
+          record { periods = refl; advance = (refl, refl); starts = refl; holders = refl; volumes = (refl, refl); total = (refl, refl) };
       last-resort-ends =
-          record { periods = refl; advance = refl; starts = refl; holders = refl; volumes = refl; total = refl };
+          record { periods = refl; advance = (refl, refl); starts = refl; holders = refl; volumes = (refl, refl); total = (refl, refl) };
       own-request-at-own-point = record { by-register = refl; by-book = refl };
       failure-on-effective-day =
-          record { periods = refl; advance = refl; starts = refl; holders = refl; volumes = refl; total = refl };
+          record { periods = refl; advance = (refl, refl); starts = refl; holders = refl; volumes = (refl, refl); total = (refl, refl) };
     }
 
 service-examples : ServiceExamples
@@ -104,23 +105,23 @@ service-examples =
       suspend = record { by-register = refl; by-book = refl };
       enrolled = record { by-register = refl; by-book = refl };
       enrolled-period =
-          record { periods = refl; advance = refl; starts = refl; holders = refl; volumes = refl; total = refl };
+          record { periods = refl; advance = (refl, refl); starts = refl; holders = refl; volumes = (refl, refl); total = (refl, refl) };
       in-service = record { by-register = refl; by-book = refl };
       in-service-period =
-          record { periods = refl; advance = refl; starts = refl; holders = refl; volumes = refl; total = refl };
+          record { periods = refl; advance = (refl, refl); starts = refl; holders = refl; volumes = (refl, refl); total = (refl, refl) };
       defaulted = record { by-register = refl; by-book = refl };
       defaulted-period =
-          record { periods = refl; advance = refl; starts = refl; holders = refl; volumes = refl; total = refl };
+          record { periods = refl; advance = (refl, refl); starts = refl; holders = refl; volumes = (refl, refl); total = (refl, refl) };
       out = record { by-register = refl; by-book = refl };
       out-periods =
-          record { periods = refl; advance = refl; starts = refl; holders = refl; volumes = refl; total = refl };
+          record { periods = refl; advance = (refl, refl); starts = refl; holders = refl; volumes = (refl, refl); total = (refl, refl) };
       out-of-default =
-          record { periods = refl; advance = refl; starts = refl; holders = refl; volumes = refl; total = refl };
+          record { periods = refl; advance = (refl, refl); starts = refl; holders = refl; volumes = (refl, refl); total = (refl, refl) };
       suspended = record { by-register = refl; by-book = refl };
       suspended-still = record { by-register = refl; by-book = refl };
       suspended-no-more = record { by-register = refl; by-book = refl };
       suspended-periods =
-          record { periods = refl; advance = refl; starts = refl; holders = refl; volumes = refl; total = refl };
+          record { periods = refl; advance = (refl, refl); starts = refl; holders = refl; volumes = (refl, refl); total = (refl, refl) };
       other-point = record { by-register = refl; by-book = refl };
     }
 
@@ -137,11 +138,11 @@ request-examples =
       lowest-number = record { by-register = refl; by-book = refl };
       asked = record { by-register = refl; by-book = refl };
       asked-periods =
-          record { periods = refl; advance = refl; starts = refl; holders = refl; volumes = refl; total = refl };
+          record { periods = refl; advance = (refl, refl); starts = refl; holders = refl; volumes = (refl, refl); total = (refl, refl) };
       cancel-whose = record { by-register = refl; by-book = refl };
       cancelled = record { by-register = refl; by-book = refl };
       cancelled-periods =
-          record { periods = refl; advance = refl; starts = refl; holders = refl; volumes = refl; total = refl };
+          record { periods = refl; advance = (refl, refl); starts = refl; holders = refl; volumes = (refl, refl); total = (refl, refl) };
       cancel-when = record { by-register = refl; by-book = refl };
       cancel-without-wait = record { by-register = refl; by-book = refl };
       cancel-with-ten-days = record { by-register = refl; by-book = refl };
@@ -176,28 +177,76 @@ reading-examples =
       changed = record { by-register = refl; by-book = refl };
       read-suspended = record { by-register = refl; by-book = refl };
       past-zero =
-          record { periods = refl; advance = refl; starts = refl; holders = refl; volumes = refl; total = refl };
+          record { periods = refl; advance = (refl, refl); starts = refl; holders = refl; volumes = (refl, refl); total = (refl, refl) };
       no-advance =
-          record { periods = refl; advance = refl; starts = refl; holders = refl; volumes = refl; total = refl };
-      unit-100 = record { periods = refl; advance = refl; starts = refl; holders = refl; volumes = refl; total = refl };
-      unit-10 = record { periods = refl; advance = refl; starts = refl; holders = refl; volumes = refl; total = refl };
-      unit-1 = record { periods = refl; advance = refl; starts = refl; holders = refl; volumes = refl; total = refl };
+          record { periods = refl; advance = (refl, refl); starts = refl; holders = refl; volumes = (refl, refl); total = (refl, refl) };
+      unit-100 = record { periods = refl; advance = (refl, refl); starts = refl; holders = refl; volumes = (refl, refl); total = (refl, refl) };
+      unit-10 = record { periods = refl; advance = (refl, refl); starts = refl; holders = refl; volumes = (refl, refl); total = (refl, refl) };
+      unit-1 = record { periods = refl; advance = (refl, refl); starts = refl; holders = refl; volumes = (refl, refl); total = (refl, refl) };
       unit-of-the-meter-read =
-          record { periods = refl; advance = refl; starts = refl; holders = refl; volumes = refl; total = refl };
+          record { periods = refl; advance = (refl, refl); starts = refl; holders = refl; volumes = (refl, refl); total = (refl, refl) };
       change-past-zero =
-          record { periods = refl; advance = refl; starts = refl; holders = refl; volumes = refl; total = refl };
+          record { periods = refl; advance = (refl, refl); starts = refl; holders = refl; volumes = (refl, refl); total = (refl, refl) };
       late-reading =
-          record { periods = refl; advance = refl; starts = refl; holders = refl; volumes = refl; total = refl };
+          record { periods = refl; advance = (refl, refl); starts = refl; holders = refl; volumes = (refl, refl); total = (refl, refl) };
       own-day-not-booked =
-          record { periods = refl; advance = refl; starts = refl; holders = refl; volumes = refl; total = refl };
+          record { periods = refl; advance = (refl, refl); starts = refl; holders = refl; volumes = (refl, refl); total = (refl, refl) };
       reading-before-the-newest-period =
-          record { periods = refl; advance = refl; starts = refl; holders = refl; volumes = refl; total = refl };
+          record { periods = refl; advance = (refl, refl); starts = refl; holders = refl; volumes = (refl, refl); total = (refl, refl) };
       other-point-not-booked =
-          record { periods = refl; advance = refl; starts = refl; holders = refl; volumes = refl; total = refl };
+          record { periods = refl; advance = (refl, refl); starts = refl; holders = refl; volumes = (refl, refl); total = (refl, refl) };
       two-readings =
-          record { periods = refl; advance = refl; starts = refl; holders = refl; volumes = refl; total = refl };
+          record { periods = refl; advance = (refl, refl); starts = refl; holders = refl; volumes = (refl, refl); total = (refl, refl) };
       one-unit-in-three-days =
-          record { periods = refl; advance = refl; starts = refl; holders = refl; volumes = refl; total = refl };
+          record { periods = refl; advance = (refl, refl); starts = refl; holders = refl; volumes = (refl, refl); total = (refl, refl) };
+    }
+
+meter-examples : MeterExamples
+unfolding computes
+meter-examples =
+    record {
+      code-22 = record { by-register = refl; by-book = refl };
+      factor-40 = record { by-register = refl; by-book = refl };
+      factors = record { by-register = refl; by-book = refl };
+      after-22 = record { by-register = refl; by-book = refl };
+      before-20 = record { by-register = refl; by-book = refl };
+      before-21 = record { by-register = refl; by-book = refl };
+      then-20-and-21 = record { by-register = refl; by-book = refl };
+      before-2-23-27-28 = record { by-register = refl; by-book = refl };
+      change-before-27-28 = record { by-register = refl; by-book = refl };
+      enrolled-cubic = record { by-register = refl; by-book = refl };
+      enrolled-normal = record { by-register = refl; by-book = refl };
+      changed-to-cubic = record { by-register = refl; by-book = refl };
+      in-thousandths =
+          record { periods = refl; advance = (refl, refl); starts = refl; holders = refl; volumes = (refl, refl); total = (refl, refl) };
+      seven-in-ten =
+          record { periods = refl; advance = (refl, refl); starts = refl; holders = refl; volumes = (refl, refl); total = (refl, refl) };
+      seven-in-ten-half =
+          record { periods = refl; advance = (refl, refl); starts = refl; holders = refl; volumes = (refl, refl); total = (refl, refl) };
+      seven-in-ten-most =
+          record { periods = refl; advance = (refl, refl); starts = refl; holders = refl; volumes = (refl, refl); total = (refl, refl) };
+      seven-in-ten-least =
+          record { periods = refl; advance = (refl, refl); starts = refl; holders = refl; volumes = (refl, refl); total = (refl, refl) };
+      seven-in-ten-normal =
+          record { periods = refl; advance = (refl, refl); starts = refl; holders = refl; volumes = (refl, refl); total = (refl, refl) };
+      seven-in-ten-as-normal =
+          record { periods = refl; advance = (refl, refl); starts = refl; holders = refl; volumes = (refl, refl); total = (refl, refl) };
+      no-carry =
+          record { periods = refl; advance = (refl, refl); starts = refl; holders = refl; volumes = (refl, refl); total = (refl, refl) };
+      a-whole-one-each =
+          record { periods = refl; advance = (refl, refl); starts = refl; holders = refl; volumes = (refl, refl); total = (refl, refl) };
+      nearly-two-each =
+          record { periods = refl; advance = (refl, refl); starts = refl; holders = refl; volumes = (refl, refl); total = (refl, refl) };
+      cubic-then-normal =
+          record { periods = refl; advance = (refl, refl); starts = refl; holders = refl; volumes = (refl, refl); total = (refl, refl) };
+      normal-then-cubic =
+          record { periods = refl; advance = (refl, refl); starts = refl; holders = refl; volumes = (refl, refl); total = (refl, refl) };
+      old-factor-at-a-change =
+          record { periods = refl; advance = (refl, refl); starts = refl; holders = refl; volumes = (refl, refl); total = (refl, refl) };
+      cubic-past-zero =
+          record { periods = refl; advance = (refl, refl); starts = refl; holders = refl; volumes = (refl, refl); total = (refl, refl) };
+      largest =
+          record { periods = refl; advance = (refl, refl); starts = refl; holders = refl; volumes = (refl, refl); total = (refl, refl) };
     }
 
 full-examples : FullExamples
@@ -235,33 +284,33 @@ event-examples =
       day-before-effect = record { by-register = refl; by-book = refl };
       effect = record { by-register = refl; by-book = refl };
       effect-periods =
-          record { periods = refl; advance = refl; starts = refl; holders = refl; volumes = refl; total = refl };
+          record { periods = refl; advance = (refl, refl); starts = refl; holders = refl; volumes = (refl, refl); total = (refl, refl) };
       day-before-deadline = record { by-register = refl; by-book = refl };
       deadline = record { by-register = refl; by-book = refl };
       day-before-the-end = record { by-register = refl; by-book = refl };
       the-end = record { by-register = refl; by-book = refl };
       the-end-periods =
-          record { periods = refl; advance = refl; starts = refl; holders = refl; volumes = refl; total = refl };
+          record { periods = refl; advance = (refl, refl); starts = refl; holders = refl; volumes = (refl, refl); total = (refl, refl) };
       request-on-default-deadline =
-          record { periods = refl; advance = refl; starts = refl; holders = refl; volumes = refl; total = refl };
+          record { periods = refl; advance = (refl, refl); starts = refl; holders = refl; volumes = (refl, refl); total = (refl, refl) };
       request-on-last-resort-deadline =
-          record { periods = refl; advance = refl; starts = refl; holders = refl; volumes = refl; total = refl };
+          record { periods = refl; advance = (refl, refl); starts = refl; holders = refl; volumes = (refl, refl); total = (refl, refl) };
       request-before-default-deadline =
-          record { periods = refl; advance = refl; starts = refl; holders = refl; volumes = refl; total = refl };
+          record { periods = refl; advance = (refl, refl); starts = refl; holders = refl; volumes = (refl, refl); total = (refl, refl) };
       request-survives-default = record { by-register = refl; by-book = refl };
       request-after-default-deadline =
-          record { periods = refl; advance = refl; starts = refl; holders = refl; volumes = refl; total = refl };
+          record { periods = refl; advance = (refl, refl); starts = refl; holders = refl; volumes = (refl, refl); total = (refl, refl) };
       request-day-by-day =
-          record { periods = refl; advance = refl; starts = refl; holders = refl; volumes = refl; total = refl };
+          record { periods = refl; advance = (refl, refl); starts = refl; holders = refl; volumes = (refl, refl); total = (refl, refl) };
       request-past-last-resort = record { by-register = refl; by-book = refl };
       request-past-last-resort-periods =
-          record { periods = refl; advance = refl; starts = refl; holders = refl; volumes = refl; total = refl };
+          record { periods = refl; advance = (refl, refl); starts = refl; holders = refl; volumes = (refl, refl); total = (refl, refl) };
       present-holder-named =
-          record { periods = refl; advance = refl; starts = refl; holders = refl; volumes = refl; total = refl };
+          record { periods = refl; advance = (refl, refl); starts = refl; holders = refl; volumes = (refl, refl); total = (refl, refl) };
       call-replaces-event =
-          record { periods = refl; advance = refl; starts = refl; holders = refl; volumes = refl; total = refl };
+          record { periods = refl; advance = (refl, refl); starts = refl; holders = refl; volumes = (refl, refl); total = (refl, refl) };
       suspended-after-request =
-          record { periods = refl; advance = refl; starts = refl; holders = refl; volumes = refl; total = refl };
+          record { periods = refl; advance = (refl, refl); starts = refl; holders = refl; volumes = (refl, refl); total = (refl, refl) };
       checks-look-at-today = record { by-register = refl; by-book = refl };
     }
 
@@ -275,12 +324,12 @@ varied-examples =
       last-resort-on-96 = record { by-register = refl; by-book = refl };
       none-on-97 = record { by-register = refl; by-book = refl };
       starts-12-37-97 =
-          record { periods = refl; advance = refl; starts = refl; holders = refl; volumes = refl; total = refl };
+          record { periods = refl; advance = (refl, refl); starts = refl; holders = refl; volumes = (refl, refl); total = (refl, refl) };
       request-near-37 = record { by-register = refl; by-book = refl };
       cancel-with-three-days = record { by-register = refl; by-book = refl };
       failure-to-71 = record { by-register = refl; by-book = refl };
       starts-11-71 =
-          record { periods = refl; advance = refl; starts = refl; holders = refl; volumes = refl; total = refl };
+          record { periods = refl; advance = (refl, refl); starts = refl; holders = refl; volumes = (refl, refl); total = (refl, refl) };
       protected-9-and-4 = record { by-register = refl; by-book = refl };
       sums-off-the-calendar = record { by-register = refl; by-book = refl };
       holder-5-beside-6 = record { by-register = refl; by-book = refl };
@@ -292,16 +341,16 @@ varied-examples =
       enrolled-below-10000 = record { by-register = refl; by-book = refl };
       read-below-10000 = record { by-register = refl; by-book = refl };
       past-zero-with-one-behind =
-          record { periods = refl; advance = refl; starts = refl; holders = refl; volumes = refl; total = refl };
+          record { periods = refl; advance = (refl, refl); starts = refl; holders = refl; volumes = (refl, refl); total = (refl, refl) };
       fresh-below-10000 = record { by-register = refl; by-book = refl };
       past-zero-of-the-new-meter =
-          record { periods = refl; advance = refl; starts = refl; holders = refl; volumes = refl; total = refl };
+          record { periods = refl; advance = (refl, refl); starts = refl; holders = refl; volumes = (refl, refl); total = (refl, refl) };
       changed-past-zero =
-          record { periods = refl; advance = refl; starts = refl; holders = refl; volumes = refl; total = refl };
+          record { periods = refl; advance = (refl, refl); starts = refl; holders = refl; volumes = (refl, refl); total = (refl, refl) };
       other-reading-not-booked =
-          record { periods = refl; advance = refl; starts = refl; holders = refl; volumes = refl; total = refl };
+          record { periods = refl; advance = (refl, refl); starts = refl; holders = refl; volumes = (refl, refl); total = (refl, refl) };
       other-reading-not-booked-either =
-          record { periods = refl; advance = refl; starts = refl; holders = refl; volumes = refl; total = refl };
+          record { periods = refl; advance = (refl, refl); starts = refl; holders = refl; volumes = (refl, refl); total = (refl, refl) };
     }
 
 pub row-examples : RowExamples
@@ -315,6 +364,7 @@ row-examples =
       requests = request-examples;
       last-days = last-day-examples;
       readings = reading-examples;
+      meters = meter-examples;
       full = full-examples;
       events = event-examples;
       varied = varied-examples;

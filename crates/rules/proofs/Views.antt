@@ -56,13 +56,13 @@ module _ (S : Settings) (day : ℕ) (u : List Bool) (t : ℕ) where
   rows-off : (p : ℕ) (a : PointAction) (v w : View) (c d : Answer) → OffDay ⊎ (notPoint p ≡ true)
       → firstOf (rowsAt S day u t p a v) c ≡ firstOf (rowsAt S day u t p a w) d
   unfolding rowsAt firstOf
-  rows-off p (PointAction.Enrol b a x) v w _ _ q = ⊎-elim (⊎-elim (λ q. rw q) (λ q. rw q)) (λ q. rw q) q
+  rows-off p (PointAction.Enrol m) v w _ _ q = ⊎-elim (⊎-elim (λ q. rw q) (λ q. rw q)) (λ q. rw q) q
   rows-off p (PointAction.IntoService s k) v w _ _ q = ⊎-elim (⊎-elim (λ q. rw q) (λ q. rw q)) (λ q. rw q) q
   rows-off p (PointAction.DefaultSupply k) v w _ _ q = ⊎-elim (⊎-elim (λ q. rw q) (λ q. rw q)) (λ q. rw q) q
   rows-off p (PointAction.Request s k r) v w _ _ q = ⊎-elim (⊎-elim (λ q. rw q) (λ q. rw q)) (λ q. rw q) q
   rows-off p (PointAction.Cancel s) v w _ _ q = ⊎-elim (⊎-elim (λ q. rw q) (λ q. rw q)) (λ q. rw q) q
   rows-off p (PointAction.Reading d x z) v w _ _ q = ⊎-elim (⊎-elim (λ q. rw q) (λ q. rw q)) (λ q. rw q) q
-  rows-off p (PointAction.MeterChange x z b a y) v w _ _ q = ⊎-elim (⊎-elim (λ q. rw q) (λ q. rw q)) (λ q. rw q) q
+  rows-off p (PointAction.MeterChange x z m) v w _ _ q = ⊎-elim (⊎-elim (λ q. rw q) (λ q. rw q)) (λ q. rw q) q
   rows-off p PointAction.OutOfService v w _ _ q = ⊎-elim (⊎-elim (λ q. rw q) (λ q. rw q)) (λ q. rw q) q
   rows-off p (PointAction.Suspend m) v w _ _ q = ⊎-elim (⊎-elim (λ q. rw q) (λ q. rw q)) (λ q. rw q) q
 
@@ -92,7 +92,7 @@ module _ (S : Settings) (day : ℕ) (u : List Bool) (t : ℕ) where
   pub passed-at : (p : ℕ) (a : PointAction) (v : View) (b : Answer) → isAccepted (firstOf (rowsAt S day u t p a v) b) ≡ true
       → (t ≤ lastDay) × (day ≤ t) × (notPoint p ≡ false)
   unfolding rowsAt
-  passed-at p (PointAction.Enrol b a x) v _ ok = let k = dated day t _ _ (pass _ _ _ _ ok .1) in (k .calendar, k .on, pass _ _ _ _ (k .rest) .0)
+  passed-at p (PointAction.Enrol m) v _ ok = let k = dated day t _ _ (pass _ _ _ _ (pass _ _ _ _ ok .1) .1) in (k .calendar, k .on, pass _ _ _ _ (k .rest) .0)
   passed-at p (PointAction.IntoService s k) v _ ok = let k = dated day t _ _ (pass _ _ _ _ ok .1) in
       at-point p _ k (pass _ _ _ _ (pass _ _ _ _ (k .rest) .1) .0)
   passed-at p (PointAction.DefaultSupply k) v _ ok = let k = dated-also day t _ _ _ (pass _ _ _ _ ok .1) .1 in at-point p _ k (pass _ _ _ _ (k .rest) .0)
@@ -100,7 +100,7 @@ module _ (S : Settings) (day : ℕ) (u : List Bool) (t : ℕ) where
       at-point p _ k (pass _ _ _ _ (pass _ _ _ _ (k .rest) .1) .0)
   passed-at p (PointAction.Cancel s) v _ ok = let k = dated day t _ _ (pass _ _ _ _ ok .1) in at-point p _ k (pass _ _ _ _ (k .rest) .0)
   passed-at p (PointAction.Reading d x z) v _ ok = let k = dated-also day t _ _ _ (pass _ _ _ _ ok .1) .1 in at-point p _ k (pass _ _ _ _ (k .rest) .0)
-  passed-at p (PointAction.MeterChange x z b a y) v _ ok = let k = dated day t _ _ (pass _ _ _ _ ok .1) in at-point p _ k (pass _ _ _ _ (k .rest) .0)
+  passed-at p (PointAction.MeterChange x z m) v _ ok = let k = dated day t _ _ (pass _ _ _ _ (pass _ _ _ _ ok .1) .1) in at-point p _ k (pass _ _ _ _ (k .rest) .0)
   passed-at p PointAction.OutOfService v _ ok = let k = dated day t _ _ ok in at-point p _ k (pass _ _ _ _ (k .rest) .0)
   passed-at p (PointAction.Suspend m) v _ ok = let k = dated day t _ _ (pass _ _ _ _ ok .1) in at-point p _ k (pass _ _ _ _ (k .rest) .0)
 

@@ -16,7 +16,7 @@ use lib.ListN.{set}
 use Rattle.rules.specs.declared.{Effect.Effect, Fields.Fields, Settings.Settings, SupplyKind.SupplyKind}
 use Rattle.rules.specs.declared.{Pending.Pending, Span.Span, Action.Action, PointAction.PointAction}
 use Rattle.rules.specs.declared.{Answer.Answer}
-use Rattle.rules.specs.Fields.{supply, meter, reading, fields, withSupply, withPending, withKey, withMark}
+use Rattle.rules.specs.Fields.{supply, fitted, reading, fields, withSupply, withPending, withKey, withMark}
 use Rattle.rules.specs.Fields.{withReading, unsupplied}
 use Rattle.rules.specs.Volumes.{spanTo}
 
@@ -91,7 +91,7 @@ effectiveDay S t r = max r (t + notice S t)
 -- "pending dropped"; 8 "(d, x) becomes the last reading"; 9 "a reading today of the old meter, then the new meter
 -- with its index as last reading"; 10 "holder 0, kind none, pending dropped"; 11 "the suspension mark becomes it".
 unfoldable pub effectOf : Settings → ℕ → PointAction → Fields → Effect
-effectOf S t (PointAction.Enrol b a x) f = Effect.Enrol (fields true unsupplied 0 0 (meter b a) (reading t x))
+effectOf S t (PointAction.Enrol m) f = Effect.Enrol (fields true unsupplied 0 0 (fitted m) (reading t (m .index)))
 effectOf S t (PointAction.IntoService s k) f =
     Effect.Name (withKey (withSupply f (supply s SupplyKind.Contract (f .supply .pending))) k)
 effectOf S t (PointAction.DefaultSupply k) f =
@@ -100,8 +100,8 @@ effectOf S t (PointAction.Request s k r) f =
     Effect.Request (effectiveDay S t r) (withPending f (Pending.Request s (effectiveDay S t r)))
 effectOf S t (PointAction.Cancel s) f = Effect.Keep (withPending f Pending.Nothing)
 effectOf S t (PointAction.Reading d x z) f = Effect.Read (spanTo f d x z) (withReading f (f .meter) (reading d x))
-effectOf S t (PointAction.MeterChange x z b a y) f =
-    Effect.Read (spanTo f t x z) (withReading f (meter b a) (reading t y))
+effectOf S t (PointAction.MeterChange x z m) f =
+    Effect.Read (spanTo f t x z) (withReading f (fitted m) (reading t (m .index)))
 effectOf S t PointAction.OutOfService f = Effect.Name (withSupply f unsupplied)
 effectOf S t (PointAction.Suspend m) f = Effect.Keep (withMark f m)
 

@@ -20,7 +20,7 @@ use Rattle.rules.specs.Opening.{settingsOf}
 use Rattle.rules.specs.Rejections.{openingAnswer, tooLate}
 use Rattle.rules.specs.Pinned.Register.{period}
 use Rattle.rules.specs.Periods.{sumDays}
-use Rattle.rules.specs.Scenes.{Line, _gives_, opening, on, Plays, Shows}
+use Rattle.rules.specs.Scenes.{Line, _gives_, opening, on, Plays, Shows, enrol}
 
 -- W = 2, A = 30, B = 40; 1 is the default supplier, 2 the last-resort supplier.
 abbrev pub opens : ℕ → Opening
@@ -30,7 +30,7 @@ opens d = opening d 2 30 40 1 2
 abbrev served : ℕ → List Line
 served d =
     on d (Action.Contract 5) gives Answer.Accepted ∷ on d (Action.Contract 6) gives Answer.Accepted ∷
-    on d (Action.At 1 (PointAction.Enrol 3 0 990)) gives Answer.Accepted ∷
+    on d (Action.At 1 (enrol 3 0 990 2 0)) gives Answer.Accepted ∷
     on d (Action.At 1 (PointAction.IntoService 5 77)) gives Answer.Accepted ∷ []
 
 -- A request of supplier 6 there on 1 June 2021 (7,822), which asks for day r.
@@ -50,7 +50,7 @@ opensBefore e = opening (e - 21) 1 30 40 1 2
 
 abbrev cancelledBefore : ℕ → ℕ → Answer → List Line
 cancelledBefore e t a =
-    on (e - 21) (Action.At 1 (PointAction.Enrol 3 0 990)) gives Answer.Accepted ∷
+    on (e - 21) (Action.At 1 (enrol 3 0 990 2 0)) gives Answer.Accepted ∷
     on (e - 21) (Action.At 1 (PointAction.IntoService 1 77)) gives Answer.Accepted ∷
     on (e - 21) (Action.At 1 (PointAction.Request 2 77 e)) gives Answer.AcceptedOn e ∷
     on t (Action.At 1 (PointAction.Cancel 2)) gives a ∷ []
@@ -59,7 +59,7 @@ cancelledBefore e t a =
 abbrev defaulted : List Line
 defaulted =
     on 8000 (Action.Contract 5) gives Answer.Accepted ∷
-    on 8000 (Action.At 1 (PointAction.Enrol 3 0 990)) gives Answer.Accepted ∷
+    on 8000 (Action.At 1 (enrol 3 0 990 2 0)) gives Answer.Accepted ∷
     on 8000 (Action.At 1 (PointAction.DefaultSupply 77)) gives Answer.Accepted ∷ []
 
 -- What follows the default on 8,000: a day, or a request of supplier 5.
@@ -73,18 +73,18 @@ thenRequest t a = defaulted ++ (on t (Action.At 1 (PointAction.Request 5 77 t)) 
 abbrev sevenInTen : List Line
 sevenInTen =
     on 8000 (Action.Contract 5) gives Answer.Accepted ∷
-    on 8000 (Action.At 1 (PointAction.Enrol 4 3 100)) gives Answer.Accepted ∷
+    on 8000 (Action.At 1 (enrol 4 3 100 2 0)) gives Answer.Accepted ∷
     on 8003 (Action.At 1 (PointAction.IntoService 5 77)) gives Answer.Accepted ∷
     on 8010 (Action.At 1 (PointAction.Reading 8010 107 0)) gives Answer.Accepted ∷ []
 
 abbrev sevenSpan : Span
-sevenSpan = record { from = 8000; to = 8010; advance = 7; unit = 1 }
+sevenSpan = record { from = 8000; to = 8010; advance = 7; unit = 1; factor = 10000 }
 
 -- The sample input, from its second line on.
 abbrev sample : List Line
 sample =
     on 7671 (Action.Contract 5) gives Answer.Accepted ∷
-    on 7671 (Action.At 1 (PointAction.Enrol 3 0 990)) gives Answer.Accepted ∷
+    on 7671 (Action.At 1 (enrol 3 0 990 2 0)) gives Answer.Accepted ∷
     on 7674 (Action.At 1 (PointAction.IntoService 5 77)) gives Answer.Accepted ∷
     on 7674 (Action.At 1 (PointAction.DefaultSupply 77)) gives Answer.Refused 24 ∷
     on 7684 (Action.At 1 (PointAction.Reading 7684 10 1)) gives Answer.Accepted ∷ []
@@ -149,13 +149,13 @@ pub record PExamples : Type 0 where
   pub cancel-across-may-9-2013-too-late : Plays (opensBefore 4878) (cancelledBefore 4878 4876 (Answer.Refused 26))
   -- "V = 7, D = 10, U = 1, new holder at k = 3: 2 and 5."
   pub seven-in-ten : Plays (opens 8000) sevenInTen
-  pub seven-in-ten-booked : Shows (opens 8000) sevenInTen 1 (period 8000 0 2 ∷ period 8003 5 5 ∷ []) 7
+  pub seven-in-ten-booked : Shows (opens 8000) sevenInTen 1 (period 8000 0 2 2 ∷ period 8003 5 5 5 ∷ []) 7 7
   pub first-three-shares : sumDays (dayVolume sevenSpan) 8000 3 ≡ 2
   pub last-seven-shares : sumDays (dayVolume sevenSpan) 8003 7 ≡ 5
   -- "A = 30, B = 40, default on 8,000, next call on 9,000: starts 8,000, 8,030, 8,070."
   pub default-on-8000 : Plays (opens 8000) (thenDay 9000)
   pub starts-8000-8030-8070 : Shows (opens 8000) (thenDay 9000) 1
-      (period 8000 1 0 ∷ period 8030 2 0 ∷ period 8070 0 0 ∷ []) 0
+      (period 8000 1 0 0 ∷ period 8030 2 0 0 ∷ period 8070 0 0 0 ∷ []) 0 0
   -- "A request on 8,008 passes check 8; on 8,009 it gets 8 with 8,030."
   pub request-on-8008 : Plays (opens 8000) (thenRequest 8008 (Answer.AcceptedOn 8029))
   pub request-on-8009 : Plays (opens 8000) (thenRequest 8009 (Answer.RefusedUntil 8030))
@@ -165,14 +165,14 @@ pub record PExamples : Type 0 where
   pub january-14-2021 : dayAnswer 2021 1 14 ≡ DayAnswer.Day 7684
   pub sample-opening : openingAnswer (opens 7671) ≡ Answer.Accepted
   pub sample-answers : Plays (opens 7671) sample
-  pub sample-periods : Shows (opens 7671) sample 1 (period 7671 0 4000 ∷ period 7674 5 16000 ∷ []) 20000
+  pub sample-periods : Shows (opens 7671) sample 1 (period 7671 0 4000 4000 ∷ period 7674 5 16000 16000 ∷ []) 20000 20000
   -- Mistakes seen: "rounding each supplier's share by itself (2 and 4 above)": 2 and 5 above, which add up to the 7
   -- that were read. "one catch-up event per call, which loses 8,070": it comes with the first call on or after 8,070,
   -- and not the day before.
   pub both-events-by-8070 : Shows (opens 8000) (thenDay 8070) 1
-      (period 8000 1 0 ∷ period 8030 2 0 ∷ period 8070 0 0 ∷ []) 0
+      (period 8000 1 0 0 ∷ period 8030 2 0 0 ∷ period 8070 0 0 0 ∷ []) 0 0
   pub one-event-by-8069 : Shows (opens 8000) (thenDay 8069) 1
-      (period 8000 1 0 ∷ period 8030 2 0 ∷ []) 0
+      (period 8000 1 0 0 ∷ period 8030 2 0 0 ∷ []) 0 0
   -- "reading the 21 days as working days": 7,843 above is 22 June 2021, 21 days after 1 June.
   pub june-22-2021 : dayAnswer 2021 6 22 ≡ DayAnswer.Day (7822 + 21)
   -- "a period of no days left by two holders on one day": there is one period for each day on which a holder was named.
@@ -181,4 +181,4 @@ pub record PExamples : Type 0 where
       (on 7825 (Action.At 1 PointAction.OutOfService) gives Answer.Accepted ∷
       on 7825 (Action.At 1 (PointAction.IntoService 6 77)) gives Answer.Accepted ∷
       on 7830 action.Day gives Answer.Accepted ∷ [])) 1
-      (period 7820 5 0 ∷ period 7825 6 0 ∷ []) 0
+      (period 7820 5 0 0 ∷ period 7825 6 0 0 ∷ []) 0 0

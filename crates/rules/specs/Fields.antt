@@ -1,15 +1,24 @@
 -- Document 01, "What the register holds": a point's fields, which the register and the day book both keep.
 -- Each record of the types is written out once, so that a new field is added in one place. Definitions only.
-use mathlib.Core.Bool.{Bool, false}
+use mathlib.Core.Bool.{Bool, false, cond}
 use Prim.Native.Nat.{ℕ}
+use lib.Dec.{eqb}
 use Rattle.rules.specs.declared.{Fields.Fields, Supply.Supply, SupplyKind.SupplyKind, Pending.Pending}
-use Rattle.rules.specs.declared.{Meter.Meter, Reading.Reading}
+use Rattle.rules.specs.declared.{Code.Code, Meter.Meter, NewMeter.NewMeter, Reading.Reading}
 
 abbrev pub supply : ℕ → SupplyKind → Pending → Supply
 supply h k q = record { holder = h; kind = k; pending = q }
 
-abbrev pub meter : ℕ → ℕ → Meter
-meter b a = record { before = b; after = a }
+abbrev pub meter : ℕ → ℕ → Code → Meter
+meter b a c = record { before = b; after = a; code = c }
+
+-- 02, F-4: "the code of the meter (1 for m³, 2 for Nm³ ..), and for an m³ meter a correction factor"
+abbrev pub codeOf : ℕ → ℕ → Code
+codeOf c f = cond (eqb c 1) (Code.Cubic f) Code.Normal
+
+-- The meter that a call brings.
+abbrev pub fitted : NewMeter → Meter
+fitted m = meter (m .before) (m .after) (codeOf (m .code) (m .factor))
 
 abbrev pub reading : ℕ → ℕ → Reading
 reading d x = record { day = d; index = x }
@@ -39,4 +48,4 @@ unsupplied = supply 0 SupplyKind.None Pending.Nothing
 
 -- A point that was never enrolled.
 abbrev pub blank : Fields
-blank = fields false unsupplied 0 0 (meter 0 0) (reading 0 0)
+blank = fields false unsupplied 0 0 (meter 0 0 Code.Normal) (reading 0 0)

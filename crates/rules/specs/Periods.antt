@@ -1,7 +1,7 @@
 -- Document 01, "The register's periods are the marked cells": a point's periods, and what the day book's cells and
 -- the list say of them. Definitions only.
 --
--- periodsOf    a point's periods, oldest first
+-- periodsOf    a point's periods, oldest first; `volumesOf`, `normalsOf`: their two volumes
 -- markedDays   the days of the marked cells, oldest first
 -- holderOn     the day book's holder on a day: the cell's; none where the day has no cell
 -- covering     the periods that a day lies in
@@ -25,7 +25,10 @@ abbrev pub startsOf : Point → List ℕ
 startsOf g = map (λ (q : Period). q .start) (periodsOf g)
 
 abbrev pub volumesOf : Point → List ℕ
-volumesOf g = map (λ (q : Period). q .volume) (periodsOf g)
+volumesOf g = map (λ (q : Period). q .volume .0) (periodsOf g)
+
+abbrev pub normalsOf : Point → List ℕ
+normalsOf g = map (λ (q : Period). q .normal .0) (periodsOf g)
 
 -- The cells stand newest first; l is what comes after them.
 unfoldable pub markedDays : List Cell → List ℕ → List ℕ

@@ -17,10 +17,10 @@ use Rattle.dates.specs.Months.{threeMonthsAfter}
 use Rattle.holidays.specs.Working.{workingBetween}
 use Rattle.rules.specs.declared.{Fields.Fields, Settings.Settings, Supply.Supply, SupplyKind.SupplyKind}
 use Rattle.rules.specs.declared.{Pending.Pending, Opening.Opening, Call.Call, Action.Action, View.View}
-use Rattle.rules.specs.declared.{PointAction.PointAction, Answer.Answer, Effect.Effect}
-use Rattle.rules.specs.Fields.{meter, blank}
+use Rattle.rules.specs.declared.{NewMeter.NewMeter, PointAction.PointAction, Answer.Answer, Effect.Effect}
+use Rattle.rules.specs.Fields.{blank}
 use Rattle.rules.specs.Effects.{fieldsOf, names, acceptedBy, notice, effectiveDay, effectOf, failed, atPoint}
-use Rattle.rules.specs.Volumes.{fullTurn}
+use Rattle.rules.specs.Volumes.{fullTurn, turnOf}
 
 -- A point that was never enrolled.
 abbrev pub blankView : View
@@ -55,6 +55,16 @@ notWheels b a = outside 1 8 b || outside 0 3 a
 
 abbrev pub notPoint : ℕ → Bool
 notPoint p = outside 1 32 p
+
+-- 02, F-4: "the code of the meter (1 for m³, 2 for Nm³, anything else 22)"
+abbrev pub notMeter : NewMeter → Bool
+notMeter m = notWheels (m .before) (m .after) || outside 1 2 (m .code)
+
+-- 40: "factor out of range or not 0 on an Nm³ meter, tested directly after 22"; its range on an m³ meter is "1 to
+-- 99,999"
+abbrev pub badFactor : NewMeter → Bool
+badFactor m =
+    (eqb (m .code) 1 && outside 1 99999 (m .factor)) || (eqb (m .code) 2 && not (eqb (m .factor) 0))
 
 -- 22: "s, key, wheels, z, mark or a setting outside its range". z and the suspension mark are 0 or 1.
 abbrev pub notMark : ℕ → Bool
@@ -109,8 +119,11 @@ outOfTime t d f = leb d (f .reading .day) || ltb t d
 -- 28: "an index at or past 10^w; z = 0 and x below the last index; z = 1 and x not below it"
 abbrev pub indexDisagrees : Fields → ℕ → ℕ → Bool
 indexDisagrees f x z =
-    leb (fullTurn (f .meter)) x || (eqb z 0 && ltb x (f .reading .index))
+    leb (turnOf (f .meter)) x || (eqb z 0 && ltb x (f .reading .index))
     || (eqb z 1 && not (ltb x (f .reading .index)))
+
+abbrev pub pastTurn : NewMeter → Bool
+pastTurn m = leb (fullTurn (m .before) (m .after)) (m .index)
 
 -- 30: "after the call a point's marks and those due exceed 24 (due: pending 1, default 2, last resort 1)"; a second
 -- holder on one day replaces the first, so today's mark counts once.
@@ -142,12 +155,13 @@ unfoldable pub anyPoint : ℕ → ℕ → (ℕ → Bool) → Bool
 anyPoint p zero test = false
 anyPoint p (suc n) test = test p || anyPoint (suc p) n test
 
--- "Order: 31, 22, 20, 21, then the lowest number that applies." 31 is for lines. The rows of the calls that name a
+-- "Order: 31, 22, 20, 21, then the lowest number that applies." 31 is for lines; 02, F-4, puts 40 "directly after 22".
+-- The rows of the calls that name a
 -- point p, which shows v; day is the register's, u says who is under contract, t is today.
 unfoldable pub rowsAt : Settings → ℕ → List Bool → ℕ → ℕ → PointAction → View → List Row
-rowsAt S day u t p (PointAction.Enrol b a x) v =
-    (notWheels b a ⇒ 22) ∷ (isPast t ⇒ 20) ∷ (runsBack day t ⇒ 21)
-    ∷ (notPoint p ⇒ 2) ∷ (v .fields .enrolled ⇒ 23) ∷ (leb (fullTurn (meter b a)) x ⇒ 28) ∷ []
+rowsAt S day u t p (PointAction.Enrol m) v =
+    (notMeter m ⇒ 22) ∷ (badFactor m ⇒ 40) ∷ (isPast t ⇒ 20) ∷ (runsBack day t ⇒ 21)
+    ∷ (notPoint p ⇒ 2) ∷ (v .fields .enrolled ⇒ 23) ∷ (pastTurn m ⇒ 28) ∷ []
 rowsAt S day u t p (PointAction.IntoService s k) v =
     (notSupplier s || notKey k ⇒ 22) ∷ (isPast t ⇒ 20) ∷ (runsBack day t ⇒ 21)
     ∷ (noContract u s ⇒ 1) ∷ (notEnrolled p v ⇒ 2) ∷ (ltb 0 (v .fields .supply .holder) ⇒ 24)
@@ -169,10 +183,10 @@ rowsAt S day u t p (PointAction.Cancel s) v =
 rowsAt S day u t p (PointAction.Reading d x z) v =
     (notMark z ⇒ 22) ∷ (isPast t || isPast d ⇒ 20) ∷ (runsBack day t ⇒ 21)
     ∷ (notEnrolled p v ⇒ 2) ∷ (outOfTime t d (v .fields) ⇒ 27) ∷ (indexDisagrees (v .fields) x z ⇒ 28) ∷ []
-rowsAt S day u t p (PointAction.MeterChange x z b a y) v =
-    (notMark z || notWheels b a ⇒ 22) ∷ (isPast t ⇒ 20) ∷ (runsBack day t ⇒ 21)
+rowsAt S day u t p (PointAction.MeterChange x z m) v =
+    (notMark z || notMeter m ⇒ 22) ∷ (badFactor m ⇒ 40) ∷ (isPast t ⇒ 20) ∷ (runsBack day t ⇒ 21)
     ∷ (notEnrolled p v ⇒ 2) ∷ (outOfTime t t (v .fields) ⇒ 27)
-    ∷ (indexDisagrees (v .fields) x z || leb (fullTurn (meter b a)) y ⇒ 28) ∷ []
+    ∷ (indexDisagrees (v .fields) x z || pastTurn m ⇒ 28) ∷ []
 rowsAt S day u t p PointAction.OutOfService v =
     (isPast t ⇒ 20) ∷ (runsBack day t ⇒ 21)
     ∷ (notEnrolled p v ⇒ 2) ∷ (eqb (v .fields .supply .holder) 0 ⇒ 6)

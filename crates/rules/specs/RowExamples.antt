@@ -10,6 +10,7 @@ pub mod Services
 pub mod Requests
 pub mod LastDays
 pub mod Readings
+pub mod Meters
 pub mod Full
 pub mod Events
 pub mod Varied
@@ -21,6 +22,7 @@ use Rattle.rules.specs.RowExamples.Services.{ServiceExamples}
 use Rattle.rules.specs.RowExamples.Requests.{RequestExamples}
 use Rattle.rules.specs.RowExamples.LastDays.{LastDayExamples}
 use Rattle.rules.specs.RowExamples.Readings.{ReadingExamples}
+use Rattle.rules.specs.RowExamples.Meters.{MeterExamples}
 use Rattle.rules.specs.RowExamples.Full.{FullExamples}
 use Rattle.rules.specs.RowExamples.Events.{EventExamples}
 use Rattle.rules.specs.RowExamples.Varied.{VariedExamples}
@@ -34,6 +36,7 @@ pub record RowExamples : Type 0 where
   pub requests : RequestExamples
   pub last-days : LastDayExamples
   pub readings : ReadingExamples
+  pub meters : MeterExamples
   pub full : FullExamples
   pub events : EventExamples
   pub varied : VariedExamples

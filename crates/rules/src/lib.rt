@@ -1,11 +1,18 @@
 // The register's types. Every value of them is allowed everywhere: the definitions in specs/ are total.
-// Days are gas days, 0 is 1 January 2000; holder 0 is the operator's account; volumes are thousandths of a cubic metre.
+// Days are gas days, 0 is 1 January 2000; holder 0 is the operator's account; volumes are in thousandths.
+
+// What the wheels of a meter count: cubic metres (OBIS 7-1:3.0.0), or normal ones where the meter counts these.
+pub struct Volume(pub u64);
+
+// Normal cubic metres (OBIS 7-1:13.2.0). The one way to them from what the wheels count is a meter's factor.
+pub struct NormalVolume(pub u64);
 
 // A supplier period: it starts on a day and runs to the next period's start.
 pub struct Period {
     pub start: u32,
     pub holder: u8,
-    pub volume: u64,
+    pub volume: Volume,
+    pub normal: NormalVolume,
 }
 
 // A point's periods, the oldest first, in the first count slots.
@@ -35,10 +42,19 @@ pub struct Supply {
     pub pending: Pending,
 }
 
-// A meter: its wheels before and after the comma.
+// What a meter counts.
+pub enum Code {
+    // Normal cubic metres, OBIS 7-1:13.2.0.
+    Normal,
+    // Cubic metres, OBIS 7-1:3.0.0, and the factor that makes them normal ones, in ten-thousandths.
+    Cubic(u32),
+}
+
+// A meter: its wheels before and after the comma, and what they count.
 pub struct Meter {
     pub before: u8,
     pub after: u8,
+    pub code: Code,
 }
 
 // A reading: its day, and the index in units of the last wheel.
@@ -111,11 +127,18 @@ pub enum Action {
     Day,
 }
 
+// A meter as a call brings it: its wheels, the index that it starts with, its code and its factor.
+pub struct NewMeter {
+    pub before: u64,
+    pub after: u64,
+    pub index: u64,
+    pub code: u64,
+    pub factor: u64,
+}
+
 pub enum PointAction {
     Enrol {
-        before: u64,
-        after: u64,
-        index: u64,
+        meter: NewMeter,
     },
     IntoService {
         supplier: u64,
@@ -140,9 +163,7 @@ pub enum PointAction {
     MeterChange {
         index: u64,
         zero: u64,
-        before: u64,
-        after: u64,
-        fresh: u64,
+        meter: NewMeter,
     },
     OutOfService,
     Suspend {
@@ -172,12 +193,14 @@ pub enum Due {
     Naming { day: u32, supply: Supply },
 }
 
-// What a reading books: an advance of the wheels from one day to a later one, and the volume of one unit.
+// What a reading books: an advance of the wheels from one day to a later one, the volume of one unit, and the factor
+// that makes it normal cubic metres.
 pub struct Span {
     pub from: u32,
     pub to: u32,
     pub advance: u64,
     pub unit: u64,
+    pub factor: u64,
 }
 
 // What an event or an accepted call does to a point: the fields after it, and what goes with them.

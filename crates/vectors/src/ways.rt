@@ -49,10 +49,10 @@ fn room_for_two_answers() -> [u8; 48]
     [0; 48]
 }
 
-fn room_for_one_point() -> [u8; 918]
-    ensures { λ r. ⌜ 918 ≡ length r ⌝ }
+fn room_for_one_point() -> [u8; 1443]
+    ensures { λ r. ⌜ 1443 ≡ length r ⌝ }
 {
-    [0; 918]
+    [0; 1443]
 }
 
 // The answers to all lines. A piece of which nothing is taken is a difference: the input would never end.

@@ -8,6 +8,6 @@ pub put-advance-spec : {M : Type 1} → statement M
 put-advance-spec =
     tie.close (tie.spec (λ c. search needs) (λ c κs. search needs) (λ c. search needs) (λ c κs. search needs)
     (λ c. search needs)
-    (λ c. let k = c .before .before in unfold advanceReply in rw (k .before .before .before .answer .given .1) (k .put-ok .ensures))
+    (λ c. let k = c .before .before in unfold advanceReply in rw (k .before .before .before .before .before .answer .given .1) (k .put-ok-advance .ensures))
     (λ c. search needs)
     (λ c. let k = c .before .before in unfold advanceReply in rw (k .before .before .enum-told .given .1) (k .put-refusal .ensures)))

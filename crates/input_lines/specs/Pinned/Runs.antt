@@ -15,7 +15,7 @@ pub record Run (S : Type 0) : Type 0 where
 abbrev pub behind : {S : Type 0} → List ℕ → Run S → Run S
 behind o r = record { state = r .state; part = r .part; out = o ++ r .out }
 
--- A run over bytes, one by one; of a line that has not ended only the first 97 bytes are kept.
+-- A run over bytes, one by one; of a line that has not ended only the first 129 bytes are kept.
 module _ {S : Type 0} (next : S → List ℕ → S) (say : S → List ℕ → List ℕ) where
   unfoldable pub run : S → List ℕ → List ℕ → Run S
   run s part [] = record { state = s; part = part; out = [] }

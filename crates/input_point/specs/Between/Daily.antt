@@ -25,16 +25,17 @@ readingSaid day p d x z f =
 unfoldable pub dailyRead : ℕ → ℕ → ℕ → ℕ → ℕ → ℕ → Fields → Period → Daily
 dailyRead day p d x z n f q =
     cond (isAccepted (readingSaid day p d x z f) && liesIn n (q .start) (f .reading .day))
-    (Daily.Read day (reading d x) (bookedNewest (spanTo f d x z) q .volume)) Daily.Other
+    (Daily.Read day (reading d x) (bookedNewest (spanTo f d x z) q .volume) (bookedNewest (spanTo f d x z) q .normal))
+    Daily.Other
 
 unfoldable pub dailyAt : ℕ → ℕ → PointAction → ℕ → Fields → Period → Daily
 dailyAt day p (PointAction.Reading d x z) n f q = dailyRead day p d x z n f q
-dailyAt day p (PointAction.Enrol b a x) n f q = Daily.Other
+dailyAt day p (PointAction.Enrol m) n f q = Daily.Other
 dailyAt day p (PointAction.IntoService s k) n f q = Daily.Other
 dailyAt day p (PointAction.DefaultSupply k) n f q = Daily.Other
 dailyAt day p (PointAction.Request s k r) n f q = Daily.Other
 dailyAt day p (PointAction.Cancel s) n f q = Daily.Other
-dailyAt day p (PointAction.MeterChange x z b a y) n f q = Daily.Other
+dailyAt day p (PointAction.MeterChange x z m) n f q = Daily.Other
 dailyAt day p PointAction.OutOfService n f q = Daily.Other
 dailyAt day p (PointAction.Suspend m) n f q = Daily.Other
 

@@ -18,8 +18,9 @@ keptDeed t f n q = slot t f n (min n 24 - 1) q
 
 unfoldable pub namingDeed : ℕ → Fields → ℕ → Period → Deed
 namingDeed t f n q =
-    cond (ltb 0 (min n 24) && eqb (q .start) t) (slot t f n (min n 24 - 1) (period t (f .supply .holder) (q .volume)))
-    (cond (ltb (min n 24) 24) (slot t f (min n 24 + 1) (min n 24) (period t (f .supply .holder) 0)) (keptDeed t f n q))
+    cond (ltb 0 (min n 24) && eqb (q .start) t)
+    (slot t f n (min n 24 - 1) (period t (f .supply .holder) (q .volume .0) (q .normal .0)))
+    (cond (ltb (min n 24) 24) (slot t f (min n 24 + 1) (min n 24) (period t (f .supply .holder) 0 0)) (keptDeed t f n q))
 
 -- The days from a day on all lie in the newest of n periods.
 abbrev pub liesIn : ℕ → ℕ → ℕ → Bool

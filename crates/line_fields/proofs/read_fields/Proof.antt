@@ -2,7 +2,7 @@
 use Rattle.basics.proofs.Basics.{_≡_, refl, true, false, [], _≤_, _-_, _<_, arith, length, drop, take, length-set}
 use Rattle.basics.proofs.Basics.{replicate, needs}
 use Rattle.line_fields.specs.Between.With.{fieldsWith}
-use Rattle.line_fields.specs.Between.Shapes.{sortsFrom}
+use Rattle.line_fields.specs.Between.Shapes.{mostFields, sortsFrom}
 use Rattle.line_fields.proofs.FieldSteps.{sorts-next, sorts-none, one-more, zeros-left, fields-in-is, too-many}
 use Rattle.line_fields.proofs.Handed.{handed, fields-step, handed-here, reads}
 use Rattle.line_fields.proofs.read_fields.Statement.{statement}
@@ -10,7 +10,7 @@ use Rattle.line_fields.proofs.read_fields.Tie as tie
 
 abbrev Inv-loop : tie.InvT-loop
 Inv-loop line from values₀ count second known₀ at₀ i₀ values known at i =
-    ((i ≤ count) × (count ≤ 7) × (length values ≡ 7)) × (drop i values ≡ replicate (7 - i) 0) ×
+    ((i ≤ count) × (count ≤ mostFields) × (length values ≡ mostFields)) × (drop i values ≡ replicate (mostFields - i) 0) ×
     (handed line from (fieldsWith known₀ (sortsFrom second 0 count) [] (drop from line)) ≡
     handed line at (fieldsWith known (sortsFrom second i (count - i)) (take i values) (drop at line)))
 
@@ -19,7 +19,7 @@ abbrev μ-loop : tie.MeasureT-loop
 
 returns : tie.Need-returns Inv-loop μ-loop
 returns c = let a = c .before .before .before .args in reads (a .last) (a .shape) (a .from) (a .line .now) _ _
-    (rw (too-many (a .last) (a .shape) _ (c .if1 .taken)) (handed-here (a .line .now) (a .from) 0 (replicate 7 0) false (a .last) (omega arith) refl refl))
+    (rw (too-many (a .last) (a .shape) _ (c .if1 .taken)) (handed-here (a .line .now) (a .from) 0 (replicate mostFields 0) false (a .last) (omega arith) refl refl))
 
 loop-holds : tie.Need-loop-holds Inv-loop μ-loop
 loop-holds c = let n = c .before .before .before .args .shape .count in let all : n - 0 ≡ n = omega arith in

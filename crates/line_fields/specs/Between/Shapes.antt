@@ -9,7 +9,7 @@ use Rattle.line_fields.specs.Fields.{Field, field}
 
 -- The most fields that are read; in the code `MOST_FIELDS`.
 abbrev pub mostFields : ℕ
-mostFields = 7
+mostFields = 9
 
 abbrev pub shape : ℕ → ℕ → Shape
 shape count second = record { count = count; second = second }

@@ -9,8 +9,8 @@ returns : tie.Need-returns
 returns c = let c₂ = c .before .before in let c₅ = c₂ .before .before .before in let a = c₅ .args in
     record {
       text = c₂ .put-period .ensures;
-      short = period-within (a .p) (period (a .start) (a .holder) (a .volume))
-          (omega arith) (omega arith) (omega arith);
+      short = period-within (a .p) (period (a .start) (a .holder) (a .volume .0) (a .normal .0))
+          (omega arith) (omega arith) (omega arith) (omega arith);
     }
 
 pub put-line-spec : {M : Type 1} → statement M

@@ -8,7 +8,7 @@ use Rattle.line_text.proofs.Within.{within-none, within-more, within-length}
 use Rattle.line_listing.proofs.Growing.{lines-next, lines-none}
 
 abbrev Inv-loop : tie.InvT-loop
-Inv-loop out₀ at p n ps end₀ i₀ out end i = (i ≤ n) × AppendedWithin (37 * i) at (periodLines p i ps) out₀ out end
+Inv-loop out₀ at p n ps end₀ i₀ out end i = (i ≤ n) × AppendedWithin (58 * i) at (periodLines p i ps) out₀ out end
 
 abbrev μ-loop : tie.MeasureT-loop
 μ-loop out₀ at p n ps end₀ i₀ out end i = n - i
@@ -21,12 +21,12 @@ loop-holds c = (
 )
 
 loop-again : tie.Need-loop-again Inv-loop μ-loop
-loop-again c = let c₂ = c .before .before in let c₆ = c₂ .before .before .before .before in
-    let c₈ = c₆ .before .before in let a = c₈ .args in let l = c₆ .loop in
-    let k : 37 * (l .i + 1) ≡ 37 * l .i + 37 = omega arith in (
+loop-again c = let c₂ = c .before .before in
+    let c₈ = c₂ .before .before .before .before .before .before in let a = c₈ .before .before .args in let l = c₈ .loop in
+    let k : 58 * (l .i + 1) ≡ 58 * l .i + 58 = omega arith in (
       omega arith,
       rw (k, lines-next (a .p) (l .i) (a .t5))
-          (within-more (37 * l .i) 37 (l .inv .1) (c₂ .put-line .ensures) (omega arith)),
+          (within-more (58 * l .i) 58 (l .inv .1) (c₂ .put-line .ensures) (omega arith)),
     )
 
 same-length : tie.Need-same-length Inv-loop μ-loop

@@ -13,13 +13,14 @@ returns c = let a = c .before .before .before .before .args in
 
 returns-2 : tie.Need-returns-2
 unfolding pointLines
-returns-2 c = let c₂ = c .before .before in let c₄ = c₂ .before .before in let c₇ = c₄ .before .before .before in
-    let c₁₀ = c₇ .before .before .before in let c₁₂ = c₁₀ .before .before in
-    let a = c₁₂ .before .before .before .before .args in let n = c₁₀ .period-count .result in
-    let total = total-short (a .p) (c₄ .advance-in .result) 2 20 (omega arith) (omega arith) (omega arith) (omega arith) in
-    let all = within-more (37 * n) (918 - 37 * n) (c₇ .put-periods .ensures) (within (c₂ .put-total .ensures) (omega arith))
-    (omega arith) in let k : 37 * n + (918 - 37 * n) ≡ 918 = omega arith in
-    rw (not-false (a .g .fields .enrolled) (c₁₂ .if1 .left), ← (c₄ .advance-in .ensures), ← (c₁₀ .period-count .ensures)) (rw k at all)
+returns-2 c = let c₂ = c .before .before in let c₆ = c₂ .before .before .before .before in
+    let c₉ = c₆ .before .before .before in let c₁₂ = c₉ .before .before .before in let c₁₄ = c₁₂ .before .before in
+    let a = c₁₄ .before .before .before .before .args in let n = c₁₂ .period-count .result in
+    let v = c₆ .advance-in .result .volume in let m = c₆ .advance-in .result .normal in
+    let ok = c₆ .advance-in .ok in let total = total-short (a .p) v m 2 (omega arith) (omega arith) (omega (arith, ok)) (omega (arith, ok)) in
+    let all = within-more (58 * n) (1443 - 58 * n) (c₉ .put-periods .ensures) (within (c₂ .put-total .ensures) (omega arith))
+    (omega arith) in let k : 58 * n + (1443 - 58 * n) ≡ 1443 = omega arith in
+    rw (not-false (a .g .fields .enrolled) (c₁₄ .if1 .left)) (rw (k, c₁₂ .period-count .ensures, c₆ .advance-in .ensures) at all)
 
 pub put-point-spec : {M : Type 1} → statement M
 put-point-spec = tie.close (tie.spec returns (λ c κs. search needs) (λ c κs. search needs) (λ c κs. search needs)

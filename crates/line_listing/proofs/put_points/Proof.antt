@@ -10,7 +10,7 @@ use Rattle.line_listing.proofs.put_points.Tie as tie
 
 abbrev Inv-loop : tie.InvT-loop
 Inv-loop out₀ from n points at₀ i₀ out at i =
-    (i ≤ n) × AppendedWithin (i * 918) 0 (listingFrom (from + 1) (take i (drop from points))) out₀ out at
+    (i ≤ n) × AppendedWithin (i * 1443) 0 (listingFrom (from + 1) (take i (drop from points))) out₀ out at
 
 abbrev μ-loop : tie.MeasureT-loop
 μ-loop out₀ from n points at₀ i₀ out at i = n - i
@@ -30,11 +30,11 @@ put-point-requires c κs = let c₃ = c .before .before .before in let c₅ = c�
 loop-again : tie.Need-loop-again Inv-loop μ-loop
 loop-again c = let c₂ = c .before .before in let c₆ = c₂ .before .before .before .before in
     let c₈ = c₆ .before .before in let a = c₈ .args in let l = c₆ .loop in
-    let k : (l .i + 1) * 918 ≡ l .i * 918 + 918 = omega arith in
+    let k : (l .i + 1) * 1443 ≡ l .i * 1443 + 1443 = omega arith in
     let p : a .from + 1 + l .i ≡ a .from + l .i + 1 = omega arith in (
       omega arith,
       rw (k, listing-next (a .from + 1) (l .i) (drop (a .from) (a .t2)), getD-drop (a .from) (a .t2) (l .i) noPoint, p)
-          (within-more (l .i * 918) 918 (l .inv .1) (c₂ .put-point .ensures) (omega arith)),
+          (within-more (l .i * 1443) 1443 (l .inv .1) (c₂ .put-point .ensures) (omega arith)),
     )
 
 same-length : tie.Need-same-length Inv-loop μ-loop

@@ -1,12 +1,13 @@
 -- 01, Message lines: "At the end come, per enrolled point, rising, its periods (point; start; holder; volume)
--- and `total`; point; advance." The closing lines. Definitions only.
+-- and `total`; point; advance." 02, F-4: "Each period gains its Nm³ volume in thousandths, the fifth field of its line;
+-- a point's Nm³ advance, the fourth of its `total` line". The closing lines. Definitions only.
 use Prim.Native.Nat.{ℕ, zero, suc, _+_}
 use mathlib.Core.Bool.{cond}
 use mathlib.Core.List.{List, [], _∷_, _++_}
 use lib.ListN.{getD}
 use Rattle.rules.specs.declared.{Period.Period, History.History, Point.Point, Register.Register}
 use Rattle.rules.specs.Pinned.Register.{noPeriod, used}
-use Rattle.questions.specs.Pinned.Questions.{sumOf}
+use Rattle.questions.specs.Pinned.Questions.{advanceIn}
 use Rattle.line_answers.specs.Answers.{periodLine, totalLine}
 
 -- "its periods (point; start; holder; volume)": of the first n, the oldest first.
@@ -16,7 +17,8 @@ periodLines p (suc n) ps = periodLines p n ps ++ periodLine p (getD ps n noPerio
 
 -- "its periods .. and `total`; point; advance": all that a point has, and behind them what their volumes add up to.
 abbrev pub historyLines : ℕ → History → List ℕ
-historyLines p h = periodLines p (used h) (h .periods) ++ totalLine p (sumOf (used h) (h .periods))
+historyLines p h =
+    periodLines p (used h) (h .periods) ++ totalLine p (advanceIn h .volume) (advanceIn h .normal)
 
 -- "per enrolled point": nothing of a point that is not enrolled.
 unfoldable pub pointLines : ℕ → Point → List ℕ

@@ -9,9 +9,9 @@ use Rattle.line_text.specs.Between.Appending.{put}
 use Rattle.line_listing.specs.declared.{Listed.Listed}
 use Rattle.line_listing.specs.Pinned.Listing.{listingFrom, listing}
 
--- The lines of one point have at most 918 bytes, so that a call takes as many points as surely fit.
+-- The lines of one point have at most 1,443 bytes, so that a call takes as many points as surely fit.
 abbrev pub taken : ℕ → ℕ → ℕ
-taken from room = min (32 - from) (room / 918)
+taken from room = min (32 - from) (room / 1443)
 
 -- The lines of n points behind the first ones.
 abbrev pub linesBehind : ℕ → ℕ → List Point → List ℕ
@@ -44,7 +44,7 @@ pub record PiecesJoin : Type 0 where
   -- A call's text and what it leaves are what was left before it.
   pub one : (r : Register) (from room : ℕ) → piece r from room ++ left r (from + taken from room) ≡ left r from
   -- With room for one point at least, a call takes one while there is one.
-  pub goes-on : (from room : ℕ) → from < 32 → 918 ≤ room → from < from + taken from room
+  pub goes-on : (from room : ℕ) → from < 32 → 1443 ≤ room → from < from + taken from room
   -- No call goes past the last point.
   pub in-range : (from room : ℕ) → from ≤ 32 → from + taken from room ≤ 32
   -- Calls that come to the last of the 32 points hand on exactly the register's listing.

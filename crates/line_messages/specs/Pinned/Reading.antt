@@ -27,7 +27,7 @@ messageWith k unread = Message.Unreadable
 abbrev pub messageAs : Kind → List ℕ → Message
 messageAs k l = messageWith k (fieldsOf (sortsOf (shapeOf k)) [] l)
 
--- 01: "A line has at most 96 bytes without its line feed".
+-- 02, F-4: "a line may have 128 bytes"; 01: "without its line feed".
 unfoldable pub readLine : List ℕ → Message
 readLine l =
     cond (leb (length l) longestLine) (messageAs (kindNamed (take (wordEnd l) l)) (drop (wordEnd l) l))

@@ -1,7 +1,7 @@
 -- `line_writing::fit_all` meets its contract: whether the fields left fit says whether all do.
 use Rattle.basics.proofs.Basics.{_≡_, sym, _∙_, ap, _≤_, _-_, arith, length, not-true, not-false, needs}
 use Rattle.line_fields.specs.Fields.{fitAll}
-use Rattle.line_fields.specs.Between.Shapes.{fieldsFrom}
+use Rattle.line_fields.specs.Between.Shapes.{mostFields, fieldsFrom}
 use Rattle.line_writing.proofs.FieldLoops.{fields-next, fields-none}
 use Rattle.line_writing.proofs.fit_all.Statement.{statement}
 use Rattle.line_writing.proofs.fit_all.Tie as tie
@@ -15,7 +15,7 @@ abbrev μ-loop : tie.MeasureT-loop
 
 loop-holds : tie.Need-loop-holds Inv-loop μ-loop
 loop-holds c = let n = c .args .shape .count in let all : n - 0 ≡ n = omega arith in
-    let long : length (c .args .t1) ≡ 7 = search needs in (omega arith, omega arith, rw all)
+    let long : length (c .args .t1) ≡ mostFields = search needs in (omega arith, omega arith, rw all)
 
 returns : tie.Need-returns Inv-loop μ-loop
 unfolding fitAll

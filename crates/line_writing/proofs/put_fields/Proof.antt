@@ -2,7 +2,7 @@
 use Rattle.basics.proofs.Basics.{_≡_, _∙_, ap, [], _≤_, _-_, arith, length, getD, length-append, needs}
 use Rattle.line_text.proofs.Appends.{Rest, rest-start, rest-next, rest-none}
 use Rattle.line_fields.specs.Fields.{fieldText, fieldsText}
-use Rattle.line_fields.specs.Between.Shapes.{sortAt, fieldsFrom}
+use Rattle.line_fields.specs.Between.Shapes.{mostFields, sortAt, fieldsFrom}
 use Rattle.line_writing.proofs.FieldLoops.{text-next, fields-none}
 use Rattle.line_writing.proofs.put_fields.Statement.{statement}
 use Rattle.line_writing.proofs.put_fields.Tie as tie
@@ -16,7 +16,7 @@ abbrev μ-loop : tie.MeasureT-loop
 
 loop-holds : tie.Need-loop-holds Inv-loop μ-loop
 loop-holds c = let a = c .before .args in let n = a .shape .count in let all : n - 0 ≡ n = omega arith in
-    let long : length (a .t3) ≡ 7 = search needs in
+    let long : length (a .t3) ≡ mostFields = search needs in
     (omega arith, omega arith, rw all (rest-start (a .from) _ (a .out .now) (c .before .pre .1)))
 
 put-field-requires : tie.Need-put-field-requires Inv-loop μ-loop

@@ -7,4 +7,4 @@ use Rattle.point_periods.proofs.replaced.Tie as tie
 pub replaced-spec : {M : Type 1} → statement M
 replaced-spec = tie.close (tie.spec (λ c κs. search needs) (λ c. search needs) (λ c. search needs) (λ c. search needs)
     (λ c. search needs) (λ c. search needs) (λ c. search needs)
-    (λ c. unfold replaced in rw (c .before .slots .ensures)))
+    (λ c. unfold replaced in rw (c .before .before .before .slots .ensures)))

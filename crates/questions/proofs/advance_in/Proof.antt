@@ -5,4 +5,4 @@ use Rattle.questions.proofs.advance_in.Tie as tie
 
 pub advance-in-spec : {M : Type 1} → statement M
 advance-in-spec = tie.close (tie.spec (λ c κs. search needs) (λ c κs. search needs)
-    (λ c. rw (← (c .before .period-count .ensures)) (c .sum-of .ensures)))
+    (λ c. rw (← (c .before .period-count .ensures)) (c .sums-of .ensures)))

@@ -9,7 +9,7 @@ use Rattle.rules.specs.declared.{Period.Period, History.History, Register.Regis
 use Rattle.rules.specs.Rejections.{notPoint, outside}
 use Rattle.rules.specs.Pinned.Register.{noPeriod, used, pointAt}
 use Rattle.questions.specs.declared.{Held.Held, HolderAnswer.HolderAnswer, PeriodAnswer.PeriodAnswer}
-use Rattle.questions.specs.declared.{AdvanceAnswer.AdvanceAnswer}
+use Rattle.questions.specs.declared.{Advance.Advance, AdvanceAnswer.AdvanceAnswer}
 use Rattle.questions.specs.declared.PeriodAnswer.the-variants as period
 use Rattle.questions.specs.declared.AdvanceAnswer.the-variants as advance
 
@@ -38,26 +38,35 @@ holderIn d h = holderAmong d 0 (used h) (h .periods)
 unfoldable pub holderAnswer : Register → ℕ → ℕ → HolderAnswer
 holderAnswer r p d = cond (unasked r p || ltb (r .day) d) refusedHolder (holderIn d (pointAt p (r .points) .history))
 
--- "period n of p (start, holder, volume; n from 1 to their count)"
+-- "period n of p (start, holder, volume; n from 1 to their count)"; 02, F-4: "Demand 3 and the questions cover these as
+-- they cover the booked ones": the period has both volumes.
 abbrev pub periodIn : ℕ → History → PeriodAnswer
 periodIn n h = cond (outside 1 (used h) n) period.OffRange (period.Of (getD (h .periods) (n - 1) noPeriod))
 
 unfoldable pub periodAnswer : Register → ℕ → ℕ → PeriodAnswer
 periodAnswer r p n = cond (unasked r p) period.OffRange (periodIn n (pointAt p (r .points) .history))
 
--- The volumes of the first n periods, added up; the sum wraps at 2^64, which no register that calls reach comes to.
-unfoldable pub sumOf : ℕ → List Period → ℕ
-sumOf zero ps = 0
-sumOf (suc n) ps = (sumOf n ps + getD ps n noPeriod .volume) % 2 ^ 64
+-- One of the two volumes of the first n periods, added up; the sum wraps at 2^64, which no register that calls reach
+-- comes to.
+unfoldable pub sumOf : (Period → ℕ) → ℕ → List Period → ℕ
+sumOf vol zero ps = 0
+sumOf vol (suc n) ps = (sumOf vol n ps + vol (getD ps n noPeriod)) % 2 ^ 64
 
--- "advance of p"
+abbrev pub advances : ℕ → ℕ → Advance
+advances v n = record { volume = record { 0 = v }; normal = record { 0 = n } }
+
+abbrev pub advanceAmong : ℕ → List Period → Advance
+advanceAmong n ps = advances (sumOf (λ (q : Period). q .volume .0) n ps) (sumOf (λ (q : Period). q .normal .0) n ps)
+
+abbrev pub advanceIn : History → Advance
+advanceIn h = advanceAmong (used h) (h .periods)
+
+-- "advance of p"; 02, F-4: "a point's Nm³ advance"
 unfoldable pub advanceAnswer : Register → ℕ → AdvanceAnswer
-advanceAnswer r p =
-    cond (unasked r p) advance.OffRange
-    (advance.Volume (sumOf (used (pointAt p (r .points) .history)) (pointAt p (r .points) .history .periods)))
+advanceAnswer r p = cond (unasked r p) advance.OffRange (advance.Of (advanceIn (pointAt p (r .points) .history)))
 
 -- "A question off its range, or on a point not enrolled, gives 22." The number, 0 where the
--- question is answered, and what is told then: the holder; the period's start, holder and volume; the advance.
+-- question is answered, and what is told then: the holder; the period's start, holder and volumes; the advances.
 abbrev pub heldNumber : Held → ℕ
 heldNumber (Held.Holder h) = 0
 heldNumber Held.OffRange = 22
@@ -81,9 +90,9 @@ periodTold (period.Of q) = some q
 periodTold period.OffRange = none
 
 abbrev pub advanceNumber : AdvanceAnswer → ℕ
-advanceNumber (advance.Volume v) = 0
+advanceNumber (advance.Of a) = 0
 advanceNumber advance.OffRange = 22
 
-abbrev pub advanceTold : AdvanceAnswer → Option ℕ
-advanceTold (advance.Volume v) = some v
+abbrev pub advanceTold : AdvanceAnswer → Option Advance
+advanceTold (advance.Of a) = some a
 advanceTold advance.OffRange = none

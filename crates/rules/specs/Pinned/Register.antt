@@ -19,20 +19,21 @@ use Rattle.rules.specs.declared.{Opening.Opening, Call.Call, Action.Acti
 use Rattle.rules.specs.declared.{Answer.Answer, Outcome.Outcome, Effect.Effect, View.View}
 use Rattle.rules.specs.Fields.{supply, unsupplied, withSupply, blank}
 use Rattle.rules.specs.Effects.{fieldsOf, names, spansIn, effectOf, failed}
-use Rattle.rules.specs.Volumes.{given}
+use Rattle.rules.specs.Volumes.{given, normalGiven}
 use Rattle.rules.specs.Answers.{isAccepted}
 use Rattle.rules.specs.Rejections.{answer}
 use Rattle.rules.specs.Opening.{settingsOf, firstContracts}
 
--- "It also keeps up to 24 periods, each a start day, a holder and a booked volume."
-abbrev pub period : ℕ → ℕ → ℕ → Period
-period d h v = record { start = d; holder = h; volume = v }
+-- "It also keeps up to 24 periods, each a start day, a holder and a booked volume." 02, F-4: "Each period gains its Nm³
+-- volume in thousandths"
+abbrev pub period : ℕ → ℕ → ℕ → ℕ → Period
+period d h v n = record { start = d; holder = h; volume = record { 0 = v }; normal = record { 0 = n } }
 
 abbrev pub history : ℕ → List Period → History
 history n ps = record { count = n; periods = ps }
 
 abbrev pub noPeriod : Period
-noPeriod = period 0 0 0
+noPeriod = period 0 0 0 0
 
 abbrev pub used : History → ℕ
 used h = min (h .count) 24
@@ -44,31 +45,39 @@ unfoldable pub startsOn : ℕ → History → Bool
 startsOn d h = ltb 0 (used h) && eqb (newest h .start) d
 
 unfoldable pub replaced : ℕ → ℕ → History → History
-replaced d s h = history (h .count) (set (h .periods) (used h - 1) (period d s (newest h .volume)))
+replaced d s h =
+    history (h .count)
+    (set (h .periods) (used h - 1) (period d s (newest h .volume .0) (newest h .normal .0)))
 
 unfoldable pub appended : ℕ → ℕ → History → History
-appended d s h = cond (ltb (used h) 24) (history (used h + 1) (set (h .periods) (used h) (period d s 0))) h
+appended d s h = cond (ltb (used h) 24) (history (used h + 1) (set (h .periods) (used h) (period d s 0 0))) h
 
 -- "A second holder on one day therefore replaces the first."
 unfoldable pub named : ℕ → ℕ → History → History
 named d s h = cond (startsOn d h) (replaced d s h) (appended d s h)
 
--- A period that ends before day e gets what the reading has given before e, less what it had given before the
--- period's start.
-unfoldable pub bookedPeriod : (ℕ → ℕ) → ℕ → Period → Period
-bookedPeriod given e q = period (q .start) (q .holder) ((q .volume + (given e - given (q .start))) % 2 ^ 64)
+-- A volume v of a period from day d to the day before e gets what the reading has given before e, less what it had
+-- given before d.
+abbrev pub grown : (ℕ → ℕ) → ℕ → ℕ → ℕ → ℕ
+grown given d e v = (v + (given e - given d)) % 2 ^ 64
+
+-- A period that ends before day e, by one reading: its volume, and by the same law its normal volume.
+unfoldable pub bookedPeriod : Span → ℕ → Period → Period
+bookedPeriod s e q =
+    period (q .start) (q .holder) (grown (given s) (q .start) e (q .volume .0))
+    (grown (normalGiven s) (q .start) e (q .normal .0))
 
 -- The first n slots, the newest first; done with the period that holds the reading's first day. e is where the n-th
 -- ends.
-unfoldable pub bookedSlots : (ℕ → ℕ) → ℕ → ℕ → ℕ → List Period → List Period
-bookedSlots given from e zero ps = ps
-bookedSlots given from e (suc n) ps =
-    cond (leb (getD ps n noPeriod .start) from)
-    (set ps n (bookedPeriod given e (getD ps n noPeriod)))
-    (bookedSlots given from (getD ps n noPeriod .start) n (set ps n (bookedPeriod given e (getD ps n noPeriod))))
+unfoldable pub bookedSlots : Span → ℕ → ℕ → List Period → List Period
+bookedSlots s e zero ps = ps
+bookedSlots s e (suc n) ps =
+    cond (leb (getD ps n noPeriod .start) (s .from))
+    (set ps n (bookedPeriod s e (getD ps n noPeriod)))
+    (bookedSlots s (getD ps n noPeriod .start) n (set ps n (bookedPeriod s e (getD ps n noPeriod))))
 
 unfoldable pub booked : Span → History → History
-booked s h = history (h .count) (bookedSlots (given s) (s .from) (s .to) (used h) (h .periods))
+booked s h = history (h .count) (bookedSlots s (s .to) (used h) (h .periods))
 
 abbrev pub bookedAll : List Span → History → History
 bookedAll [] h = h

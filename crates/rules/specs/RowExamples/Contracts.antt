@@ -36,7 +36,7 @@ pub record ContractExamples : Type 0 where
       (kept (supply 5 SupplyKind.Contract Pending.Nothing))
   pub own-request-dropped-periods : ThenShows (on 11 (Action.Failure 6) gives Answer.Accepted ∷
       on 90 Action.Day gives Answer.Accepted ∷ []) 4
-      (period 10 5 0 ∷ []) 0
+      (period 10 5 0 0 ∷ []) 0 0
   -- "each point it holds gets the last-resort supplier, kind last resort, deadline today + B"; another supplier's
   -- request stays
   pub held-point-gets-last-resort : ThenKeeps (on 11 (Action.Failure 5) gives Answer.Accepted ∷ []) 1
@@ -45,10 +45,10 @@ pub record ContractExamples : Type 0 where
       (kept (supply 2 (SupplyKind.LastResort 51) (Pending.Request 6 31)))
   pub other-request-takes-effect : ThenShows (on 11 (Action.Failure 5) gives Answer.Accepted ∷
       on 90 Action.Day gives Answer.Accepted ∷ []) 4
-      (period 10 5 0 ∷ period 11 2 0 ∷ period 31 6 0 ∷ []) 0
+      (period 10 5 0 0 ∷ period 11 2 0 0 ∷ period 31 6 0 0 ∷ []) 0 0
   pub last-resort-ends : ThenShows (on 11 (Action.Failure 5) gives Answer.Accepted ∷
       on 90 Action.Day gives Answer.Accepted ∷ []) 1
-      (period 10 5 0 ∷ period 11 2 0 ∷ period 51 0 0 ∷ []) 0
+      (period 10 5 0 0 ∷ period 11 2 0 0 ∷ period 51 0 0 0 ∷ []) 0 0
   -- the failed supplier's own request at a point that it holds goes too
   pub own-request-at-own-point : ThenKeeps
       (on 11 (Action.At 1 (PointAction.Request 5 77 40)) gives Answer.AcceptedOn 40 ∷
@@ -57,4 +57,4 @@ pub record ContractExamples : Type 0 where
   -- on the day on which its request takes effect the failure finds it as holder; the day keeps one period, the
   -- last-resort supplier's
   pub failure-on-effective-day : ThenShows (on 31 (Action.Failure 6) gives Answer.Accepted ∷ []) 4
-      (period 10 5 0 ∷ period 31 2 0 ∷ []) 0
+      (period 10 5 0 0 ∷ period 31 2 0 0 ∷ []) 0 0

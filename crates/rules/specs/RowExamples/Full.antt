@@ -3,7 +3,7 @@
 use mathlib.Core.List.{List, [], _∷_, _++_}
 use Prim.Native.Nat.{ℕ}
 use Rattle.rules.specs.declared.{Action.Action, PointAction.PointAction, Answer.Answer}
-use Rattle.rules.specs.Scenes.{Line, _gives_, on, Plays}
+use Rattle.rules.specs.Scenes.{Line, _gives_, on, Plays, enrol, change}
 use Rattle.rules.specs.RowExamples.Scene.{opens, turns}
 
 -- Point p, held by supplier s since the day that carries its last mark. 23 marks, the last on day 32; 22, the last on
@@ -11,7 +11,7 @@ use Rattle.rules.specs.RowExamples.Scene.{opens, turns}
 abbrev enrolled : ℕ → ℕ → List Line
 enrolled s p =
     on 10 (Action.Contract 5) gives Answer.Accepted ∷ on 10 (Action.Contract 6) gives Answer.Accepted ∷
-    on 10 (Action.At p (PointAction.Enrol 3 0 990)) gives Answer.Accepted ∷
+    on 10 (Action.At p (enrol 3 0 990 2 0)) gives Answer.Accepted ∷
     on 10 (Action.At p (PointAction.IntoService s 77)) gives Answer.Accepted ∷ []
 
 abbrev marks23 : ℕ → ℕ → List Line
@@ -24,7 +24,7 @@ marks21 = enrolled 5 1 ++ turns 5 1 10 11
 abbrev enrolledBefore : List Line
 enrolledBefore =
     on 10 (Action.Contract 5) gives Answer.Accepted ∷ on 10 (Action.Contract 6) gives Answer.Accepted ∷
-    on 10 (Action.At 1 (PointAction.Enrol 3 0 990)) gives Answer.Accepted ∷
+    on 10 (Action.At 1 (enrol 3 0 990 2 0)) gives Answer.Accepted ∷
     on 11 (Action.At 1 (PointAction.IntoService 5 77)) gives Answer.Accepted ∷ []
 
 abbrev marks22 : List Line
@@ -115,9 +115,9 @@ pub record FullExamples : Type 0 where
       (on 32 (Action.At 1 PointAction.OutOfService) gives Answer.Accepted ∷
       on 33 (Action.At 1 (PointAction.IntoService 5 77)) gives Answer.Accepted ∷
       on 34 (Action.Contract 7) gives Answer.Accepted ∷
-      on 34 (Action.At 2 (PointAction.Enrol 3 0 0)) gives Answer.Accepted ∷
+      on 34 (Action.At 2 (enrol 3 0 0 2 0)) gives Answer.Accepted ∷
       on 34 (Action.At 1 (PointAction.Reading 34 995 0)) gives Answer.Accepted ∷
-      on 35 (Action.At 1 (PointAction.MeterChange 995 0 3 0 0)) gives Answer.Accepted ∷
+      on 35 (Action.At 1 (change 995 0 3 0 0 2 0)) gives Answer.Accepted ∷
       on 35 (Action.At 1 (PointAction.Suspend 1)) gives Answer.Accepted ∷
       on 36 Action.Day gives Answer.Accepted ∷ []))
   pub cancel-when-full : Plays opens

@@ -4,12 +4,12 @@ use mathlib.Core.List.{List, [], _∷_, _++_}
 use Prim.Native.Nat.{ℕ}
 use Rattle.dates.specs.Months.{threeMonthsAfter}
 use Rattle.rules.specs.declared.{Opening.Opening, Action.Action, PointAction.PointAction, Answer.Answer}
-use Rattle.rules.specs.Scenes.{Line, _gives_, opening, on, Plays}
+use Rattle.rules.specs.Scenes.{Line, _gives_, opening, on, Plays, enrol}
 
 -- Point 1 is served by supplier 1 from day d on.
 abbrev served : ℕ → List Line
 served d =
-    on d (Action.At 1 (PointAction.Enrol 3 0 990)) gives Answer.Accepted ∷
+    on d (Action.At 1 (enrol 3 0 990 2 0)) gives Answer.Accepted ∷
     on d (Action.At 1 (PointAction.IntoService 1 77)) gives Answer.Accepted ∷ []
 
 -- A request of supplier 2 on day t for day r, the point being served from day t on.

@@ -3,7 +3,7 @@ use mathlib.Core.Path.{_≡_}
 use mathlib.Core.List.{[], _∷_}
 use Rattle.rules.specs.declared.{Action.Action, PointAction.PointAction, Answer.Answer}
 use Rattle.rules.specs.Rejections.{openingAnswer}
-use Rattle.rules.specs.Scenes.{_gives_, opening, on, Plays}
+use Rattle.rules.specs.Scenes.{_gives_, opening, on, Plays, enrol}
 
 pub record OpeningExamples : Type 0 where
   -- "W (0 to 10 working days to cancel), A and B (1 to 400 calendar days ..)", "Suppliers are 1 to 99": the least and
@@ -27,8 +27,8 @@ pub record OpeningExamples : Type 0 where
   pub first-day-73049 : openingAnswer (opening 73049 10 400 400 99 98) ≡ Answer.Refused 20
   -- "under contract from the start": suppliers 1 and 2 are, and no other
   pub first-contracts : Plays (opening 10 2 30 40 1 2)
-      (on 10 (Action.At 1 (PointAction.Enrol 3 0 0)) gives Answer.Accepted ∷
-      on 10 (Action.At 2 (PointAction.Enrol 3 0 0)) gives Answer.Accepted ∷
+      (on 10 (Action.At 1 (enrol 3 0 0 2 0)) gives Answer.Accepted ∷
+      on 10 (Action.At 2 (enrol 3 0 0 2 0)) gives Answer.Accepted ∷
       on 10 (Action.At 1 (PointAction.IntoService 3 77)) gives Answer.Refused 1 ∷
       on 10 (Action.At 1 (PointAction.IntoService 99 77)) gives Answer.Refused 1 ∷
       on 10 (Action.At 1 (PointAction.IntoService 1 77)) gives Answer.Accepted ∷

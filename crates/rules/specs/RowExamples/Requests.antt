@@ -77,7 +77,7 @@ pub record RequestExamples : Type 0 where
       (kept (supply 5 SupplyKind.Contract (Pending.Request 6 32)))
   pub asked-periods : ThenShows (on 11 (Action.At 1 (PointAction.Request 6 77 11)) gives Answer.AcceptedOn 32 ∷
       on 31 Action.Day gives Answer.Accepted ∷ []) 1
-      (period 10 5 0 ∷ []) 0
+      (period 10 5 0 0 ∷ []) 0 0
   -- cancel: 2; 25: "none by s", also where another has asked or s has no contract; 7: "pending dropped"
   pub cancel-whose : Then
       (on 11 (Action.At 0 (PointAction.Cancel 6)) gives Answer.Refused 2 ∷
@@ -92,7 +92,7 @@ pub record RequestExamples : Type 0 where
       (kept (supply 5 SupplyKind.Contract Pending.Nothing))
   pub cancelled-periods : ThenShows (on 11 (Action.At 4 (PointAction.Cancel 6)) gives Answer.Accepted ∷
       on 50 Action.Day gives Answer.Accepted ∷ []) 4
-      (period 10 5 0 ∷ []) 0
+      (period 10 5 0 0 ∷ []) 0 0
   -- 26: "at least W working days lie after today and before e": e is day 31, a Tuesday; after 26, a Thursday, there are
   -- 27 and 30. 25 before 26; on e itself nothing is pending any more
   pub cancel-when : Then

@@ -10,12 +10,12 @@ returns c = rw (sym (c .before .before .starts-on .ensures) ∙ c .before .if1 .
 
 returns-2 : tie.Need-returns-2
 unfolding namingDeed
-returns-2 c = let n = c .before .before .before .before .args .n in let k : min n 24 ≡ n = omega arith in
+returns-2 c = let n = c .before .before .before .before .before .before .args .n in let k : min n 24 ≡ n = omega arith in
     rw (sym (c .before .before .starts-on .ensures) ∙ c .before .if1 .left, k, lt-ltb n 24 (c .if2 .taken))
 
 returns-3 : tie.Need-returns-3
 unfolding namingDeed
-returns-3 c = let n = c .before .before .before .before .before .args .n in
+returns-3 c = let n = c .before .before .before .before .before .before .before .args .n in
     rw (sym (c .before .before .before .starts-on .ensures) ∙ c .before .before .if1 .left, le-ltb (min n 24) 24 (omega arith))
     (c .kept-deed .ensures)
 

@@ -4,8 +4,8 @@ use Rattle.point_volumes.proofs.Given.{given-none, given-all, given-par
 use Rattle.point_volumes.proofs.booking.given.Statement.{statement}
 use Rattle.point_volumes.proofs.booking.given.Tie as tie
 
-mul-result-3 : tie.Need-mul-result-3
-mul-result-3 c = let s = c .before .before .before .before in record { fits = omega (arith, part-most _ (s .pre) (s .args .day) (omega arith)) }
+mul-t13 : tie.Need-mul-t13
+mul-t13 c = let s = c .before .before .before .before in record { fits = omega (arith, part-most _ (s .pre) (s .args .day) (omega arith)) }
 
 returns-3 : tie.Need-returns-3
 returns-3 c =
@@ -16,4 +16,4 @@ given-spec =
     tie.close (tie.spec (λ c. (sym (given-none _ (c .before .pre) _ (c .if1 .taken)), omega arith)) (λ c. search needs)
     (λ c. let s = c .before .before .before in (sym (given-all _ (s .pre) _ (c .before .if2 .taken)), s .pre .volume)) (λ c. search needs)
     (λ c. search needs) (λ c. record { fits = product-small _ (c .before .before .before .pre) _ (omega arith) })
-    (λ c. search needs) (λ c. search needs) (λ c. search needs) mul-result-3 returns-3)
+    (λ c. search needs) (λ c. search needs) (λ c. search needs) mul-t13 returns-3)

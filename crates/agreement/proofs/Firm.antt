@@ -52,7 +52,8 @@ module _ (x : Side) (t : ℕ) (g : Point) (h : Firm x t (g .fields) (g .history)
   forward = all-map sp (λ s w. (w .1, omega (arith, w .2, k .hi))) (k .made)
 
   pub books : listed x H ≡ bookTotals x sp (suc t) ps
-  books = bookedAll-listed x sp (suc t) (g .history) (h .sized) forward (h .falling) (omega (arith, h .most, k .most x, within x (fieldsOf e .reading .day) (omega (arith, k .hi))))
+  books = bookedAll-listed x sp (suc t) (g .history) (h .sized) forward (h .falling)
+      (omega (arith, h .most, k .most x, within x (fieldsOf e .reading .day) (omega (arith, k .hi))))
 
   pub books-sized : Sized H
   books-sized = bookedAll-sized sp (g .history) (h .sized)

@@ -1,20 +1,20 @@
 -- Every accepted call leaves a fine point behind (`Good`), whichever point one looks at.
 use Rattle.basics.proofs.Basics.{_≡_, refl, sym, _∙_, ap, subst, true, false, Bool, cond, _&&_, false≢true, _||_, not}
-use Rattle.basics.proofs.Basics.{List, [], _∷_, _≤_, ℕ, _-_, _+_, _<_, suc, zero, _*_, min, max, le-trans}
-use Rattle.basics.proofs.Basics.{mul-le-mul, mul-le-mul-left, mul-le-mul-right, div-le-of-le-mul, pow-le-pow-right, arith, eqb, ltb, leb, ltb-false, eqb-true}
+use Rattle.basics.proofs.Basics.{List, [], _∷_, _≤_, ℕ, _+_, _<_, suc, zero, _*_, max, le-trans}
+use Rattle.basics.proofs.Basics.{mul-le-mul, mul-le-mul-left, mul-le-mul-right, div-le-of-le-mul, arith, eqb, ltb, leb, ltb-false, eqb-true}
 use Rattle.basics.proofs.Basics.{ltb-true, not-false, leb-false, eqb-false}
-use lib.Pow.{pow-add}
 use Rattle.rules.specs.declared.{Fields.Fields, Settings.Settings, Supply.Supply, SupplyKind.SupplyKind}
-use Rattle.rules.specs.declared.{Pending.Pending, Code.Code, Meter.Meter, NewMeter.NewMeter, Span.Span, Action.Action}
+use Rattle.rules.specs.declared.{Pending.Pending, Code.Code, NewMeter.NewMeter, Span.Span, Action.Action}
 use Rattle.rules.specs.declared.{PointAction.PointAction, Answer.Answer, Effect.Effect}
 use Rattle.rules.specs.Fields.{supply, fitted, reading, fields, withSupply, withPending, unsupplied}
 use Rattle.rules.specs.Effects.{fieldsOf, names, spansIn, enrols, notice, effectiveDay, effectOf, failed, effect, dropped}
-use Rattle.rules.specs.Volumes.{fullTurn, turnOf, unitOf, factorOf, advanceOf, spanTo, summed}
+use Rattle.rules.specs.Volumes.{turnOf, unitOf, advanceOf, spanTo, summed}
 use Rattle.rules.specs.Answers.{isAccepted}
 use Rattle.rules.specs.declared.{View.View}
 use Rattle.rules.specs.Rejections.{Row, firstOf, due, pendingDue, marksAfter, isFull, isBy, touches, anyPoint}
-use Rattle.rules.specs.Rejections.{outside, notPoint, notMark, notWheels, notMeter, badFactor, notEnrolled, outOfTime}
+use Rattle.rules.specs.Rejections.{notPoint, notMark, notMeter, badFactor, notEnrolled, outOfTime}
 use Rattle.rules.specs.Rejections.{indexDisagrees, lastResortNear, rowsAt, rows, shown, answerTo, accepted}
+use Rattle.rules.proofs.Meters.{turn-unit, factor-most, meter-in-range, factor-in-range}
 use Rattle.rules.proofs.Views.{shown-in, dated, dated-also}
 use Rattle.rules.proofs.Accept.{pass, neither}
 use Rattle.agreement.specs.Sound.{Side, wheels, normal, perDay, FactorFits, PendingAhead}
@@ -37,12 +37,7 @@ pass-near S t (SupplyKind.LastResort d) rs a h = h
 is-enrolled : (p : ℕ) (v : View) → notEnrolled p v ≡ false → v .fields .enrolled ≡ true
 is-enrolled p v h = not-false _ (neither (notPoint p) _ h .1)
 
--- What a reading books: at most a full turn, which is at most 10^11 thousandths.
-turn-unit : (m : Meter) → turnOf m * unitOf m ≤ perDay wheels
-unfolding fullTurn unitOf
-turn-unit m = let k : min (m .before) 8 + min (m .after) 3 + (3 - m .after) ≤ 11 = omega arith in
-    rw (← (pow-add 10 (min (m .before) 8 + min (m .after) 3) (3 - m .after))) (pow-le-pow-right (omega arith) k)
-
+-- What a reading books: at most a full turn.
 advance-most : (x₁ x z turn : ℕ) → z ≤ 1 → leb turn x ≡ false → (eqb z 0 && ltb x x₁) ≡ false → (eqb z 1 && not (ltb x x₁)) ≡ false
     → advanceOf x₁ x z turn ≤ turn
 unfolding advanceOf
@@ -59,11 +54,6 @@ span-most f d x z m i = let c = neither (leb (turnOf (f .meter)) x || (eqb z 0 &
     (turn-unit (f .meter))
 
 -- In normal cubic metres at most ten times as much.
-factor-most : (c : Code) → factorOf c ≤ 99999
-unfolding factorOf
-factor-most (Code.Cubic f) = omega arith
-factor-most Code.Normal = omega arith
-
 whole-most : (y : Side) (s : Span) → s .from < s .to → s .advance * s .unit ≤ perDay wheels → s .factor ≤ 99999
     → wholeOn y s ≤ perDay y
 whole-most wheels s lt v f = v
@@ -77,16 +67,10 @@ day-more normal a b lt = omega arith
 
 -- the meter that an accepted call brings
 new-fitted : (m : NewMeter) → notMeter m ≡ false → badFactor m ≡ false → Fitted (fitted m)
-new-fitted m n b = let w = neither (notWheels (m .before) (m .after)) _ n in
-    let k = neither (outside 1 8 (m .before)) (outside 0 3 (m .after)) (w .0) in (
-      ltb-false 8 (m .before) (neither (ltb (m .before) 1) (ltb 8 (m .before)) (k .0) .1),
-      ltb-false 3 (m .after) (neither (ltb (m .after) 0) (ltb 3 (m .after)) (k .1) .1),
-      go (eqb (m .code) 1) (neither (eqb (m .code) 1 && outside 1 99999 (m .factor)) _ b .0),
-    )
+new-fitted m n b = let w = meter-in-range m n in (w .0, w .1, go (eqb (m .code) 1) refl)
   where
-    go : (c : Bool) → (c && outside 1 99999 (m .factor)) ≡ false → FactorFits (cond c (Code.Cubic (m .factor)) Code.Normal)
-    go true q = let k = neither (ltb (m .factor) 1) (ltb 99999 (m .factor)) q in
-        (ltb-false (m .factor) 1 (k .0), ltb-false 99999 (m .factor) (k .1))
+    go : (c : Bool) → eqb (m .code) 1 ≡ c → FactorFits (cond c (Code.Cubic (m .factor)) Code.Normal)
+    go true q = factor-in-range m b (eqb-true (m .code) 1 q)
     go false q = tt
 
 pending-dropped : (t s : ℕ) (q : Pending) → PendingAhead t q → PendingAhead t (dropped s q)

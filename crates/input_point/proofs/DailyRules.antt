@@ -30,7 +30,8 @@ abbrev pub reads : Span → Fields → Ruling
 reads s f = record { answer = Answer.Accepted; effect = Effect.Read s f }
 
 -- In the words of the loop: what is said, and what it stores.
-pub record Stores (ready : Bool) (day quiet : ℕ) (m : Message) (n : ℕ) (f : Fields) (q : Period) (t : ℕ) (now : Reading) (v : Volume) (w : NormalVolume) : Type 0 where
+pub record Stores (ready : Bool) (day quiet : ℕ) (m : Message) (n : ℕ) (f : Fields) (q : Period)
+    (t : ℕ) (now : Reading) (v : Volume) (w : NormalVolume) : Type 0 where
   pub span : Span
   pub said : (S : Settings) (u : List Bool) → saidBy S day u ready m f n (q .start) ≡ Said.Ruled (reads span (read f now))
   pub deed : deedOf quiet m (Said.Ruled (reads span (read f now))) n q ≡ slot t (read f now) n (min n 24 - 1) (period (q .start) (q .holder) (v .0) (w .0))
@@ -86,7 +87,8 @@ module _ (day quiet : ℕ) (n : ℕ) (f : Fields) (q : Period) where
     read-stores p d x z h = go (isAccepted (readingSaid day p d x z f)) refl (liesIn n (q .start) (f .reading .day)) refl
       where
         go : (a : Bool) → isAccepted (readingSaid day p d x z f) ≡ a → (b : Bool) → liesIn n (q .start) (f .reading .day) ≡ b →
-            Stored (cond (a && b) (Daily.Read day (reading d x) (bookedNewest (spanTo f d x z) q .volume) (bookedNewest (spanTo f d x z) q .normal)) Daily.Other)
+            let s = bookedNewest (spanTo f d x z) q in
+            Stored (cond (a && b) (Daily.Read day (reading d x) (s .volume) (s .normal)) Daily.Other)
         go true ok true lies = record {
           span = spanTo f d x z;
           said = λ S u. rw (h, today, eq-eqb day day refl) (ap Said.Ruled (daily-ruling day p d x z f ok S u _ refl));

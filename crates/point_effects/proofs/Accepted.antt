@@ -1,47 +1,35 @@
 -- What the checks have seen to where they let a call through: its numbers fit, and its reading can be booked.
 use Rattle.basics.proofs.Basics.{_≡_, refl, true, false, Bool, cond, _||_, [], _≤_, ℕ, _+_, _<_, eqb, ltb, leb, le-leb}
-use Rattle.basics.proofs.Basics.{_&&_, not, true≢false, ltb-false, leb-false, eqb-true, eq-eqb, decLe, arith}
+use Rattle.basics.proofs.Basics.{ltb-false, leb-false, decLe, arith}
 use Rattle.dates.specs.Dates.{lastDay}
 use Rattle.dates.specs.Months.{threeMonthsAfter}
 use Rattle.rules.specs.declared.{Effect.Effect, Fields.Fields, History.History, NewMeter.NewMeter, PointAction.PointAction}
 use Rattle.rules.specs.declared.{Settings.Settings, SupplyKind.SupplyKind}
 use Rattle.rules.specs.Fields.{supply, withSupply, withPending}
 use Rattle.rules.specs.Effects.{spansIn, effectiveDay, effectOf, dropped, failed}
-use Rattle.rules.specs.Rejections.{outside, notMark, notWheels, notMeter, badFactor, notSupplier, notKey, isPast, rowsAt}
+use Rattle.rules.specs.Rejections.{notMark, notMeter, badFactor, notSupplier, notKey, isPast, rowsAt}
 use Rattle.rules.specs.Pinned.Register.{entered}
 use Rattle.rules.specs.Volumes.{turnOf, spanTo}
 use Rattle.rules.proofs.Accept.{pass, neither}
+use Rattle.rules.proofs.Meters.{within, meter-in-range, factor-in-range, factor-none}
 use Rattle.rules.proofs.Views.{dated, dated-also, passed-at}
 use Rattle.point_volumes.proofs.Readings.{read-span, read-booked}
 use Rattle.point_answers.specs.Between.{answerAt}
 use Rattle.point_effects.specs.Between.{Accepted, noted, failedBy}
 
-pub within : (lo hi n : ℕ) → outside lo hi n ≡ false → (lo ≤ n) × (n ≤ hi)
-within lo hi n h = let k = neither (ltb n lo) (ltb hi n) h in (ltb-false n lo (k .0), ltb-false hi n (k .1))
-
-wheels : (b a : ℕ) → notWheels b a ≡ false → (b ≤ 8) × (a ≤ 3)
-wheels b a h = let k = neither (outside 1 8 b) (outside 0 3 a) h in (within 1 8 b (k .0) .1, within 0 3 a (k .1) .1)
-
 -- An accepted meter: a factor that is none is 0.
 abbrev pub Fits : NewMeter → Type 0
 Fits m = (m .before ≤ 8) × (m .after ≤ 3) × (m .factor ≤ 99999)
 
--- A meter that rows 22 and 40 let through.
 meter-fits : (m : NewMeter) → notMeter m ≡ false → badFactor m ≡ false → Fits m
-meter-fits m h k = let n = neither (notWheels (m .before) (m .after)) (outside 1 2 (m .code)) h in
-    let w = wheels (m .before) (m .after) (n .0) in let c = within 1 2 (m .code) (n .1) in
-    let b = neither (eqb (m .code) 1 && outside 1 99999 (m .factor)) (eqb (m .code) 2 && not (eqb (m .factor) 0)) k in (
-      w .0,
-      w .1,
-      elim (decLe (m .code) 1) [
-        | yes q ↦ within 1 99999 (m .factor) (rw (eq-eqb (m .code) 1 (omega arith)) at (b .0)) .1
-        | no q ↦ zero-fits (eqb (m .factor) 0) refl (rw (eq-eqb (m .code) 2 (omega arith)) at (b .1))
-      ],
-    )
-  where
-    zero-fits : (x : Bool) → eqb (m .factor) 0 ≡ x → not x ≡ false → m .factor ≤ 99999
-    zero-fits true q z = let e : m .factor ≡ 0 = eqb-true (m .factor) 0 q in omega arith
-    zero-fits false q z = absurd (true≢false z)
+meter-fits m h k = let n = meter-in-range m h in (
+  n .0,
+  n .1,
+  elim (decLe (m .code) 1) [
+    | yes q ↦ factor-in-range m k (omega arith) .1
+    | no q ↦ omega (arith, factor-none m k (omega arith))
+  ],
+)
 
 -- A reading goes forward to a day of the calendar, and the wheels have its index.
 pub record Readable (f : Fields) (d x z : ℕ) : Type 0 where

@@ -1,4 +1,3 @@
-pub mod Powers
 pub mod Given
 pub mod Slots
 pub mod Fairness

@@ -7,7 +7,7 @@ use Rattle.rules.specs.declared.{Fields.Fields, History.History, Meter.Meter, P
 use Rattle.rules.specs.Volumes.{turnOf, unitOf, advanceOf, spanTo}
 use Rattle.rules.specs.Pinned.Register.{bookedPeriod, booked}
 use Rattle.point_volumes.specs.Between.{advanceRead, spanRead, mostVolume, isFair, bookedIfFair, bookedNewest}
-use Rattle.point_volumes.proofs.Powers.{turn-most, unit-most, turn-unit, factor-most}
+use Rattle.rules.proofs.Meters.{turn-most, unit-most, turn-unit, factor-most}
 
 advance-most : (last x z turn : ℕ) → x < turn → z ≤ 1 → advanceOf last x z turn ≤ 2 * turn
 unfolding advanceOf

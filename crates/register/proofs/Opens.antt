@@ -5,7 +5,7 @@ use Rattle.rules.specs.declared.{Opening.Opening}
 use Rattle.rules.specs.Answers.{isAccepted}
 use Rattle.rules.specs.Rejections.{openingAnswer}
 use Rattle.rules.proofs.Accept.{pass}
-use Rattle.point_effects.proofs.Accepted.{within}
+use Rattle.rules.proofs.Meters.{within}
 use Rattle.register.specs.Pinned.Opens.{InRange}
 
 pub opening-in-range : (o : Opening) → isAccepted (openingAnswer o) ≡ true → InRange o

@@ -4,4 +4,5 @@ pub mod DatesOn
 pub mod Examples
 pub mod RowExamples
 pub mod Accept
+pub mod Meters
 pub mod Views

@@ -100,7 +100,8 @@ module _ (S : Settings) (day : ℕ) (u : List Bool) (t : ℕ) where
       at-point p _ k (pass _ _ _ _ (pass _ _ _ _ (k .rest) .1) .0)
   passed-at p (PointAction.Cancel s) v _ ok = let k = dated day t _ _ (pass _ _ _ _ ok .1) in at-point p _ k (pass _ _ _ _ (k .rest) .0)
   passed-at p (PointAction.Reading d x z) v _ ok = let k = dated-also day t _ _ _ (pass _ _ _ _ ok .1) .1 in at-point p _ k (pass _ _ _ _ (k .rest) .0)
-  passed-at p (PointAction.MeterChange x z m) v _ ok = let k = dated day t _ _ (pass _ _ _ _ (pass _ _ _ _ ok .1) .1) in at-point p _ k (pass _ _ _ _ (k .rest) .0)
+  passed-at p (PointAction.MeterChange x z m) v _ ok = let k = dated day t _ _ (pass _ _ _ _ (pass _ _ _ _ ok .1) .1) in
+      at-point p _ k (pass _ _ _ _ (k .rest) .0)
   passed-at p PointAction.OutOfService v _ ok = let k = dated day t _ _ ok in at-point p _ k (pass _ _ _ _ (k .rest) .0)
   passed-at p (PointAction.Suspend m) v _ ok = let k = dated day t _ _ (pass _ _ _ _ ok .1) in at-point p _ k (pass _ _ _ _ (k .rest) .0)
 

@@ -156,8 +156,8 @@ anyPoint p zero test = false
 anyPoint p (suc n) test = test p || anyPoint (suc p) n test
 
 -- "Order: 31, 22, 20, 21, then the lowest number that applies." 31 is for lines; 02, F-4, puts 40 "directly after 22".
--- The rows of the calls that name a
--- point p, which shows v; day is the register's, u says who is under contract, t is today.
+-- The rows of the calls that name a point p, which shows v; day is the register's, u says who is under contract, t is
+-- today.
 unfoldable pub rowsAt : Settings → ℕ → List Bool → ℕ → ℕ → PointAction → View → List Row
 rowsAt S day u t p (PointAction.Enrol m) v =
     (notMeter m ⇒ 22) ∷ (badFactor m ⇒ 40) ∷ (isPast t ⇒ 20) ∷ (runsBack day t ⇒ 21)

@@ -19,7 +19,8 @@ abbrev μ-loop : tie.MeasureT-loop
 
 returns : tie.Need-returns Inv-loop μ-loop
 returns c = let a = c .before .before .before .args in reads (a .last) (a .shape) (a .from) (a .line .now) _ _
-    (rw (too-many (a .last) (a .shape) _ (c .if1 .taken)) (handed-here (a .line .now) (a .from) 0 (replicate mostFields 0) false (a .last) (omega arith) refl refl))
+    (rw (too-many (a .last) (a .shape) _ (c .if1 .taken))
+    (handed-here (a .line .now) (a .from) 0 (replicate mostFields 0) false (a .last) (omega arith) refl refl))
 
 loop-holds : tie.Need-loop-holds Inv-loop μ-loop
 loop-holds c = let n = c .before .before .before .args .shape .count in let all : n - 0 ≡ n = omega arith in

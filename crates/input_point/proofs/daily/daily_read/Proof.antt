@@ -36,12 +36,14 @@ cast-at c = let i = c .before .before .before .before in let k = i .before in
 
 returns-3 : tie.Need-returns-3
 unfolding dailyRead
-returns-3 c = let b = c .before .before in let l = b .before .before .before in let i = l .before .before .before in let k = i .before in let s = k .before .before .args in
+returns-3 c = let b = c .before .before in let l = b .before .before .before in let i = l .before .before .before in
+    let k = i .before in let s = k .before .before .args in
     let ok = said _ _ _ _ _ _ (k .before .reading-answer .ensures) (k .is-accepted .ensures) (not-false _ (i .if1 .left)) in
     let fits = daily-fits _ _ _ _ _ _ ok in
     let span = b .before .span-to .ensures ∙ read-span (s .f) _ _ _ (fits .index) (fits .mark) in
     rw (ok, sym (l .lies-in .ensures) ∙ not-false _ (b .before .before .if2 .left)) (ap
-    (λ (b : Period). Daily.Read (s .day) (reading (s .d) (s .x)) (b .volume) (b .normal)) (b .book-newest .ensures ∙ ap (λ (x : Span). bookedNewest x (s .q)) span))
+    (λ (b : Period). Daily.Read (s .day) (reading (s .d) (s .x)) (b .volume) (b .normal))
+    (b .book-newest .ensures ∙ ap (λ (x : Span). bookedNewest x (s .q)) span))
 
 pub daily-read-spec : {M : Type 1} → statement M
 daily-read-spec =

@@ -1,6 +1,6 @@
 -- A reading's span, field by field.
 use Rattle.point_volumes.specs.Between.{spanRead}
-use Rattle.point_volumes.proofs.Powers.{turn-most}
+use Rattle.rules.proofs.Meters.{turn-most}
 use Rattle.basics.proofs.Basics.{needs}
 use Rattle.point_volumes.proofs.reading.span_to.Statement.{statement}
 use Rattle.point_volumes.proofs.reading.span_to.Tie as tie

@@ -227,6 +227,10 @@ meter-examples =
           record { periods = refl; advance = (refl, refl); starts = refl; holders = refl; volumes = (refl, refl); total = (refl, refl) };
       seven-in-ten-least =
           record { periods = refl; advance = (refl, refl); starts = refl; holders = refl; volumes = (refl, refl); total = (refl, refl) };
+      split-by-a-switch =
+          record { periods = refl; advance = (refl, refl); starts = refl; holders = refl; volumes = (refl, refl); total = (refl, refl) };
+      split-by-two-deadlines =
+          record { periods = refl; advance = (refl, refl); starts = refl; holders = refl; volumes = (refl, refl); total = (refl, refl) };
       seven-in-ten-normal =
           record { periods = refl; advance = (refl, refl); starts = refl; holders = refl; volumes = (refl, refl); total = (refl, refl) };
       seven-in-ten-as-normal =

@@ -35,6 +35,13 @@ sevenInTen code factor =
     (on 8003 (Action.At 1 (PointAction.IntoService 5 77)) gives Answer.Accepted ∷
     on 8010 (Action.At 1 (PointAction.Reading 8010 107 0)) gives Answer.Accepted ∷ [])
 
+-- With A = 2 and B = 3 default supply ends on 8,002 and last resort on 8,005: k = 2 and 5 of 7 units over 10 days.
+abbrev lapsed : List Line
+lapsed =
+    opens 1 9500 ++
+    (on 8000 (Action.At 1 (PointAction.DefaultSupply 77)) gives Answer.Accepted ∷
+    on 8010 (Action.At 1 (PointAction.Reading 8010 107 0)) gives Answer.Accepted ∷ [])
+
 abbrev oneAndOne : ℕ → List Line
 oneAndOne factor =
     opens 1 factor ++
@@ -106,6 +113,16 @@ pub record MeterExamples : Type 0 where
       (period 8000 0 2 19 ∷ period 8003 5 5 50 ∷ []) 7 69
   pub seven-in-ten-least : Shows (opening 8000 2 30 40 1 2) (sevenInTen 1 1) 1
       (period 8000 0 2 0 ∷ period 8003 5 5 0 ∷ []) 7 0
+  -- split by a switch at k = 21 of 7 units over 22 days, and by what falls due before the reading comes: rounded by
+  -- themselves the periods would get 5 and 0; 0, 1 and 3
+  pub split-by-a-switch : ThenShows
+      (on 11 (Action.At 5 (enrol 4 3 100 1 9500)) gives Answer.Accepted ∷
+      on 11 (Action.At 5 (PointAction.IntoService 5 77)) gives Answer.Accepted ∷
+      on 11 (Action.At 5 (PointAction.Request 6 77 11)) gives Answer.AcceptedOn 32 ∷
+      on 33 (Action.At 5 (PointAction.Reading 33 107 0)) gives Answer.Accepted ∷ []) 5
+      (period 11 5 6 5 ∷ period 32 6 1 1 ∷ []) 7 6
+  pub split-by-two-deadlines : Shows (opening 8000 2 2 3 1 2) lapsed 1
+      (period 8000 1 1 0 ∷ period 8002 2 2 2 ∷ period 8005 0 4 4 ∷ []) 7 6
   -- "an Nm³ meter passes its volume on, as with 10,000"
   pub seven-in-ten-normal : Shows (opening 8000 2 30 40 1 2) (sevenInTen 2 0) 1
       (period 8000 0 2 2 ∷ period 8003 5 5 5 ∷ []) 7 7

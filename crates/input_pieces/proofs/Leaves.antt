@@ -1,5 +1,5 @@
 -- What a line leaves behind: refused, stored in the tables, or done on the whole register.
-use Rattle.basics.proofs.Basics.{_≡_, refl, sym, _∙_, ap, true, false, Bool, List, _≤_, ℕ, _-_, _+_, _<_, _*_, min}
+use Rattle.basics.proofs.Basics.{_≡_, refl, sym, _∙_, ap, true, false, Bool, List, map, _≤_, ℕ, _-_, _+_, _<_, _*_, min}
 use Rattle.basics.proofs.Basics.{le-trans, arith, getD, set, set-getD}
 use Rattle.rules.specs.declared.{Answer.Answer, Fields.Fields, Period.Period, Register.Register, Settings.Settings, Span.Span}
 use Rattle.rules.specs.Answers.{isAccepted}
@@ -8,7 +8,8 @@ use Rattle.rules.specs.declared.{NormalVolume.NormalVolume, Reading.Reading, Vo
 use Rattle.rules.specs.Pinned.Register.{period, noPeriod}
 use Rattle.line_messages.specs.declared.{Message.Message}
 use Rattle.input_tables.specs.declared.{Tables.Tables}
-use Rattle.input_tables.specs.Between.Tables.{bookedAt, Sized, Apart}
+use Rattle.input_tables.specs.Between.Tables.{pointsOf, bookedAt, Sized, Apart}
+use Rattle.register.specs.Between.Calls.{failedOn}
 use Rattle.input_desk.specs.declared.{Desk.Desk}
 use Rattle.input_desk.specs.Pinned.Desk.{desk, answerOf, deskAfter}
 use Rattle.input_desk.proofs.Openings.{refused-after}
@@ -33,16 +34,8 @@ pub record Next (d : Desk) (m : Message) (a : Answer) (ready : Bool) (S : Settin
   pub calm : quiet ≤ firstDue fs
 
 -- a deed is on one of the 24 slots, or of one of the suppliers
-deed-in : (quiet : ℕ) (m : Message) (y : Said) (n : ℕ) (q : Period) (x : Deed) → x ≡ deedOf quiet m y n q → Within x
-deed-in quiet m y n q x e = rw e (deed-within quiet m y n q)
-
-pub place-within : (quiet : ℕ) (m : Message) (y : Said) (n : ℕ) (q : Period) {x : Deed} {e : Entry} → x ≡ Deed.Slot e →
-    x ≡ deedOf quiet m y n q → e .place < 24
-place-within quiet m y n q {x} h k = rw h at (deed-in quiet m y n q x k)
-
-pub supplier-within : (quiet : ℕ) (m : Message) (y : Said) (n : ℕ) (q : Period) {x : Deed} {t s : ℕ} → x ≡ Deed.Sign t s →
-    x ≡ deedOf quiet m y n q → s < 100
-supplier-within quiet m y n q {x} h k = rw h at (deed-in quiet m y n q x k)
+pub deed-in : (quiet : ℕ) (m : Message) (y : Said) (n : ℕ) (q : Period) {x v : Deed} → x ≡ v → x ≡ deedOf quiet m y n q → Within v
+deed-in quiet m y n q h k = rw (← h, k) (deed-within quiet m y n q)
 
 -- What was said, and the answer.
 pub record Heard (d : Desk) (x : Said) (m : Message) (y : Said) (a : Answer) : Type 0 where
@@ -142,6 +135,16 @@ module _ (z : State) where
 
           pub pass-next : {t : ℕ} → x ≡ Deed.Pass t → Next d m a (z .ready) (z .set) t (z .contracts) fs ns ss (z .quiet)
           pass-next h = record { turned = record { answer = told .answer; after = rw h at (stored (rw h)) }; sized = sized; calm = calm }
+
+          pub fail-next : {t s : ℕ} → x ≡ Deed.Fail t s → {w : Tables} → Apart (map (failedOn (z .set) t s) (pointsOf fs ns ss)) w →
+              {quiet′ : ℕ} → quiet′ ≡ firstDue (w .fields) →
+              Next d m a (z .ready) (z .set) t (set (z .contracts) s false) (w .fields) (w .counts) (w .slots) quiet′
+          fail-next h apart hq =
+              record {
+                turned = record { answer = told .answer; after = rw (apart .points) (rw h at (stored (rw h))) };
+                sized = apart .sized;
+                calm = omega (arith, hq);
+              }
 
     -- a daily reading, stored by itself
     pub daily-next : {t : ℕ} {now : Reading} {v : Volume} {n : NormalVolume}

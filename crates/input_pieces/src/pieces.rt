@@ -1,5 +1,5 @@
 // The lines of a piece, answered one by one. The points stay in their tables: a line costs what it looks at and what it
-// stores; the whole register is put together only for what may concern every point.
+// stores; the whole register is put together only for an opening and where something falls due.
 use crate::Session;
 use input_desk::Desk;
 use input_desk::after;
@@ -12,6 +12,7 @@ use input_point::Said;
 use input_point::answer_of;
 use input_point::daily_of;
 use input_point::deed_of;
+use input_point::failed_tables;
 use input_point::failure_answer;
 use input_point::place_of;
 use input_quiet::due_day;
@@ -134,7 +135,7 @@ fn at_end(
 }
 
 // Answers the lines that end in a piece. What an accepted line stores where nothing falls due by its day is one point's
-// fields and one slot, a contract, or the day alone.
+// fields and one slot, a contract, or the day alone; at a failure it is that of every point.
 pub(crate) fn answer_lines(
     opened: bool,
     settings: Settings,
@@ -229,6 +230,15 @@ pub(crate) fn answer_lines(
                 }
                 Deed::Pass(t) => {
                     day = t;
+                }
+                Deed::Fail(t, s) => {
+                    let tables = failed_tables(set, t, s as u64, fields, counts, slots);
+                    contracts[s] = false;
+                    day = t;
+                    fields = tables.fields;
+                    counts = tables.counts;
+                    slots = tables.slots;
+                    quiet = first_due(fields);
                 }
                 Deed::Whole => {
                     let now = Desk {

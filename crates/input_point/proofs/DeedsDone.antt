@@ -12,7 +12,7 @@ use Rattle.point_volumes.proofs.Newest.{newest-booked}
 use Rattle.point_effects.specs.Between.{noted}
 use Rattle.line_messages.specs.declared.{Message.Message}
 use Rattle.input_tables.specs.Between.Tables.{joined}
-use Rattle.input_point.specs.declared.{answers.Said.Said, deeds.Deed.Deed}
+use Rattle.input_point.specs.declared.{answers.Said.Said, deeds.Deed.Deed, deeds.Entry.Entry}
 use Rattle.input_point.specs.Between.Deeds.{slot, keptDeed, namingDeed, readingDeed, effectDeed, ruledDeed, callDeed, deedOf}
 
 -- the point after a deed: its slots are row, n of them in use
@@ -21,6 +21,7 @@ pointAfter row n (Deed.Slot x) = joined (x .fields) (x .count) (set row (x .plac
 pointAfter row n (Deed.Back t s f) = joined f n (bookedIfFair s (history n row) .periods)
 pointAfter row n (Deed.Sign t s) = joined blank n row
 pointAfter row n (Deed.Pass t) = joined blank n row
+pointAfter row n (Deed.Fail t s) = joined blank n row
 pointAfter row n Deed.Whole = joined blank n row
 
 module _ (t n : ℕ) (row : List Period) where
@@ -94,6 +95,7 @@ On t (Deed.Slot x) = (x .today ≡ t) × (x .place < 24)
 On t (Deed.Back d s f) = d ≡ t
 On t (Deed.Sign d s) = ⊥
 On t (Deed.Pass d) = ⊥
+On t (Deed.Fail d s) = ⊥
 On t Deed.Whole = ⊥
 
 module _ (t n : ℕ) (q : Period) where
@@ -124,11 +126,15 @@ module _ (t n : ℕ) (q : Period) where
   effect-on (Effect.Read s f) = read-on s f
   effect-on (Effect.Request e f) = (refl, omega arith)
 
+  pub slot-within : (e : Effect) {x : Entry} → Deed.Slot x ≡ effectDeed t e n q → x .place < 24
+  slot-within e h = (rw (← h) at (effect-on e)) .1
+
 abbrev pub Within : Deed → Type 0
 Within (Deed.Slot x) = x .place < 24
 Within (Deed.Back t s f) = Unit {0}
 Within (Deed.Sign t s) = s < 100
 Within (Deed.Pass t) = Unit {0}
+Within (Deed.Fail t s) = s < 100
 Within Deed.Whole = Unit {0}
 
 on-within : (t : ℕ) (d : Deed) → On t d → Within d
@@ -136,6 +142,7 @@ on-within t (Deed.Slot x) (e, k) = k
 on-within t (Deed.Back b s f) e = tt
 on-within t (Deed.Sign b s) e = absurd e
 on-within t (Deed.Pass b) e = absurd e
+on-within t (Deed.Fail b s) e = absurd e
 on-within t Deed.Whole e = absurd e
 
 ruled-within : (t : ℕ) (x : Said) (n : ℕ) (q : Period) → Within (ruledDeed t x n q)
@@ -151,7 +158,11 @@ call-within t (Action.Contract s) x n q = go (ltb s 100) refl
     go : (b : Bool) → ltb s 100 ≡ b → Within (cond b (Deed.Sign t s) Deed.Whole)
     go true e = ltb-true s 100 e
     go false e = tt
-call-within t (Action.Failure s) x n q = tt
+call-within t (Action.Failure s) x n q = go (ltb s 100) refl
+  where
+    go : (b : Bool) → ltb s 100 ≡ b → Within (cond b (Deed.Fail t s) Deed.Whole)
+    go true e = ltb-true s 100 e
+    go false e = tt
 call-within t (Action.At p a) x n q = ruled-within t x n q
 call-within t Action.Day x n q = tt
 

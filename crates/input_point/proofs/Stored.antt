@@ -1,5 +1,5 @@
 -- What a deed stores in the tables is what the message does to the register.
-use Rattle.basics.proofs.Basics.{_≡_, refl, sym, _∙_, ap, true, false, Bool, cond, false≢true, true≢false, List}
+use Rattle.basics.proofs.Basics.{_≡_, refl, sym, _∙_, ap, true, false, Bool, cond, false≢true, true≢false, List, map}
 use Rattle.basics.proofs.Basics.{_≤_, ℕ, _-_, _+_, _<_, _*_, min, arith, eqb, ltb, length, getD, set, length-set}
 use Rattle.basics.proofs.Basics.{set-getD, length-paste, lt-ltb, le-ltb, ltb-true}
 use Rattle.rules.specs.declared.{Effect.Effect, Fields.Fields, Period.Period, Point.Point, Span.Span}
@@ -11,10 +11,11 @@ use Rattle.rules.specs.Pinned.Register.{noPoint, register, view, advanced, says
 use Rattle.rules.specs.Fields.{blank}
 use Rattle.point_volumes.specs.Between.{bookedIfFair}
 use Rattle.point_answers.specs.Between.{answerAt}
-use Rattle.point_effects.specs.Between.{rulingAt, Accepted, noted}
+use Rattle.point_effects.specs.Between.{rulingAt, Accepted, noted, failedBy}
 use Rattle.point_effects.proofs.Accepted.{accepted-noted}
-use Rattle.register.specs.Between.Calls.{callAt}
+use Rattle.register.specs.Between.Calls.{callAt, failedOn}
 use Rattle.register.proofs.Advanced.{caughtUp-on}
+use Rattle.register.proofs.Failing.{failedOn-is}
 use Rattle.input_quiet.specs.Between.Quiet.{seen, viewOn, firstDue}
 use Rattle.input_quiet.proofs.Dues.{quiet-point, quiet-advanced, first-at, first-never}
 use Rattle.input_quiet.proofs.SeenOn.{seen-on}
@@ -26,7 +27,7 @@ use Rattle.rules.specs.Rejections.{answer}
 use Rattle.rules.proofs.Views.{accepted-point}
 use Rattle.input_tables.specs.Between.Tables.{joined, rowAt, pointsOf, bookedAt, Sized}
 use Rattle.input_tables.proofs.Points.{row-length, row-get, points-get, points-slot, points-row}
-use Rattle.input_point.specs.declared.{answers.Said.Said, deeds.Deed.Deed}
+use Rattle.input_point.specs.declared.{answers.Said.Said, deeds.Deed.Deed, deeds.Entry.Entry}
 use Rattle.input_point.specs.Between.Deeds.{effectDeed, ruledDeed, callDeed, deedOf}
 use Rattle.input_point.proofs.DeedsDone.{pointAfter, effect-after, On, effect-on, booked-length}
 
@@ -37,6 +38,7 @@ storedIn S day u fs ns ss i (Deed.Slot x) =
 storedIn S day u fs ns ss i (Deed.Back t s f) = register S t u (pointsOf (set fs i f) ns (bookedAt s i (getD ns i 0) ss))
 storedIn S day u fs ns ss i (Deed.Sign t s) = register S t (set u s true) (pointsOf fs ns ss)
 storedIn S day u fs ns ss i (Deed.Pass t) = register S t u (pointsOf fs ns ss)
+storedIn S day u fs ns ss i (Deed.Fail t s) = register S t (set u s false) (map (failedOn S t s) (pointsOf fs ns ss))
 storedIn S day u fs ns ss i Deed.Whole = register S day u (pointsOf fs ns ss)
 
 module _ (S : Settings) (day : ℕ) (u : List Bool) (fs : List Fields) (ns : List ℕ) (ss : List Period) (sized : Sized fs ns ss) (i : ℕ)
@@ -59,6 +61,7 @@ module _ (S : Settings) (day : ℕ) (u : List Bool) (fs : List Fields) (ns : Lis
       rw (e, lt-ltb i 32 l, ← is, set-getD ns i 0)
   stored-point t (Deed.Sign b s) e = absurd e
   stored-point t (Deed.Pass b) e = absurd e
+  stored-point t (Deed.Fail b s) e = absurd e
   stored-point t Deed.Whole e = absurd e
 
   -- an effect at the point of that place
@@ -69,6 +72,16 @@ module _ (S : Settings) (day : ℕ) (u : List Bool) (fs : List Fields) (ns : Lis
       let g = points-get noPoint blank 0 fs ns ss i (omega (arith, sized .fields)) (omega (arith, sized .counts)) in
       let k = row-get i (min n 24 - 1) ss noPeriod (omega arith) in rw (g, effect-after t n (rowAt i ss) e, k)
       (stored-point t (effectDeed t e n (getD ss (24 * i + (min n 24 - 1)) noPeriod)) (effect-on t n _ e))
+
+  -- a failure there
+  pub failed-stored : (t s : ℕ) {x : Entry} →
+      Deed.Slot x ≡ effectDeed t (failedBy S t s (getD fs i blank)) (getD ns i 0) (getD ss (24 * i + (min (getD ns i 0) 24 - 1)) noPeriod) →
+      pointsOf (set fs i (x .fields)) (set ns i (x .count)) (set ss (24 * i + x .place) (x .period))
+      ≡ set (pointsOf fs ns ss) i (failedOn S t s (getD (pointsOf fs ns ss) i noPoint))
+  unfolding failedOn
+  failed-stored t s h =
+      let g = points-get noPoint blank 0 fs ns ss i (omega (arith, sized .fields)) (omega (arith, sized .counts)) in
+      sym (ap (λ (r : Register). r .points) (rw (← h) at (effect-stored t (failedBy S t s (getD fs i blank))))) ∙ rw g
 
   pub slot-sized : (f : Fields) (n k : ℕ) (q : Period) → Sized (set fs i f) (set ns i n) (set ss k q)
   slot-sized f n k q =
@@ -91,6 +104,7 @@ isWhole (Deed.Slot x) = false
 isWhole (Deed.Back t s f) = false
 isWhole (Deed.Sign t s) = false
 isWhole (Deed.Pass t) = false
+isWhole (Deed.Fail t s) = false
 isWhole Deed.Whole = true
 
 whole-not : (x : Deed) → x ≡ Deed.Whole → isWhole x ≡ false → ⊥
@@ -169,7 +183,12 @@ module _ (S : Settings) (day : ℕ) (u : List Bool) (fs : List Fields) (ns : Lis
           done t (Action.Contract s) (register S t u (pointsOf fs ns ss)) ≡ storedIn S day u fs ns ss i x
       go true k = rw k
       go false k = absurd (whole-not x k w)
-  call-stored t (Action.Failure s) h hi ok x e w = absurd (whole-not x e w)
+  call-stored t (Action.Failure s) h hi ok x e w = go (ltb s 100) e
+    where
+      go : (b : Bool) → x ≡ cond b (Deed.Fail t s) Deed.Whole →
+          done t (Action.Failure s) (register S t u (pointsOf fs ns ss)) ≡ storedIn S day u fs ns ss i x
+      go true k = rw (k, failedOn-is S t s (omega (arith, first-never fs)))
+      go false k = absurd (whole-not x k w)
   call-stored t (Action.At p a) h hi ok x e w = rw e (at-stored t p a h hi ok)
   call-stored t Action.Day h hi ok x e w = rw e
 

@@ -14,6 +14,7 @@ ghost use mathlib.Core.Path.{_≡_};
 ghost use mathlib.Core.Bool.{_&&_};
 ghost use Prim.Native.Nat.{min};
 ghost use lib.Dec.{eqb, ltb};
+ghost use Rattle.input_point.specs.declared.{deeds.Deed.Deed};
 ghost use Rattle.input_point.specs.Between.Deeds.{keptDeed, namingDeed, readingDeed, effectDeed, ruledDeed};
 ghost use Rattle.input_point.specs.Between.Deeds.{callDeed};
 ghost use Rattle.input_point.specs.Between.Deeds.{deedOf, liesIn};
@@ -35,7 +36,9 @@ pub enum Deed {
     Sign(u32, usize),
     // The day alone.
     Pass(u32),
-    // What may concern every point.
+    // A supplier fails: it loses its contract, and every point may have a slot to store.
+    Fail(u32, usize),
+    // All else: an opening, and a day by which something falls due.
     Whole,
 }
 
@@ -60,21 +63,21 @@ pub(crate) fn lies_in(n: usize, start: u32, from: u32) -> bool
 }
 
 // No slot changes.
-fn kept_deed(t: u32, g: Fields, n: usize, q: Period) -> Deed
-    ensures { λ r. ⌜ r ≡ keptDeed t g n q ⌝ }
+pub(crate) fn kept_entry(t: u32, g: Fields, n: usize, q: Period) -> Entry
+    ensures { λ r. ⌜ Deed.Slot r ≡ keptDeed t g n q ⌝ }
 {
-    Deed::Slot(Entry {
+    Entry {
         today: t,
         fields: g,
         count: n,
         place: newest_place(n),
         period: q,
-    })
+    }
 }
 
 // The fields' holder is named: in the newest period where that starts today, else in a new one.
-fn naming_deed(t: u32, g: Fields, n: usize, q: Period) -> Deed
-    ensures { λ r. ⌜ r ≡ namingDeed t g n q ⌝ }
+pub(crate) fn naming_entry(t: u32, g: Fields, n: usize, q: Period) -> Entry
+    ensures { λ r. ⌜ Deed.Slot r ≡ namingDeed t g n q ⌝ }
 {
     let s = g.supply;
     let holder = s.holder;
@@ -82,7 +85,7 @@ fn naming_deed(t: u32, g: Fields, n: usize, q: Period) -> Deed
     let volume = q.volume;
     let normal = q.normal;
     if starts_on(n, start, t) {
-        return Deed::Slot(Entry {
+        return Entry {
             today: t,
             fields: g,
             count: n,
@@ -93,10 +96,10 @@ fn naming_deed(t: u32, g: Fields, n: usize, q: Period) -> Deed
                 volume: volume,
                 normal: normal,
             },
-        });
+        };
     }
     if n < 24 {
-        return Deed::Slot(Entry {
+        return Entry {
             today: t,
             fields: g,
             count: n + 1,
@@ -107,9 +110,9 @@ fn naming_deed(t: u32, g: Fields, n: usize, q: Period) -> Deed
                 volume: Volume(0),
                 normal: NormalVolume(0),
             },
-        });
+        };
     }
-    kept_deed(t, g, n, q)
+    kept_entry(t, g, n, q)
 }
 
 fn reading_deed(t: u32, s: Span, g: Fields, n: usize, q: Period) -> Deed
@@ -133,11 +136,11 @@ fn effect_deed(t: u32, e: Effect, n: usize, q: Period) -> Deed
     ensures { λ r. ⌜ r ≡ effectDeed t e n q ⌝ }
 {
     match e {
-        Effect::Keep(g) => kept_deed(t, g, n, q),
-        Effect::Name(g) => naming_deed(t, g, n, q),
-        Effect::Enrol(g) => naming_deed(t, g, n, q),
+        Effect::Keep(g) => Deed::Slot(kept_entry(t, g, n, q)),
+        Effect::Name(g) => Deed::Slot(naming_entry(t, g, n, q)),
+        Effect::Enrol(g) => Deed::Slot(naming_entry(t, g, n, q)),
         Effect::Read(s, g) => reading_deed(t, s, g, n, q),
-        Effect::Request(_, g) => kept_deed(t, g, n, q),
+        Effect::Request(_, g) => Deed::Slot(kept_entry(t, g, n, q)),
     }
 }
 
@@ -164,7 +167,12 @@ fn call_deed(t: u32, a: Action, said: Said, n: usize, q: Period) -> Deed
             }
             Deed::Whole
         }
-        Action::Failure { supplier: _ } => Deed::Whole,
+        Action::Failure { supplier } => {
+            if supplier < 100 {
+                return Deed::Fail(t, supplier as usize);
+            }
+            Deed::Whole
+        }
         Action::At { point: _, act: _ } => ruled_deed(t, said, n, q),
         Action::Day => Deed::Pass(t),
     }

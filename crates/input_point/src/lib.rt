@@ -3,6 +3,7 @@
 mod answers;
 mod daily;
 mod deeds;
+mod failures;
 
 pub use answers::Said;
 pub use answers::answer_of;
@@ -12,6 +13,7 @@ pub use daily::daily_of;
 pub use deeds::Deed;
 pub use deeds::Entry;
 pub use deeds::deed_of;
+pub use failures::failed_tables;
 use line_messages::Message;
 use point_checks::outside;
 use rules::Action;

@@ -20,7 +20,7 @@ any-ext zero p f g h = refl
 any-ext (suc n) p f g h =
     rw (h p (omega arith) (omega arith), any-ext n (suc p) f g (λ q lo hi. h q (omega arith) (omega arith)))
 
-failedOn-is : (S : Settings) (t s : ℕ) → t ≤ lastDay → failedOn S t s ≡ failedPoint S t s
+pub failedOn-is : (S : Settings) (t s : ℕ) → t ≤ lastDay → failedOn S t s ≡ failedPoint S t s
 unfolding failedOn failedPoint
 failedOn-is S t s h = fun-ext (λ g. failed-noted S t s (g .fields) (g .history) h)
 

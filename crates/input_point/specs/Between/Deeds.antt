@@ -45,7 +45,7 @@ ruledDeed t (Said.Fails d s) n q = Deed.Whole
 
 unfoldable pub callDeed : ℕ → Action → Said → ℕ → Period → Deed
 callDeed t (Action.Contract s) x n q = cond (ltb s 100) (Deed.Sign t s) Deed.Whole
-callDeed t (Action.Failure s) x n q = Deed.Whole
+callDeed t (Action.Failure s) x n q = cond (ltb s 100) (Deed.Fail t s) Deed.Whole
 callDeed t (Action.At p a) x n q = ruledDeed t x n q
 callDeed t Action.Day x n q = Deed.Pass t
 

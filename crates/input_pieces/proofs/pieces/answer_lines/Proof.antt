@@ -10,8 +10,9 @@ use Rattle.input_tables.specs.Between.Tables.{Sized}
 use Rattle.input_quiet.specs.Between.Quiet.{firstDue}
 use Rattle.input_pieces.specs.Pinned.Session.{registerIn}
 use Rattle.input_pieces.proofs.Turns.{Going, going-start, ends, line-done}
-use Rattle.input_pieces.proofs.Leaves.{Heard, Next, state, d, saidHere, place-within, supplier-within, heard-as}
-use Rattle.input_pieces.proofs.Leaves.{daily-next, refused-next, whole-next, slot-next, back-next, sign-next, pass-next}
+use Rattle.input_pieces.proofs.Leaves.{Heard, Next, state, d, saidHere, deed-in}
+use Rattle.input_pieces.proofs.Leaves.{heard-as, daily-next, refused-next, whole-next, slot-next, back-next, sign-next}
+use Rattle.input_pieces.proofs.Leaves.{pass-next, fail-next}
 use Rattle.input_pieces.proofs.pieces.answer_lines.Statement.{statement}
 use Rattle.input_pieces.proofs.pieces.answer_lines.Tie as tie
 
@@ -52,7 +53,7 @@ add-slots-2 c = let x = c .before .before .before in let k = x .before .before .
     omega (
       arith,
       k .before .before .before .before .before .before .place-of .ensures .1,
-      place-within _ _ _ _ _ (x .deed .given .1) (x .before .before .deed-of .ensures),
+      deed-in _ _ _ _ _ (x .deed .given .1) (x .before .before .deed-of .ensures),
     )
 
 mul-slots-4 : tie.Need-mul-slots-4 Inv-loop μ-loop
@@ -60,7 +61,7 @@ mul-slots-4 c = let x = c .before .before .before in let k = x .before .before .
     omega (
       arith,
       k .before .before .before .before .before .before .place-of .ensures .1,
-      place-within _ _ _ _ _ (x .deed .given .1) (x .before .before .deed-of .ensures),
+      deed-in _ _ _ _ _ (x .deed .given .1) (x .before .before .deed-of .ensures),
     )
 
 array-set-from-slots-2 : tie.Need-array-set-from-slots-2 Inv-loop μ-loop
@@ -68,7 +69,7 @@ array-set-from-slots-2 c = let x = c .before .before .before in let k = x .befor
     omega (
       arith,
       k .before .before .before .before .before .before .place-of .ensures .1,
-      place-within _ _ _ _ _ (x .deed .given .1) (x .before .before .deed-of .ensures),
+      deed-in _ _ _ _ _ (x .deed .given .1) (x .before .before .deed-of .ensures),
     )
 
 loop-less : tie.Need-loop-less Inv-loop μ-loop
@@ -121,9 +122,11 @@ loop-again-2 c = let j = c .before .before .before .before in let x = j .before 
     (sign-next z s q n at ha lt p hp told (ok ∙ w .0 .taken) (w .1 .ensures) (w .3 .given .1))) (⊎-elim
     (λ w. rw (w .5, w .6, w .7, w .8, w .9, w .10, w .11, w .12)
     (pass-next z s q n at ha lt p hp told (ok ∙ w .0 .taken) (w .1 .ensures) (w .3 .given .1))) (⊎-elim
+    (λ w. rw (w .10, w .11, w .12, w .13, w .14, w .15, w .16, w .17)
+    (fail-next z s q n at ha lt p hp told (ok ∙ w .0 .taken) (w .1 .ensures) (w .3 .given .1) (w .5 .ensures) (w .9 .ensures))) (⊎-elim
     (λ w. rw (w .15, w .16, w .17, w .18, w .19, w .20, w .21, w .22)
     (whole-next z s q n at ha lt p hp told (ok ∙ w .0 .taken) (w .4 .ensures) (w .5 .ensures) (w .8 .ensures) (w .14 .ensures)))
-    (λ w. rw (w .1, w .2, w .3, w .4, w .5, w .6, w .7, w .8) (refused-next z s q n at ha lt p hp told (ok ∙ w .0 .left)))))))
+    (λ w. rw (w .1, w .2, w .3, w .4, w .5, w .6, w .7, w .8) (refused-next z s q n at ha lt p hp told (ok ∙ w .0 .left))))))))
     (e .came)
     in (
       line-done (l .inv .0) read (m .before .before .before .if1 .left) (m .whole-message .ensures) (next .turned) (c .before .before .put-answer2 .ensures),
@@ -166,7 +169,9 @@ answer-lines-spec =
     (λ c. let k = c .before .before .before .before .before .before .before in
     omega (arith, k .before .before .before .before .before .before .before .place-of .ensures .1))
     (λ c κs. search needs) (λ c κs. search needs) (λ c κs. search needs) (λ c. search needs)
-    (λ c. supplier-within _ _ _ _ _ (c .before .deed3 .given .1) (c .before .before .before .deed-of .ensures))
-    (λ c. search needs) (λ c. search needs) (λ c κs. search needs) (λ c κs. search needs) (λ c κs. search needs)
+    (λ c. deed-in _ _ _ _ _ (c .before .deed3 .given .1) (c .before .before .before .deed-of .ensures))
+    (λ c. search needs) (λ c. search needs) (λ c κs. search needs)
+    (λ c. deed-in _ _ _ _ _ (c .before .before .deed5 .given .1) (c .before .before .before .before .deed-of .ensures))
+    (λ c κs. search needs) (λ c. search needs) (λ c κs. search needs) (λ c κs. search needs) (λ c κs. search needs)
     (λ c κs. search needs) (λ c κs. search needs) loop-less-2 loop-again-2 (λ c. search needs) (λ c. search needs)
     (λ c. search needs) (λ c κs. search needs) (λ c. search needs) returns)

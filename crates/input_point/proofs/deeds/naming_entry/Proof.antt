@@ -1,8 +1,8 @@
 -- The newest period gets the holder, or a new one, or none where all slots are taken.
 use Rattle.basics.proofs.Basics.{_≡_, sym, _∙_, min, arith, lt-ltb, le-ltb, needs}
 use Rattle.input_point.specs.Between.Deeds.{namingDeed}
-use Rattle.input_point.proofs.deeds.naming_deed.Statement.{statement}
-use Rattle.input_point.proofs.deeds.naming_deed.Tie as tie
+use Rattle.input_point.proofs.deeds.naming_entry.Statement.{statement}
+use Rattle.input_point.proofs.deeds.naming_entry.Tie as tie
 
 returns : tie.Need-returns
 unfolding namingDeed
@@ -17,9 +17,9 @@ returns-3 : tie.Need-returns-3
 unfolding namingDeed
 returns-3 c = let n = c .before .before .before .before .before .before .before .args .n in
     rw (sym (c .before .before .before .starts-on .ensures) ∙ c .before .before .if1 .left, le-ltb (min n 24) 24 (omega arith))
-    (c .kept-deed .ensures)
+    (c .kept-entry .ensures)
 
-pub naming-deed-spec : {M : Type 1} → statement M
-naming-deed-spec =
+pub naming-entry-spec : {M : Type 1} → statement M
+naming-entry-spec =
     tie.close (tie.spec (λ c κs. search needs) (λ c κs. search needs) returns (λ c. search needs) returns-2
     (λ c κs. search needs) returns-3)

@@ -2,8 +2,8 @@
 
 pub const LAST_DAY: u64 = 73_048;
 
-const FIRST_YEAR: u64 = 2000;
-const LAST_YEAR: u64 = 2199;
+pub const FIRST_YEAR: u64 = 2000;
+pub const LAST_YEAR: u64 = 2199;
 
 /// Month lengths, common and leap.
 const MONTH_LENGTHS: [[u64; 12]; 2] =
@@ -96,6 +96,12 @@ impl Calendar {
     pub fn working_days_between(&self, after: u64, before: u64) -> u64 {
         (after + 1..before).filter(|day| self.working[*day as usize]).count() as u64
     }
+
+    /// F-5: the working days between two dates aaaammjj of the calendar, the first not after the last.
+    pub fn working_days_of_span(&self, first: u64, last: u64) -> Option<u64> {
+        let (first, last) = self.day(first).zip(self.day(last))?;
+        (first <= last).then(|| self.working_days_between(first, last))
+    }
 }
 
 fn date_number(year: u64, month: u64, day: u64) -> u64 {
@@ -111,7 +117,7 @@ fn month_length(year: u64, month: u64) -> u64 {
 }
 
 /// Month and day of Easter Sunday by the Gregorian computus, in its form without tables.
-fn easter(year: u64) -> (u64, u64) {
+pub fn easter(year: u64) -> (u64, u64) {
     let golden = year % 19;
     let (century, of_century) = (year / 100, year % 100);
     let moon_shift = (century - (century + 8) / 25 + 1) / 3;

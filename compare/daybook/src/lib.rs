@@ -101,4 +101,11 @@ impl Registre {
         output.write_all(self.listing().as_bytes())?;
         output.flush()
     }
+
+    /// `working`: a reply to each line of two dates.
+    pub fn tell_working(&mut self, input: &mut impl Read, output: &mut impl Write) -> io::Result<()> {
+        self.take_all(input, |registre, line| {
+            output.write_all(questions::working_line(line, &registre.calendar).as_bytes())
+        })
+    }
 }

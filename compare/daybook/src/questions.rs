@@ -1,41 +1,64 @@
-//! 01, Questions, with 02's F-1 and F-4: holder, period and advance, as the program `ask` prints them.
+//! 01, Questions, with 02's F-1, F-4 and F-5: holder, period, advance and working days, as `ask` prints them.
 
 use crate::book::{DayBook, Period, POINTS};
 use crate::calendar::Calendar;
 use crate::line::{read_date, read_number};
+use std::iter;
 
-pub const USAGE: &str = "usage: ask holder P DATE | ask period P N | ask advance P | ask all";
+pub const USAGE: &str = "usage: ask holder P DATE | ask period P N | ask advance P | ask working DATE DATE | ask all";
 
+/// A day is a gas day; first and last are dates aaaammjj as they are given, of the calendar or not.
 #[derive(Clone, Copy, Debug, PartialEq)]
 pub enum Question {
     Holder { point: u64, day: u64 },
     Period { point: u64, number: u64 },
     Advance { point: u64 },
+    Working { first: u64, last: u64 },
     All,
 }
 
 /// The question that the words after `ask` put.
-pub fn read(words: &[String], calendar: &Calendar) -> Option<Question> {
-    let words: Vec<&str> = words.iter().map(String::as_str).collect();
+pub fn read(words: &[&str], calendar: &Calendar) -> Option<Question> {
     let number = |word: &str| read_number(word.as_bytes());
-    match words[..] {
+    match *words {
         ["holder", p, date] => Some(Question::Holder { point: number(p)?, day: read_date(date.as_bytes(), calendar)? }),
         ["period", p, n] => Some(Question::Period { point: number(p)?, number: number(n)? }),
         ["advance", p] => Some(Question::Advance { point: number(p)? }),
+        ["working", first, last] => Some(Question::Working { first: eight_digits(first)?, last: eight_digits(last)? }),
         ["all"] => Some(Question::All),
         _ => None,
     }
 }
 
+/// A word of eight digits without a leading zero.
+fn eight_digits(word: &str) -> Option<u64> {
+    read_number(word.as_bytes()).filter(|_| word.len() == 8)
+}
+
+impl Question {
+    /// Working days are the calendar's alone.
+    pub fn needs_register(&self) -> bool {
+        !matches!(self, Question::Working { .. })
+    }
+}
+
 /// The lines that answer a question.
 pub fn answer(book: Option<&DayBook>, calendar: &Calendar, question: Question) -> String {
-    let Some(book) = book else { return "unopened\n".to_string() };
-    match question {
-        Question::Holder { point, day } => holder(book, point, day) + "\n",
-        Question::Period { point, number } => period(&periods(book, point), calendar, number) + "\n",
-        Question::Advance { point } => advance(book, point) + "\n",
-        Question::All => all(book, calendar),
+    match (question, book) {
+        (Question::Working { first, last }, _) => working(calendar, first, last) + "\n",
+        (_, None) => "unopened\n".to_string(),
+        (Question::Holder { point, day }, Some(book)) => holder(book, point, day) + "\n",
+        (Question::Period { point, number }, Some(book)) => period(&periods(book, point), calendar, number) + "\n",
+        (Question::Advance { point }, Some(book)) => advance(book, point) + "\n",
+        (Question::All, Some(book)) => all(book, calendar),
     }
+}
+
+/// The reply to a line of two dates: what `ask working` tells of them.
+pub fn working_line(line: &[u8], calendar: &Calendar) -> String {
+    let line = String::from_utf8_lossy(line);
+    let words: Vec<&str> = iter::once("working").chain(line.split(' ')).collect();
+    read(&words, calendar).map_or(format!("{USAGE}\n"), |question| answer(None, calendar, question))
 }
 
 const REFUSED: &str = "refused;22";
@@ -64,6 +87,10 @@ fn period(periods: &[Period], calendar: &Calendar, number: u64) -> String {
 fn advance(book: &DayBook, point: u64) -> String {
     let both = book.advance(point).zip(book.normal_advance(point));
     both.map_or(REFUSED.to_string(), |(advance, normal)| format!("ok;{advance};{normal}"))
+}
+
+fn working(calendar: &Calendar, first: u64, last: u64) -> String {
+    calendar.working_days_of_span(first, last).map_or(REFUSED.to_string(), |count| format!("ok;{count}"))
 }
 
 /// Every question inside and just off its range; the days asked for are written as numbers.

@@ -1,12 +1,16 @@
-//! Seeded lists of lines for the comparison, the count of numbers by kind, and the stored sample.
+//! Seeded lists of lines and spans of days for the comparison, the counts of what they brought, and the stored sample.
 
 mod damage;
 mod list;
 mod random;
+mod replies;
+mod span;
 mod spoil;
 mod tally;
 
 use daybook::Registre;
+use replies::Replies;
+use span::SpanMaker;
 use std::fs;
 use std::io::{self, Write};
 use std::path::{Path, PathBuf};
@@ -14,6 +18,7 @@ use std::process::ExitCode;
 use tally::Tally;
 
 const USAGE: &str = "usage: generate lists N SEED FOLDER | generate tally FOLDER
+       generate spans N SEED | generate replies SPANS REPLIES
        generate sample N SEED FOLDER | generate noise SEED BYTES";
 
 fn main() -> ExitCode {
@@ -23,6 +28,8 @@ fn main() -> ExitCode {
     let done = match words[..] {
         ["lists", count, seed, folder] => number(count).zip(number(seed)).map(|(n, seed)| lists(n, seed, folder)),
         ["tally", folder] => Some(tally(folder)),
+        ["spans", count, seed] => number(count).zip(number(seed)).map(|(n, seed)| spans(n, seed)),
+        ["replies", spans, told] => Some(replies(spans, told)),
         ["sample", count, seed, folder] => number(count).zip(number(seed)).map(|(n, seed)| sample(n, seed, folder)),
         ["noise", seed, count] => number(seed).zip(number(count)).map(|(seed, n)| noise(seed, n)),
         _ => None,
@@ -64,6 +71,26 @@ fn tally(folder: &str) -> io::Result<()> {
     writeln!(output, "{}", tally.depth())?;
     writeln!(output, "pairs that can come and never came: {}", told(tally.never_came()))?;
     writeln!(output, "pairs that came and should not: {}", told(tally.came_unforeseen()))
+}
+
+/// Writes so many spans, two dates a line.
+fn spans(count: u64, seed: u64) -> io::Result<()> {
+    let mut maker = SpanMaker::new(seed);
+    let lines: String = (0..count).map(|number| maker.line(number)).collect();
+    io::stdout().lock().write_all(lines.as_bytes())
+}
+
+/// Counts the replies to a file of spans by their kind, and names the kinds that are missing.
+fn replies(spans: &str, told: &str) -> io::Result<()> {
+    let replies = Replies::of(&fs::read_to_string(spans)?, &fs::read_to_string(told)?);
+    let never_came = match replies.never_came() {
+        none if none.is_empty() => "none".to_string(),
+        kinds => kinds.join(", "),
+    };
+    let mut output = io::stdout().lock();
+    writeln!(output, "{} spans by their reply, refused or a count", replies.spans())?;
+    write!(output, "{}", replies.table())?;
+    writeln!(output, "replies that can come and never came: {never_came}")
 }
 
 /// Random bytes; a few of them are made line feeds, digits and separators.

@@ -1,9 +1,11 @@
-// Reads the lines of standard input as `registre` does, and then answers the question that its words ask.
+// Reads the lines of standard input as `registre` does, and then answers the question that its words ask. Working days
+// between two dates are told at once: nothing is read for them.
 // Other words get the usage line on standard error before anything is read. A read that fails, and an input that is not
 // taken to its end, end the run with a word on standard error and without an answer.
 mod every;
 
 use ask_lines::put_reply;
+use ask_lines::put_working;
 use ask_words::Asked;
 use ask_words::Question;
 use ask_words::asked_by;
@@ -46,6 +48,12 @@ fn answer_one(r: Register, q: Question) {
     write_out(&out[..n]);
 }
 
+fn answer_working(first: u64, second: u64) {
+    let mut out = [0u8; 128];
+    let n = put_working(&mut out, 0, first, second);
+    write_out(&out[..n]);
+}
+
 fn answer(d: Desk, asked: Asked) {
     let mut out = [0u8; 128];
     if !d.ready {
@@ -57,27 +65,36 @@ fn answer(d: Desk, asked: Asked) {
     match asked {
         Asked::One(q) => answer_one(r, q),
         Asked::All => every::answer_all(r),
+        Asked::Working { .. } => {}
         Asked::Unknown => {}
     }
 }
 
-fn main() {
-    let question = asked();
-    if let Asked::Unknown = question {
-        let mut out = [0u8; 128];
-        let n = put_usage(&mut out, 0);
-        io::write_all(STDERR_FILENO, &out[..n]);
-        return;
-    }
+fn answer_after_input(asked: Asked) {
     let came = read_all(false);
     let end = came.end;
     let s = came.session;
     match end {
-        End::Whole => answer(desk_of(s), question),
+        End::Whole => answer(desk_of(s), asked),
         End::Unread => os::fail(b"ask: reading the input"),
         End::Unwritten => os::fail(b"ask: writing the answer"),
         End::Untaken => {
             io::write_all(STDERR_FILENO, b"ask: the input was not taken to its end\n");
         }
+    }
+}
+
+fn tell_usage() {
+    let mut out = [0u8; 128];
+    let n = put_usage(&mut out, 0);
+    io::write_all(STDERR_FILENO, &out[..n]);
+}
+
+fn main() {
+    let question = asked();
+    match question {
+        Asked::Unknown => tell_usage(),
+        Asked::Working { first, second } => answer_working(first, second),
+        _ => answer_after_input(question),
     }
 }

@@ -6,8 +6,9 @@ use Rattle.questions.specs.declared.PeriodAnswer.the-variants as period
 use Rattle.questions.specs.declared.AdvanceAnswer.the-variants as advance
 use Rattle.rules.specs.Pinned.Register.{period as Register·period}
 use Rattle.questions.specs.Pinned.Questions.{held, refusedHolder, advances}
+use Rattle.working_count.specs.declared.WorkingAnswer.the-variants as working
 use Rattle.line_text.specs.Ascii.{ascii}
-use Rattle.ask_lines.specs.Lines.{holderReply, periodReply, advanceReply}
+use Rattle.ask_lines.specs.Lines.{holderReply, periodReply, advanceReply, workingReply}
 
 abbrev pub ended : List ℕ → List ℕ
 ended l = l ++ (10 ∷ [])
@@ -29,3 +30,7 @@ pub record LinesExamples : Type 0 where
   pub advance-20000 : advanceReply (advance.Of (advances 20000 20000)) ≡ ended (ascii "ok;20000;20000")
   pub advance-7-and-6 : advanceReply (advance.Of (advances 7 6)) ≡ ended (ascii "ok;7;6")
   pub advance-refused : advanceReply advance.OffRange ≡ ended (ascii "refused;22")
+  pub working-2 : workingReply (working.Days 2) ≡ ended (ascii "ok;2")
+  pub working-0 : workingReply (working.Days 0) ≡ ended (ascii "ok;0")
+  pub working-50455 : workingReply (working.Days 50455) ≡ ended (ascii "ok;50455")
+  pub working-refused : workingReply working.OffRange ≡ ended (ascii "refused;22")

@@ -9,6 +9,9 @@ use Rattle.questions.specs.declared.PeriodAnswer.the-variants as period
 use Rattle.questions.specs.declared.AdvanceAnswer.the-variants as advance
 use Rattle.questions.specs.Pinned.Questions.{holderAnswer, periodAnswer, advanceAnswer}
 use Rattle.questions.specs.Pinned.Questions.{heldNumber, periodNumber, advanceNumber}
+use Rattle.working_count.specs.declared.{WorkingAnswer.WorkingAnswer}
+use Rattle.working_count.specs.declared.WorkingAnswer.the-variants as working
+use Rattle.working_count.specs.Question.{workingNumber}
 use Rattle.line_text.specs.Ascii.{ascii}
 use Rattle.line_text.specs.Decimal.{decimal}
 use Rattle.line_text.specs.Days.{dayText}
@@ -62,7 +65,12 @@ unfoldable pub advanceReply : AdvanceAnswer → List ℕ
 advanceReply (advance.Of a) = okAdvance (a .volume) (a .normal)
 advanceReply advance.OffRange = refusal (advanceNumber advance.OffRange)
 
--- The line that answers a question.
+-- 02, F-5: the count of working days strictly between two days; "days off the calendar or out of order give 22."
+unfoldable pub workingReply : WorkingAnswer → List ℕ
+workingReply (working.Days n) = one (ascii "ok;") n 10
+workingReply working.OffRange = refusal (workingNumber working.OffRange)
+
+-- The line that answers a question to the register.
 unfoldable pub reply : Register → Question → List ℕ
 reply r (Question.Holder p d) = holderReply (holderAnswer r p d)
 reply r (Question.Period p n) = periodReply (periodAnswer r p n)

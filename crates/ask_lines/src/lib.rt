@@ -14,11 +14,14 @@ use questions::period_of;
 use rules::NormalVolume;
 use rules::Register;
 use rules::Volume;
+use working_count::WorkingAnswer;
+use working_count::working_of;
 ghost use Prim.Native.Nat.{_+_, _≤_};
 ghost use lib.ListN.{length};
 ghost use Rattle.line_text.specs.Between.Appending.{Appended, AppendedWithin};
 ghost use Rattle.ask_lines.specs.Lines.{field, dateField, one, two, volumes, okPeriod, okAdvance, refusal};
-ghost use Rattle.ask_lines.specs.Lines.{holderReply, periodReply, advanceReply, reply};
+ghost use Rattle.ask_lines.specs.Lines.{holderReply, periodReply, advanceReply, workingReply, reply};
+ghost use Rattle.working_count.specs.Question.{workingAnswer};
 
 // The number of a question off its range.
 const OFF_RANGE: u64 = 22;
@@ -29,6 +32,17 @@ pub fn put_reply(out: &mut [u8], at: usize, r: Register, q: Question) -> usize
 {
     let mut text = [0u8; 75];
     let end = put_answer(&mut text, 0, r, q);
+    put_word(out, at, &text[..end])
+}
+
+// The line that tells how many working days lie between two days.
+pub fn put_working(out: &mut [u8], at: usize, first: u64, second: u64) -> usize
+    ensures { λ x. ⌜
+        Appended at (workingReply (workingAnswer first second)) (now (out .entry)) (now (out .exit)) x
+        ⌝ }
+{
+    let mut text = [0u8; 75];
+    let end = put_count(&mut text, 0, working_of(first, second));
     put_word(out, at, &text[..end])
 }
 
@@ -80,6 +94,16 @@ fn put_advance(out: &mut [u8], at: usize, answer: AdvanceAnswer) -> usize
             put_ok_advance(out, at, volume, normal)
         }
         AdvanceAnswer::OffRange => put_refusal(out, at, OFF_RANGE),
+    }
+}
+
+fn put_count(out: &mut [u8], at: usize, answer: WorkingAnswer) -> usize
+    requires { ⌜ at + 75 ≤ length (now out) ⌝ }
+    ensures { λ x. ⌜ AppendedWithin 75 at (workingReply answer) (now (out .entry)) (now (out .exit)) x ⌝ }
+{
+    match answer {
+        WorkingAnswer::Days(n) => put_one(out, at, b"ok;", n as u64, b'\n'),
+        WorkingAnswer::OffRange => put_refusal(out, at, OFF_RANGE),
     }
 }
 

@@ -5,12 +5,12 @@ use Rattle.dates.specs.Numbers.{monthStart, yearStart, dayNumber, isReal, dayAn
 use Rattle.line_values.specs.Pinned.Words.{isSame}
 use Rattle.line_values.specs.Pinned.Numbers.{numberOf, moreOf, fixedOf}
 use Rattle.line_values.specs.Pinned.Days.{dayIn}
-use Rattle.ask_words.specs.Asked.{numberValue, dateValue, byOne, byTwo, byThree, askedBy, usage}
+use Rattle.ask_words.specs.Asked.{numberValue, dateValue, anyDateValue, byOne, byTwo, byThree, askedBy, usage}
 use Rattle.ask_words.specs.Examples.{WordsExamples}
 
 pub words-examples : WordsExamples
 unfolding leapRow monthLength monthStart yearStart dayNumber isReal dayAnswer isSame numberOf moreOf fixedOf
-    dayIn numberValue dateValue byOne byTwo byThree askedBy usage
+    dayIn numberValue dateValue anyDateValue byOne byTwo byThree askedBy usage
 words-examples =
     record {
       holder-on-4-january = refl;
@@ -23,6 +23,17 @@ words-examples =
       twelve-digits = refl;
       thirteen-digits = refl;
       advance-of-nothing = refl;
+      working-in-may = refl;
+      working-out-of-order = refl;
+      working-to-the-last-day = refl;
+      working-to-2200 = refl;
+      working-from-1999 = refl;
+      working-from-29-february = refl;
+      working-to-seven-digits = refl;
+      working-to-nine-digits = refl;
+      working-to-a-leading-zero = refl;
+      working-from-no-number = refl;
+      working-of-one-date = refl;
       all-questions = refl;
       all-and-more = refl;
       a-prefix = refl;

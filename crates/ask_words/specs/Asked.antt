@@ -1,8 +1,11 @@
--- What the words behind `ask` ask for: `holder P DATE`, `period P N`, `advance P`, `all`. Definitions only.
-use Prim.Native.Nat.{ℕ}
+-- What the words behind `ask` ask for: `holder P DATE`, `period P N`, `advance P`, `working DATE DATE`,
+-- `all`. Definitions only.
+use Prim.Native.Nat.{ℕ, suc}
 use mathlib.Core.Bool.{cond}
 use mathlib.Core.List.{List, [], _∷_, _++_}
 use lib.Dec.{eqb}
+use lib.ListN.{length}
+use Rattle.dates.specs.Dates.{lastDay}
 use Rattle.line_text.specs.Ascii.{ascii}
 use Rattle.line_values.specs.Pinned.Words.{isSame}
 use Rattle.line_values.specs.Pinned.Numbers.{Parsed, number, bad, numberOf}
@@ -22,19 +25,34 @@ numberValue w = valueOf (numberOf w)
 unfoldable pub dateValue : List ℕ → Value
 dateValue w = valueOf (dayIn w)
 
+-- 02, F-5: "days off the calendar .. give 22". A word of eight digits that is no date of the calendar stands for the
+-- first day off it.
+abbrev pub orOff : Value → Value → Value
+orOff (Value.Is d) v = Value.Is d
+orOff Value.Nothing (Value.Is n) = Value.Is (suc lastDay)
+orOff Value.Nothing Value.Nothing = Value.Nothing
+
+unfoldable pub anyDateValue : List ℕ → Value
+anyDateValue w = orOff (dateValue w) (cond (eqb (length w) 8) (numberValue w) Value.Nothing)
+
 abbrev pub advanceAsked : Value → Asked
 advanceAsked (Value.Is p) = Asked.One (Question.Advance p)
 advanceAsked Value.Nothing = Asked.Unknown
 
+-- What two values ask for; nothing where one of them is none.
+abbrev pub both : (ℕ → ℕ → Asked) → Value → Value → Asked
+both f (Value.Is a) (Value.Is b) = f a b
+both f (Value.Is a) Value.Nothing = Asked.Unknown
+both f Value.Nothing v = Asked.Unknown
+
 abbrev pub holderAsked : Value → Value → Asked
-holderAsked (Value.Is p) (Value.Is d) = Asked.One (Question.Holder p d)
-holderAsked (Value.Is p) Value.Nothing = Asked.Unknown
-holderAsked Value.Nothing v = Asked.Unknown
+holderAsked = both (λ p d. Asked.One (Question.Holder p d))
 
 abbrev pub periodAsked : Value → Value → Asked
-periodAsked (Value.Is p) (Value.Is n) = Asked.One (Question.Period p n)
-periodAsked (Value.Is p) Value.Nothing = Asked.Unknown
-periodAsked Value.Nothing v = Asked.Unknown
+periodAsked = both (λ p n. Asked.One (Question.Period p n))
+
+abbrev pub workingAsked : Value → Value → Asked
+workingAsked = both (λ a b. Asked.Working a b)
 
 -- One word, two words, three words.
 unfoldable pub byOne : List ℕ → Asked
@@ -46,7 +64,8 @@ byTwo w a = cond (isSame w (ascii "advance")) (advanceAsked (numberValue a)) Ask
 unfoldable pub byThree : List ℕ → List ℕ → List ℕ → Asked
 byThree w a b =
     cond (isSame w (ascii "holder")) (holderAsked (numberValue a) (dateValue b))
-    (cond (isSame w (ascii "period")) (periodAsked (numberValue a) (numberValue b)) Asked.Unknown)
+    (cond (isSame w (ascii "period")) (periodAsked (numberValue a) (numberValue b))
+    (cond (isSame w (ascii "working")) (workingAsked (anyDateValue a) (anyDateValue b)) Asked.Unknown))
 
 -- What n words ask for, of which w, a and b are the first three.
 unfoldable pub askedBy : ℕ → List ℕ → List ℕ → List ℕ → Asked
@@ -55,7 +74,8 @@ askedBy n w a b =
 
 -- What is written for other words, and where no register is open.
 unfoldable pub usage : List ℕ
-usage = ascii "usage: ask holder P DATE | ask period P N | ask advance P | ask all" ++ (10 ∷ [])
+usage =
+    ascii "usage: ask holder P DATE | ask period P N | ask advance P | ask working DATE DATE | ask all" ++ (10 ∷ [])
 
 unfoldable pub unopened : List ℕ
 unopened = ascii "unopened" ++ (10 ∷ [])

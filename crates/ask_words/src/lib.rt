@@ -1,4 +1,5 @@
 // What a program's words ask for, and what is written where they get no answer.
+use dates::LAST_DAY;
 use line_text::write::put_word;
 use line_values::Found;
 use line_values::date_at;
@@ -6,21 +7,24 @@ use line_values::number_at;
 use line_values::same;
 ghost use mathlib.Core.Path.{_≡_};
 ghost use Rattle.line_text.specs.Between.Appending.{Appended};
-ghost use Rattle.ask_words.specs.Asked.{numberValue, dateValue, holderAsked, periodAsked};
+ghost use Rattle.ask_words.specs.Asked.{numberValue, dateValue, anyDateValue};
+ghost use Rattle.ask_words.specs.Asked.{holderAsked, periodAsked, workingAsked};
 ghost use Rattle.ask_words.specs.Between.Whole.{wholeOf};
 ghost use Rattle.ask_words.specs.Asked.{byOne, byTwo, byThree, askedBy, usage, unopened};
 
-// One of the three questions, with any numbers.
+// A question to the register, with any numbers.
 pub enum Question {
     Holder { point: u64, day: u64 },
     Period { point: u64, number: u64 },
     Advance { point: u64 },
 }
 
-// What words ask for: one question, all of them, or nothing that there is.
+// What words ask for: one question to the register, all of them, the working days between two days, or nothing that
+// there is.
 pub enum Asked {
     One(Question),
     All,
+    Working { first: u64, second: u64 },
     Unknown,
 }
 
@@ -53,7 +57,7 @@ pub fn put_usage(out: &mut [u8], at: usize) -> usize
     put_word(
         out,
         at,
-        b"usage: ask holder P DATE | ask period P N | ask advance P | ask all\n",
+        b"usage: ask holder P DATE | ask period P N | ask advance P | ask working DATE DATE | ask all\n",
     )
 }
 
@@ -94,6 +98,9 @@ fn by_three(word: &[u8], first: &[u8], second: &[u8]) -> Asked
     if same(word, b"period") {
         return period_asked(number_value(first), number_value(second));
     }
+    if same(word, b"working") {
+        return working_asked(any_date_value(first), any_date_value(second));
+    }
     Asked::Unknown
 }
 
@@ -121,6 +128,21 @@ fn period_asked(first: Value, second: Value) -> Asked
     Asked::One(Question::Period { point, number })
 }
 
+fn working_asked(first: Value, second: Value) -> Asked
+    ensures { λ r. ⌜ r ≡ workingAsked first second ⌝ }
+{
+    let Value::Is(a) = first else {
+        return Asked::Unknown;
+    };
+    let Value::Is(b) = second else {
+        return Asked::Unknown;
+    };
+    Asked::Working {
+        first: a,
+        second: b,
+    }
+}
+
 // A word that is a number, 1 to 12 digits, no leading zero but 0 itself.
 fn number_value(word: &[u8]) -> Value
     ensures { λ r. ⌜ r ≡ numberValue (now (word .entry)) ⌝ }
@@ -133,6 +155,22 @@ fn date_value(word: &[u8]) -> Value
     ensures { λ r. ⌜ r ≡ dateValue (now (word .entry)) ⌝ }
 {
     whole(word.len(), date_at(word, 0))
+}
+
+// A word of eight digits; its value is the day, or the first day past the calendar where it is no date of it.
+fn any_date_value(word: &[u8]) -> Value
+    ensures { λ r. ⌜ r ≡ anyDateValue (now (word .entry)) ⌝ }
+{
+    if let Value::Is(day) = date_value(word) {
+        return Value::Is(day);
+    }
+    if word.len() != 8 {
+        return Value::Nothing;
+    }
+    let Value::Is(_) = number_value(word) else {
+        return Value::Nothing;
+    };
+    Value::Is(LAST_DAY as u64 + 1)
 }
 
 // What was read, where nothing follows it.

@@ -76,11 +76,31 @@ pub record Split (n : ℕ) : Type 0 where
   pub day : d < lengthIn k m
   pub total : numberFrom0 k m d ≡ n
 
+-- one of year k
+module _ (n k : ℕ) (year : k < 200) (from : yearStart k ≤ n) (to : n < yearStart (suc k)) where
+  abbrev row : ℕ
+  row = leapRow (2000 + k)
+
+  abbrev m : ℕ
+  m = guess row (n - yearStart k)
+
+  abbrev d : ℕ
+  d = n - yearStart k - monthStart row m
+
+  in-month : InMonth row (n - yearStart k) m
+  in-month = guess-in row (n - yearStart k) (row-is (2000 + k)) (omega (arith, year-step k))
+
+  split-in : Split n
+  unfolding monthStart
+  split-in = let h = in-month in record { k = k; m = m; d = d; year = year; month = h .0; day = omega arith; total = omega arith }
+
+  -- its date is of that year
+  pub year-of-date : dateOf n .year ≡ 2000 + k
+  unfolding split-in
+  year-of-date = let s = split-in in ap (λ (x : Date). x .year) (rw (s .total) at (counted k m d (s .month) (s .day)))
+
 pub split : (n : ℕ) → n ≤ 73048 → Split n
-unfolding monthStart
-split n h = let (k, year, from, to) = year-of n h in let row = leapRow (2000 + k) in let r = n - yearStart k in
-    let m = guess-in row r (row-is (2000 + k)) (omega (arith, year-step k)) in
-    record { k = k; m = guess row r; d = r - monthStart row (guess row r); year = year; month = m .0; day = omega arith; total = omega arith }
+split n h = let (k, year, from, to) = year-of n h in split-in n k year from to
 
 -- A number n whose year k begins at s and whose month m begins t days later, as the code finds them: what is left is
 -- the day of the month, and the three are the date of n.

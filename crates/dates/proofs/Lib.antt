@@ -6,4 +6,5 @@ pub mod Real
 pub mod Answers
 pub mod OneToOne
 pub mod ThreeMonths
+pub mod InYear
 pub mod Examples

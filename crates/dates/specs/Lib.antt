@@ -3,3 +3,4 @@ pub mod Numbers
 pub mod OneToOne
 pub mod Months
 pub mod Examples
+pub mod Between

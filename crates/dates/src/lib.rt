@@ -7,6 +7,7 @@ ghost use mathlib.Core.Path.{_≡_};
 ghost use Rattle.dates.specs.Dates.{weekday as Dates·weekday};
 ghost use Rattle.dates.specs.Numbers.{dayAnswer, dateAnswer};
 ghost use Rattle.dates.specs.Months.{threeMonthsAfter};
+ghost use Rattle.dates.specs.Between.Years.{yearAnswer};
 
 // The last day of the calendar.
 pub const LAST_DAY: u32 = 73048;
@@ -27,6 +28,19 @@ pub enum DayAnswer {
 // The date of a day.
 pub enum DateAnswer {
     On(Date),
+    OffCalendar,
+}
+
+// A year, counted from 2000: its first day, and the first day after it.
+pub struct CalendarYear {
+    pub index: u32,
+    pub start: u32,
+    pub end: u32,
+}
+
+// The year of a day.
+pub enum YearAnswer {
+    In(CalendarYear),
     OffCalendar,
 }
 
@@ -65,6 +79,21 @@ pub fn date_of(n: u64) -> DateAnswer
         return DateAnswer::OffCalendar;
     }
     DateAnswer::On(number::date_on(n as u32))
+}
+
+// The year of a day; only days of the calendar have one.
+pub fn year_of(n: u64) -> YearAnswer
+    ensures { λ r. ⌜ r ≡ yearAnswer n ⌝ }
+{
+    if n > LAST_DAY as u64 {
+        return YearAnswer::OffCalendar;
+    }
+    let k = year::of_day(n as u32);
+    YearAnswer::In(CalendarYear {
+        index: k,
+        start: year::start(k),
+        end: year::start(k + 1),
+    })
 }
 
 // The day of the week of a day: 0 is Monday, 6 is Sunday.

@@ -1,5 +1,9 @@
 -- The end statements, each by its theorem.
 use Rattle.dates.proofs.OneToOne.{one-to-one}
+use Rattle.year_words.proofs.Laws.{years-as-bits}
+use Rattle.year_words.proofs.Examples.{word-examples}
+use Rattle.working_count.proofs.Walk.{same-as-walk}
+use Rattle.working_count.proofs.Examples.{working-examples}
 use Rattle.rules.proofs.Examples.{p-examples}
 use Rattle.rules.proofs.RowExamples.{row-examples}
 use Rattle.agreement.proofs.Theorem.{day-book-agrees}
@@ -21,7 +25,11 @@ pub demands : Demands
 demands =
     record {
       days-and-dates = one-to-one;
+      years-as-bits = years-as-bits;
+      same-as-walk = same-as-walk;
       dated-examples = p-examples;
+      working-examples = working-examples;
+      word-examples = word-examples;
       row-examples = row-examples;
       answers-tabled = every-answer-tabled;
       one-text = one-text;

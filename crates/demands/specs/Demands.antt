@@ -3,6 +3,10 @@
 use Prim.Native.Nat.{ℕ}
 use mathlib.Core.List.{List}
 use Rattle.dates.specs.OneToOne.{OneToOne}
+use Rattle.year_words.specs.Bits.{YearsAsBits}
+use Rattle.year_words.specs.Examples.{WordExamples}
+use Rattle.working_count.specs.Walk.{SameAsWalk}
+use Rattle.working_count.specs.Examples.{WorkingExamples}
 use Rattle.rules.specs.Examples.{PExamples}
 use Rattle.rules.specs.RowExamples.{RowExamples}
 use Rattle.agreement.specs.Demand3.{DayBookAgrees}
@@ -19,11 +23,16 @@ use Rattle.input_whole.specs.Transcript.{TranscriptServed, EveryFeedGoesOn, Eve
 use Rattle.input_whole.specs.Examples.{TranscriptExamples}
 
 pub record Demands : Type 0 where
-  -- The calendar: days and dates, one to one.
+  -- The calendar: days and dates, one to one; a year of working days as bits; and what is counted by them is what a walk
+  -- day by day counts.
   pub days-and-dates : OneToOne
-  -- The rules beside document 01: its dated examples; for each number a case where it is given and one just beside;
-  -- the questions.
+  pub years-as-bits : YearsAsBits
+  pub same-as-walk : SameAsWalk
+  -- The rules beside document 01: its dated examples, and those of working days between two days and of their bits; for
+  -- each number a case where it is given and one just beside; the questions.
   pub dated-examples : PExamples
+  pub working-examples : WorkingExamples
+  pub word-examples : WordExamples
   pub row-examples : RowExamples
   pub question-examples : QuestionExamples
   -- Demand 1: every answer is accepted or one number of the table, number 8 with its day.

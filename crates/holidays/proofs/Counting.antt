@@ -1,5 +1,5 @@
 -- Counting working days: a walk day by day, a count that ends past the calendar, and the days between two days.
-use Rattle.basics.proofs.Basics.{_≡_, refl, _∙_, false, cond, _≤_, ℕ, _-_, _+_, _<_, suc, zero, add-zero, zero-add}
+use Rattle.basics.proofs.Basics.{_≡_, refl, false, cond, _≤_, ℕ, _-_, _+_, _<_, suc, zero, add-zero, zero-add}
 use Rattle.basics.proofs.Basics.{add-assoc, add-suc, suc-add, add-one, arith, lt-leb}
 use Rattle.holidays.specs.Working.{isWorking, workingFrom, workingBetween, workingDays}
 
@@ -14,12 +14,12 @@ unfolding workingFrom workingDays
 walk-end d last h = let e : last + 1 - d ≡ 0 = omega arith in rw e
 
 -- two stretches of days, one after the other
-stretches-sum : (s m n : ℕ) → workingFrom s (m + n) ≡ workingFrom s m + workingFrom (s + m) n
+pub stretches-sum : (s m n : ℕ) → workingFrom s (m + n) ≡ workingFrom s m + workingFrom (s + m) n
 unfolding workingFrom
 stretches-sum s zero n = rw (zero-add, zero-add, add-zero)
 stretches-sum s (suc m) n = rw (suc-add, stretches-sum (suc s) m n, suc-add, add-suc, add-assoc)
 
-past-idle : (n : ℕ) → 73049 ≤ n → isWorking n ≡ false
+pub past-idle : (n : ℕ) → 73049 ≤ n → isWorking n ≡ false
 unfolding isWorking
 past-idle n h = rw (lt-leb n 73048 h)
 
@@ -41,13 +41,9 @@ past-cut s last h g = let e : last + 1 - s ≡ (73049 - s) + (last - 73048) = om
     rw (e, stretches-sum s (73049 - s) (last - 73048)) (omega arith)
 
 -- the days after t and before e are those from the day after t to the day before e
-between-days : (t e : ℕ) → workingDays (t + 1) (e - 1) ≡ workingBetween t e
+pub between-days : (t e : ℕ) → workingDays (t + 1) (e - 1) ≡ workingBetween t e
 unfolding workingBetween workingDays
 between-days t e = let days : e - 1 + 1 - (t + 1) ≡ e - (t + 1) = omega arith in rw days
-
--- the same of a count n that was taken to day l
-pub between-counted : (n l t e : ℕ) → l ≡ e - 1 → n ≡ workingDays (t + 1) l → n ≡ workingBetween t e
-between-counted n l t e h k = rw h at k ∙ between-days t e
 
 -- Where e is not ahead no day lies between.
 pub between-none : (t e : ℕ) → e ≤ t → workingBetween t e ≡ 0

@@ -1,9 +1,9 @@
 // Conditions on days.
 use dates::LAST_DAY;
 use dates::three_months_after;
-use holidays::working_days;
 use rules::Pending;
 use rules::Settings;
+use working_count::working_between;
 ghost use mathlib.Core.Path.{_≡_};
 ghost use mathlib.Core.Bool.{_||_};
 ghost use Prim.Native.Nat.{_+_, min};
@@ -86,11 +86,7 @@ pub fn too_late(set: Settings, t: u64, q: Pending) -> bool
     let Pending::Request(_, e) = q else {
         return false;
     };
-    let end = e as u64;
-    if end <= t {
-        return 0 < set.w;
-    }
-    working_days(t + 1, end - 1) < set.w as u32
+    working_between(t, e as u64) < set.w as u32
 }
 
 // 27: not after the last reading, or past today.

@@ -1,5 +1,6 @@
 // The dated examples of the documents that need no register, on the calendar's code. Those that do are the cases in
 // dated/.
+use crate::between;
 use crate::tally;
 use crate::tally::Tally;
 use dates::DayAnswer;
@@ -12,7 +13,8 @@ pub(crate) fn all() -> Tally {
     t = moving_days(t);
     t = three_months(t);
     t = days_to_cancel(t);
-    ninths_of_may(t)
+    t = ninths_of_may(t);
+    between::all(t)
 }
 
 // 29 February 2020 is 7,364; there is no 29 February 2100.

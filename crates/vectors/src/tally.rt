@@ -74,6 +74,15 @@ pub(crate) fn told(t: Tally, what: &[u8], n: u64, expected: u64) -> Tally {
     one_more(after)
 }
 
+// The two days of which something is told.
+pub(crate) fn days(a: u64, b: u64) {
+    print(b"days ");
+    print_number(a);
+    print(b" and ");
+    print_number(b);
+    print(b", ");
+}
+
 pub(crate) fn report_cases(t: Tally) {
     print_number(t.compared);
     print(b" cases (");

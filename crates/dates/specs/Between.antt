@@ -1,0 +1,2 @@
+-- What passes between crates of the code only.
+pub mod Years

@@ -1,0 +1,5 @@
+mod Masks
+mod Parts
+pub mod Counting
+pub mod Walk
+pub mod Examples

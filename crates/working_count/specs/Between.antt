@@ -1,0 +1,2 @@
+-- What passes between functions of the code only.
+pub mod Parts

@@ -1,0 +1,4 @@
+pub mod Question
+pub mod Walk
+pub mod Between
+pub mod Examples

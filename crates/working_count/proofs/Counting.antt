@@ -1,7 +1,8 @@
 -- Counts of working days: a part and the rest, and that no count passes the calendar's days.
-use Rattle.basics.proofs.Basics.{_≡_, sym, true, false, Bool, cond, _≤_, ℕ, _-_, _+_, _<_, suc, zero, arith, cases, ltb, ltb-true, ltb-false}
+use Rattle.basics.proofs.Basics.{_≡_, sym, _≤_, ℕ, _-_, _+_, _<_, suc, zero, arith, cases, ltb, ltb-true, ltb-false}
 use Rattle.holidays.specs.Working.{isWorking, workingFrom}
 use Rattle.holidays.proofs.Counting.{stretches-sum, past-none}
+use Rattle.year_words.proofs.Bits.{bit-lt}
 use Rattle.working_count.specs.Between.Parts.{Counted}
 
 -- a part and the days after it
@@ -15,14 +16,10 @@ pub none-left : (d end : ℕ) → end ≤ d → workingFrom d (end - d) ≡ 0
 unfolding workingFrom
 none-left d end h = let e : end - d ≡ 0 = omega arith in rw e
 
-bit-le : (b : Bool) → cond b 1 0 ≤ 1
-bit-le true = omega arith
-bit-le false = omega arith
-
 few : (d n : ℕ) → workingFrom d n ≤ n
 unfolding workingFrom
 few d zero = omega arith
-few d (suc n) = omega (arith, few (suc d) n, bit-le (isWorking d))
+few d (suc n) = omega (arith, few (suc d) n, bit-lt (isWorking d))
 
 -- none of the days past the calendar counts
 long : (d n : ℕ) → 73050 ≤ d + n → workingFrom d n ≤ 73049

@@ -9,7 +9,8 @@ use Rattle.dates.specs.Numbers.{yearStart}
 use Rattle.holidays.specs.Working.{isWorking, workingFrom}
 use Rattle.year_words.specs.Words.{yearLength, isSet, bitsFrom}
 
-bit-lt : (b : Bool) → cond b 1 0 < 2
+-- a bit is 0 or 1
+pub bit-lt : (b : Bool) → cond b 1 0 < 2
 bit-lt true = lit< tt
 bit-lt false = lit< tt
 

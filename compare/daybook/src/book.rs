@@ -1,4 +1,4 @@
-//! 01, The day book, with 02's F-4: one cell for each point and gas day, one day at a time.
+//! 01, The day book, with 02's F-4 and F-6: one cell for each point and gas day, one day at a time.
 
 use crate::calendar::{Calendar, LAST_DAY};
 use crate::line::{Call, NewMeter, Settings};
@@ -129,6 +129,8 @@ pub struct Answer {
 #[derive(Clone, Copy, Debug, PartialEq)]
 pub struct Period {
     pub start: u64,
+    /// The first day after it; none while it is open.
+    pub end: Option<u64>,
     pub holder: u64,
     /// As the wheels count.
     pub volume: Raw,
@@ -567,7 +569,10 @@ impl DayBook {
             let cell = row[p as usize];
             if cell.marked {
                 let (start, holder) = (self.first_day + slot as u64, u64::from(cell.holder));
-                periods.push(Period { start, holder, volume: Raw::default(), normal: Normal::default() });
+                if let Some(before) = periods.last_mut() {
+                    before.end = Some(start);
+                }
+                periods.push(Period { start, end: None, holder, volume: Raw::default(), normal: Normal::default() });
             }
             if let Some(period) = periods.last_mut() {
                 period.volume += volumes[slot].booked;

@@ -18,7 +18,7 @@ use std::process::ExitCode;
 use tally::Tally;
 
 const USAGE: &str = "usage: generate lists N SEED FOLDER | generate tally FOLDER
-       generate spans N SEED | generate replies SPANS REPLIES
+       generate spans N SEED | generate replies SPANS REPLIES | generate views
        generate sample N SEED FOLDER | generate noise SEED BYTES";
 
 fn main() -> ExitCode {
@@ -30,6 +30,7 @@ fn main() -> ExitCode {
         ["tally", folder] => Some(tally(folder)),
         ["spans", count, seed] => number(count).zip(number(seed)).map(|(n, seed)| spans(n, seed)),
         ["replies", spans, told] => Some(replies(spans, told)),
+        ["views"] => Some(views()),
         ["sample", count, seed, folder] => number(count).zip(number(seed)).map(|(n, seed)| sample(n, seed, folder)),
         ["noise", seed, count] => number(seed).zip(number(count)).map(|(seed, n)| noise(seed, n)),
         _ => None,
@@ -82,15 +83,21 @@ fn spans(count: u64, seed: u64) -> io::Result<()> {
 
 /// Counts the replies to a file of spans by their kind, and names the kinds that are missing.
 fn replies(spans: &str, told: &str) -> io::Result<()> {
-    let replies = Replies::of(&fs::read_to_string(spans)?, &fs::read_to_string(told)?);
-    let never_came = match replies.never_came() {
-        none if none.is_empty() => "none".to_string(),
-        kinds => kinds.join(", "),
-    };
+    let replies = Replies::to_spans(&fs::read_to_string(spans)?, &fs::read_to_string(told)?);
     let mut output = io::stdout().lock();
-    writeln!(output, "{} spans by their reply, refused or a count", replies.spans())?;
+    writeln!(output, "{} spans by their reply, refused or a count", replies.count())?;
     write!(output, "{}", replies.table())?;
-    writeln!(output, "replies that can come and never came: {never_came}")
+    writeln!(output, "replies that can come and never came: {}", replies.never_came())
+}
+
+/// Counts the view lines on standard input by the kind of their reply, and names the kinds that are missing.
+fn views() -> io::Result<()> {
+    let (replies, with_own_normal) = Replies::to_views(io::stdin().lock())?;
+    let mut output = io::stdout().lock();
+    writeln!(output, "{} views by their reply, refused or a period by its end", replies.count())?;
+    write!(output, "{}", replies.table())?;
+    writeln!(output, "{with_own_normal} of the periods with an Nm³ volume of its own")?;
+    writeln!(output, "replies that can come and never came: {}", replies.never_came())
 }
 
 /// Random bytes; a few of them are made line feeds, digits and separators.

@@ -3,8 +3,10 @@
 use crate::random::Random;
 use daybook::calendar::{easter, Calendar, FIRST_YEAR, LAST_DAY, LAST_YEAR};
 
+type Make = fn(&mut SpanMaker) -> (u64, u64);
+
 /// Two days of the calendar, the first not after the last.
-const IN_ORDER: [fn(&mut SpanMaker) -> (u64, u64); 14] = [
+const IN_ORDER: [Make; 14] = [
     SpanMaker::one_day,
     SpanMaker::neighbours,
     SpanMaker::weeks,
@@ -22,7 +24,7 @@ const IN_ORDER: [fn(&mut SpanMaker) -> (u64, u64); 14] = [
 ];
 
 /// Two dates that are refused.
-const REFUSED: [fn(&mut SpanMaker) -> (u64, u64); 4] =
+const REFUSED: [Make; 4] =
     [SpanMaker::out_of_order, SpanMaker::before_the_calendar, SpanMaker::past_the_calendar, SpanMaker::no_date];
 
 /// Days after 1 January on both sides of each block of 64 days.
@@ -48,7 +50,7 @@ impl SpanMaker {
         format!("{first} {last}\n")
     }
 
-    fn dates(&mut self, days: fn(&mut SpanMaker) -> (u64, u64)) -> (u64, u64) {
+    fn dates(&mut self, days: Make) -> (u64, u64) {
         let (first, last) = days(self);
         (self.calendar.date(first), self.calendar.date(last))
     }

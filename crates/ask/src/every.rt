@@ -8,6 +8,8 @@ use line_text::write::put_number;
 use line_text::write::put_word;
 use questions::PeriodAnswer;
 use questions::period_of;
+use questions_supplier::OwnAnswer;
+use questions_supplier::own_period_of;
 use rules::Register;
 ghost use Prim.Native.Nat.{_≤_};
 ghost use lib.ListN.{length};
@@ -35,29 +37,39 @@ pub(crate) fn answer_all(r: Register) {
     flushed(&out, w);
 }
 
-// The advance; of an enrolled point period n for n from 0 to one past its count, and then the holder on each day from
-// the day before its first period to the day after the register's; of any other point the holder on the register's day,
-// and period 1.
+// The advance; of an enrolled point period n for n from 0 to one past its count, then the holder on each day from the day
+// before its first period to the day after the register's, and then the suppliers' views.
 fn of_point(out: &mut [u8], w: Waiting, r: Register, p: u64) -> Waiting
     requires { ⌜ w .len ≤ length (now out) ⌝ }
     ensures { λ x. ⌜ x .len ≤ length (now (out .exit)) ⌝ }
 {
     let advance = asked(out, w, r, Question::Advance { point: p });
     let PeriodAnswer::Of(first) = period_of(r, p, 1) else {
-        let day = r.day as u64;
-        let holder = asked(out, advance, r, Question::Holder { point: p, day });
-        return asked(
-            out,
-            holder,
-            r,
-            Question::Period {
-                point: p,
-                number: 1,
-            },
-        );
+        return of_other_point(out, advance, r, p);
     };
     let periods = of_periods(out, advance, r, p);
-    of_days(out, periods, r, p, first.start)
+    let days = of_days(out, periods, r, p, first.start);
+    of_suppliers(out, days, r, p)
+}
+
+// Of any other point the holder on the register's day, period 1, and the views of the suppliers 0 and 1.
+fn of_other_point(out: &mut [u8], w: Waiting, r: Register, p: u64) -> Waiting
+    requires { ⌜ w .len ≤ length (now out) ⌝ }
+    ensures { λ x. ⌜ x .len ≤ length (now (out .exit)) ⌝ }
+{
+    let day = r.day as u64;
+    let holder = asked(out, w, r, Question::Holder { point: p, day });
+    let period = asked(
+        out,
+        holder,
+        r,
+        Question::Period {
+            point: p,
+            number: 1,
+        },
+    );
+    let view = viewed(out, period, r, 0, p, 1);
+    viewed(out, view, r, 1, p, 1)
 }
 
 fn of_periods(out: &mut [u8], w: Waiting, r: Register, p: u64) -> Waiting
@@ -102,6 +114,55 @@ fn of_days(out: &mut [u8], w: Waiting, r: Register, p: u64, first: u32) -> Waiti
     after
 }
 
+// The views of the suppliers 0 to 100.
+fn of_suppliers(out: &mut [u8], w: Waiting, r: Register, p: u64) -> Waiting
+    requires { ⌜ w .len ≤ length (now out) ⌝ }
+    ensures { λ x. ⌜ x .len ≤ length (now (out .exit)) ⌝ }
+{
+    let mut after = w;
+    let mut s: u64 = 0;
+    while s < 101 {
+        after = of_views(out, after, r, s, p);
+        s += 1;
+    }
+    after
+}
+
+// A supplier's view n for n from 0 to one past the count of its periods.
+fn of_views(out: &mut [u8], w: Waiting, r: Register, s: u64, p: u64) -> Waiting
+    requires { ⌜ w .len ≤ length (now out) ⌝ }
+    ensures { λ x. ⌜ x .len ≤ length (now (out .exit)) ⌝ }
+{
+    let mut after = w;
+    let mut n: u64 = 0;
+    let mut is_last = false;
+    while n < 26 && !is_last {
+        after = viewed(out, after, r, s, p, n);
+        is_last = n > 0;
+        if let OwnAnswer::Of(_) = own_period_of(r, s, p, n) {
+            is_last = false;
+        }
+        n += 1;
+    }
+    after
+}
+
+fn viewed(out: &mut [u8], w: Waiting, r: Register, s: u64, p: u64, n: u64) -> Waiting
+    requires { ⌜ w .len ≤ length (now out) ⌝ }
+    ensures { λ x. ⌜ x .len ≤ length (now (out .exit)) ⌝ }
+{
+    asked(
+        out,
+        w,
+        r,
+        Question::View {
+            supplier: s,
+            point: p,
+            number: n,
+        },
+    )
+}
+
 // One question more; what waits is written where another line may find no room.
 fn asked(out: &mut [u8], w: Waiting, r: Register, q: Question) -> Waiting
     requires { ⌜ w .len ≤ length (now out) ⌝ }
@@ -122,7 +183,7 @@ fn asked(out: &mut [u8], w: Waiting, r: Register, q: Question) -> Waiting
     after
 }
 
-// `holder;P;DAY;`, `period;P;N;`, `advance;P;`, the day by its number.
+// `holder;P;DAY;`, `period;P;N;`, `advance;P;`, `view;S;P;N;`, the day by its number.
 fn put_question(out: &mut [u8], at: usize, q: Question) -> usize
     requires { ⌜ at ≤ length (now out) ⌝ }
     ensures { λ x. ⌜ x ≤ length (now (out .exit)) ⌝ }
@@ -131,6 +192,14 @@ fn put_question(out: &mut [u8], at: usize, q: Question) -> usize
         Question::Holder { point, day } => put_two(out, at, b"holder;", point, day),
         Question::Period { point, number } => put_two(out, at, b"period;", point, number),
         Question::Advance { point } => put_one(out, at, b"advance;", point),
+        Question::View {
+            supplier,
+            point,
+            number,
+        } => {
+            let next = put_two(out, at, b"view;", supplier, point);
+            put_field(out, next, number)
+        }
     }
 }
 

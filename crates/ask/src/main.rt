@@ -32,6 +32,7 @@ fn asked() -> Asked {
     let mut word = [0u8; 16];
     let mut first = [0u8; 16];
     let mut second = [0u8; 16];
+    let mut third = [0u8; 16];
     let count = os::arg_count();
     if count == 0 {
         return Asked::Unknown;
@@ -39,7 +40,14 @@ fn asked() -> Asked {
     let a = os::arg(1, &mut word);
     let b = os::arg(2, &mut first);
     let c = os::arg(3, &mut second);
-    asked_by(count - 1, &word[..a], &first[..b], &second[..c])
+    let d = os::arg(4, &mut third);
+    asked_by(
+        count - 1,
+        &word[..a],
+        &first[..b],
+        &second[..c],
+        &third[..d],
+    )
 }
 
 fn answer_one(r: Register, q: Question) {

@@ -3,11 +3,11 @@ use Rattle.basics.proofs.Basics.{refl}
 use Rattle.dates.specs.Dates.{leapRow, monthLength, next, dateOf}
 use Rattle.dates.specs.Numbers.{dateAnswer}
 use Rattle.line_text.specs.Decimal.{spell, fixed}
-use Rattle.ask_lines.specs.Lines.{holderReply, periodReply, advanceReply, workingReply}
+use Rattle.ask_lines.specs.Lines.{holderReply, periodReply, advanceReply, viewReply, workingReply}
 use Rattle.ask_lines.specs.Examples.{LinesExamples}
 
 pub lines-examples : LinesExamples
-unfolding leapRow monthLength next dateOf dateAnswer spell fixed holderReply periodReply advanceReply workingReply
+unfolding leapRow monthLength next dateOf dateAnswer spell fixed holderReply periodReply advanceReply viewReply workingReply
 lines-examples =
     record {
       holder-5 = refl;
@@ -20,6 +20,10 @@ lines-examples =
       advance-20000 = refl;
       advance-7-and-6 = refl;
       advance-refused = refl;
+      view-ended = refl;
+      view-open = refl;
+      view-off-range = refl;
+      view-out-of-perimeter = refl;
       working-2 = refl;
       working-0 = refl;
       working-50455 = refl;

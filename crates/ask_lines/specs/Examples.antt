@@ -6,9 +6,11 @@ use Rattle.questions.specs.declared.PeriodAnswer.the-variants as period
 use Rattle.questions.specs.declared.AdvanceAnswer.the-variants as advance
 use Rattle.rules.specs.Pinned.Register.{period as Register·period}
 use Rattle.questions.specs.Pinned.Questions.{held, refusedHolder, advances}
+use Rattle.questions_supplier.specs.declared.{PeriodEnd.PeriodEnd, OwnAnswer.OwnAnswer}
+use Rattle.questions_supplier.specs.ByBook.{ownPeriod}
 use Rattle.working_count.specs.declared.WorkingAnswer.the-variants as working
 use Rattle.line_text.specs.Ascii.{ascii}
-use Rattle.ask_lines.specs.Lines.{holderReply, periodReply, advanceReply, workingReply}
+use Rattle.ask_lines.specs.Lines.{holderReply, periodReply, advanceReply, viewReply, workingReply}
 
 abbrev pub ended : List ℕ → List ℕ
 ended l = l ++ (10 ∷ [])
@@ -30,6 +32,13 @@ pub record LinesExamples : Type 0 where
   pub advance-20000 : advanceReply (advance.Of (advances 20000 20000)) ≡ ended (ascii "ok;20000;20000")
   pub advance-7-and-6 : advanceReply (advance.Of (advances 7 6)) ≡ ended (ascii "ok;7;6")
   pub advance-refused : advanceReply advance.OffRange ≡ ended (ascii "refused;22")
+  -- 02, F-6: an end is a date, and an open period has none
+  pub view-ended : viewReply (OwnAnswer.Of (ownPeriod 7674 (PeriodEnd.At 7684) 10000 9500)) ≡
+      ended (ascii "ok;20210104;20210114;10000;9500")
+  pub view-open : viewReply (OwnAnswer.Of (ownPeriod 7674 PeriodEnd.Open 16000 16000)) ≡
+      ended (ascii "ok;20210104;-;16000;16000")
+  pub view-off-range : viewReply OwnAnswer.OffRange ≡ ended (ascii "refused;22")
+  pub view-out-of-perimeter : viewReply OwnAnswer.OutOfPerimeter ≡ ended (ascii "refused;41")
   pub working-2 : workingReply (working.Days 2) ≡ ended (ascii "ok;2")
   pub working-0 : workingReply (working.Days 0) ≡ ended (ascii "ok;0")
   pub working-50455 : workingReply (working.Days 50455) ≡ ended (ascii "ok;50455")

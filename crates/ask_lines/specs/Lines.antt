@@ -9,6 +9,8 @@ use Rattle.questions.specs.declared.PeriodAnswer.the-variants as period
 use Rattle.questions.specs.declared.AdvanceAnswer.the-variants as advance
 use Rattle.questions.specs.Pinned.Questions.{holderAnswer, periodAnswer, advanceAnswer}
 use Rattle.questions.specs.Pinned.Questions.{heldNumber, periodNumber, advanceNumber}
+use Rattle.questions_supplier.specs.declared.{PeriodEnd.PeriodEnd, OwnPeriod.OwnPeriod, OwnAnswer.OwnAnswer}
+use Rattle.questions_supplier.specs.Pinned.Own.{ownAnswer, ownNumber}
 use Rattle.working_count.specs.declared.{WorkingAnswer.WorkingAnswer}
 use Rattle.working_count.specs.declared.WorkingAnswer.the-variants as working
 use Rattle.working_count.specs.Question.{workingNumber}
@@ -25,6 +27,11 @@ field v end = decimal v (end ∷ [])
 -- lines.
 abbrev pub dateField : ℕ → ℕ → List ℕ
 dateField d end = dayText d (end ∷ [])
+
+-- Where a period ends, `-` where it has no end, and the byte behind it.
+abbrev pub endField : PeriodEnd → ℕ → List ℕ
+endField PeriodEnd.Open end = ascii "-" ++ (end ∷ [])
+endField (PeriodEnd.At d) end = dateField d end
 
 abbrev pub one : List ℕ → ℕ → ℕ → List ℕ
 one w v end = w ++ field v end
@@ -43,6 +50,10 @@ okPeriod start holder v n = ascii "ok;" ++ (dateField start 59 ++ (field holder 
 -- 01: "advance of p".
 abbrev pub okAdvance : Volume → NormalVolume → List ℕ
 okAdvance v n = ascii "ok;" ++ volumes v n
+
+-- 02, F-6: "start, end if any (the next period's start), volumes".
+abbrev pub okView : OwnPeriod → List ℕ
+okView q = ascii "ok;" ++ (dateField (q .start) 59 ++ (endField (q .end) 59 ++ volumes (q .volume) (q .normal)))
 
 -- `refused;` and the number.
 abbrev pub refusal : ℕ → List ℕ
@@ -65,6 +76,12 @@ unfoldable pub advanceReply : AdvanceAnswer → List ℕ
 advanceReply (advance.Of a) = okAdvance (a .volume) (a .normal)
 advanceReply advance.OffRange = refusal (advanceNumber advance.OffRange)
 
+-- 02, F-6: "A supplier off 1 to 99 gives 22. New numbers: 41, not in this supplier's perimeter".
+unfoldable pub viewReply : OwnAnswer → List ℕ
+viewReply (OwnAnswer.Of q) = okView q
+viewReply OwnAnswer.OffRange = refusal (ownNumber OwnAnswer.OffRange)
+viewReply OwnAnswer.OutOfPerimeter = refusal (ownNumber OwnAnswer.OutOfPerimeter)
+
 -- 02, F-5: the count of working days strictly between two days; "days off the calendar or out of order give 22."
 unfoldable pub workingReply : WorkingAnswer → List ℕ
 workingReply (working.Days n) = one (ascii "ok;") n 10
@@ -75,3 +92,4 @@ unfoldable pub reply : Register → Question → List ℕ
 reply r (Question.Holder p d) = holderReply (holderAnswer r p d)
 reply r (Question.Period p n) = periodReply (periodAnswer r p n)
 reply r (Question.Advance p) = advanceReply (advanceAnswer r p)
+reply r (Question.View s p n) = viewReply (ownAnswer r s p n)

@@ -11,6 +11,10 @@ use questions::PeriodAnswer;
 use questions::advance_of;
 use questions::holder_of;
 use questions::period_of;
+use questions_supplier::OwnAnswer;
+use questions_supplier::OwnPeriod;
+use questions_supplier::PeriodEnd;
+use questions_supplier::own_period_of;
 use rules::NormalVolume;
 use rules::Register;
 use rules::Volume;
@@ -19,12 +23,17 @@ use working_count::working_of;
 ghost use Prim.Native.Nat.{_+_, _≤_};
 ghost use lib.ListN.{length};
 ghost use Rattle.line_text.specs.Between.Appending.{Appended, AppendedWithin};
-ghost use Rattle.ask_lines.specs.Lines.{field, dateField, one, two, volumes, okPeriod, okAdvance, refusal};
-ghost use Rattle.ask_lines.specs.Lines.{holderReply, periodReply, advanceReply, workingReply, reply};
+ghost use Rattle.ask_lines.specs.Lines.{field, dateField, endField, one, two, volumes};
+ghost use Rattle.ask_lines.specs.Lines.{okPeriod, okAdvance, okView, refusal};
+ghost use Rattle.ask_lines.specs.Lines.{holderReply, periodReply, advanceReply, viewReply, workingReply};
+ghost use Rattle.ask_lines.specs.Lines.{reply};
 ghost use Rattle.working_count.specs.Question.{workingAnswer};
 
 // The number of a question off its range.
 const OFF_RANGE: u64 = 22;
+
+// The number of what is not in a supplier's perimeter.
+const OUT_OF_PERIMETER: u64 = 41;
 
 // The line that answers a question.
 pub fn put_reply(out: &mut [u8], at: usize, r: Register, q: Question) -> usize
@@ -55,6 +64,11 @@ fn put_answer(out: &mut [u8], at: usize, r: Register, q: Question) -> usize
         Question::Holder { point, day } => put_holder(out, at, holder_of(r, point, day)),
         Question::Period { point, number } => put_period(out, at, period_of(r, point, number)),
         Question::Advance { point } => put_advance(out, at, advance_of(r, point)),
+        Question::View {
+            supplier,
+            point,
+            number,
+        } => put_view(out, at, own_period_of(r, supplier, point, number)),
     }
 }
 
@@ -94,6 +108,17 @@ fn put_advance(out: &mut [u8], at: usize, answer: AdvanceAnswer) -> usize
             put_ok_advance(out, at, volume, normal)
         }
         AdvanceAnswer::OffRange => put_refusal(out, at, OFF_RANGE),
+    }
+}
+
+fn put_view(out: &mut [u8], at: usize, answer: OwnAnswer) -> usize
+    requires { ⌜ at + 75 ≤ length (now out) ⌝ }
+    ensures { λ x. ⌜ AppendedWithin 75 at (viewReply answer) (now (out .entry)) (now (out .exit)) x ⌝ }
+{
+    match answer {
+        OwnAnswer::Of(q) => put_ok_view(out, at, q),
+        OwnAnswer::OffRange => put_refusal(out, at, OFF_RANGE),
+        OwnAnswer::OutOfPerimeter => put_refusal(out, at, OUT_OF_PERIMETER),
     }
 }
 
@@ -156,6 +181,20 @@ fn put_ok_period(
     put_volumes(out, volume_at, volume, normal)
 }
 
+// `ok;`, a period's start and end as dates, and its volumes.
+fn put_ok_view(out: &mut [u8], at: usize, q: OwnPeriod) -> usize
+    requires { ⌜ at + 75 ≤ length (now out) ⌝ }
+    ensures { λ x. ⌜ AppendedWithin 75 at (okView q) (now (out .entry)) (now (out .exit)) x ⌝ }
+{
+    let end = q.end;
+    let volume = q.volume;
+    let normal = q.normal;
+    let start_at = put_word(out, at, b"ok;");
+    let end_at = put_date(out, start_at, q.start as u64, b';');
+    let volume_at = put_end(out, end_at, end, b';');
+    put_volumes(out, volume_at, volume, normal)
+}
+
 // The two volumes that end a line.
 fn put_volumes(out: &mut [u8], at: usize, volume: Volume, normal: NormalVolume) -> usize
     requires { ⌜ at + 42 ≤ length (now out) ⌝ }
@@ -193,4 +232,18 @@ fn put_date(out: &mut [u8], at: usize, day: u64, end: u8) -> usize
 {
     let next = put_day(out, at, day);
     put_byte(out, next, end)
+}
+
+// Where a period ends, and the byte behind it: `-` where it is open.
+fn put_end(out: &mut [u8], at: usize, when: PeriodEnd, end: u8) -> usize
+    requires { ⌜ at + 9 ≤ length (now out) ⌝ }
+    ensures { λ x. ⌜ AppendedWithin 9 at (endField when end) (now (out .entry)) (now (out .exit)) x ⌝ }
+{
+    match when {
+        PeriodEnd::Open => {
+            let next = put_byte(out, at, b'-');
+            put_byte(out, next, end)
+        }
+        PeriodEnd::At(day) => put_date(out, at, day as u64, end),
+    }
 }

@@ -5,12 +5,12 @@ use Rattle.dates.specs.Numbers.{monthStart, yearStart, dayNumber, isReal, dayAn
 use Rattle.line_values.specs.Pinned.Words.{isSame}
 use Rattle.line_values.specs.Pinned.Numbers.{numberOf, moreOf, fixedOf}
 use Rattle.line_values.specs.Pinned.Days.{dayIn}
-use Rattle.ask_words.specs.Asked.{numberValue, dateValue, anyDateValue, byOne, byTwo, byThree, askedBy, usage}
+use Rattle.ask_words.specs.Asked.{numberValue, dateValue, anyDateValue, byOne, byTwo, byThree, byFour, askedBy, usage}
 use Rattle.ask_words.specs.Examples.{WordsExamples}
 
 pub words-examples : WordsExamples
 unfolding leapRow monthLength monthStart yearStart dayNumber isReal dayAnswer isSame numberOf moreOf fixedOf
-    dayIn numberValue dateValue anyDateValue byOne byTwo byThree askedBy usage
+    dayIn numberValue dateValue anyDateValue byOne byTwo byThree byFour askedBy usage
 words-examples =
     record {
       holder-on-4-january = refl;
@@ -34,10 +34,18 @@ words-examples =
       working-to-a-leading-zero = refl;
       working-from-no-number = refl;
       working-of-one-date = refl;
+      view-of-5 = refl;
+      view-of-zeros = refl;
+      view-of-twelve-digits = refl;
+      view-of-thirteen-digits = refl;
+      view-with-a-leading-zero = refl;
+      view-of-no-point = refl;
+      view-without-a-number = refl;
       all-questions = refl;
       all-and-more = refl;
       a-prefix = refl;
       no-word = refl;
       four-words = refl;
+      five-words = refl;
       usage-line = refl;
     }

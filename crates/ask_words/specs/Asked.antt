@@ -1,4 +1,4 @@
--- What the words behind `ask` ask for: `holder P DATE`, `period P N`, `advance P`, `working DATE DATE`,
+-- What the words behind `ask` ask for: `holder P DATE`, `period P N`, `advance P`, `view S P N`, `working DATE DATE`,
 -- `all`. Definitions only.
 use Prim.Native.Nat.{ℕ, suc}
 use mathlib.Core.Bool.{cond}
@@ -18,7 +18,7 @@ valueOf (number n []) = Value.Is n
 valueOf (number n (c ∷ l)) = Value.Nothing
 valueOf bad = Value.Nothing
 
--- P and N are decimal as in message lines, DATE is aaaammjj, a date of the calendar.
+-- S, P and N are decimal as in message lines, DATE is aaaammjj, a date of the calendar.
 unfoldable pub numberValue : List ℕ → Value
 numberValue w = valueOf (numberOf w)
 
@@ -51,10 +51,15 @@ holderAsked = both (λ p d. Asked.One (Question.Holder p d))
 abbrev pub periodAsked : Value → Value → Asked
 periodAsked = both (λ p n. Asked.One (Question.Period p n))
 
+-- 02, F-6: "A supplier names itself, a point and n"
+abbrev pub viewAsked : Value → Value → Value → Asked
+viewAsked (Value.Is s) v w = both (λ p n. Asked.One (Question.View s p n)) v w
+viewAsked Value.Nothing v w = Asked.Unknown
+
 abbrev pub workingAsked : Value → Value → Asked
 workingAsked = both (λ a b. Asked.Working a b)
 
--- One word, two words, three words.
+-- One word, two, three, four.
 unfoldable pub byOne : List ℕ → Asked
 byOne w = cond (isSame w (ascii "all")) Asked.All Asked.Unknown
 
@@ -67,15 +72,21 @@ byThree w a b =
     (cond (isSame w (ascii "period")) (periodAsked (numberValue a) (numberValue b))
     (cond (isSame w (ascii "working")) (workingAsked (anyDateValue a) (anyDateValue b)) Asked.Unknown))
 
--- What n words ask for, of which w, a and b are the first three.
-unfoldable pub askedBy : ℕ → List ℕ → List ℕ → List ℕ → Asked
-askedBy n w a b =
-    cond (eqb n 1) (byOne w) (cond (eqb n 2) (byTwo w a) (cond (eqb n 3) (byThree w a b) Asked.Unknown))
+unfoldable pub byFour : List ℕ → List ℕ → List ℕ → List ℕ → Asked
+byFour w a b c =
+    cond (isSame w (ascii "view")) (viewAsked (numberValue a) (numberValue b) (numberValue c)) Asked.Unknown
+
+-- What n words ask for, of which w, a, b and c are the first four.
+unfoldable pub askedBy : ℕ → List ℕ → List ℕ → List ℕ → List ℕ → Asked
+askedBy n w a b c =
+    cond (eqb n 1) (byOne w)
+    (cond (eqb n 2) (byTwo w a) (cond (eqb n 3) (byThree w a b) (cond (eqb n 4) (byFour w a b c) Asked.Unknown)))
 
 -- What is written for other words, and where no register is open.
 unfoldable pub usage : List ℕ
 usage =
-    ascii "usage: ask holder P DATE | ask period P N | ask advance P | ask working DATE DATE | ask all" ++ (10 ∷ [])
+    ascii "usage: ask holder P DATE | ask period P N | ask advance P | ask view S P N | ask working DATE DATE | ask all"
+    ++ (10 ∷ [])
 
 unfoldable pub unopened : List ℕ
 unopened = ascii "unopened" ++ (10 ∷ [])

@@ -8,15 +8,28 @@ use line_values::same;
 ghost use mathlib.Core.Path.{_≡_};
 ghost use Rattle.line_text.specs.Between.Appending.{Appended};
 ghost use Rattle.ask_words.specs.Asked.{numberValue, dateValue, anyDateValue};
-ghost use Rattle.ask_words.specs.Asked.{holderAsked, periodAsked, workingAsked};
+ghost use Rattle.ask_words.specs.Asked.{holderAsked, periodAsked, viewAsked, workingAsked};
 ghost use Rattle.ask_words.specs.Between.Whole.{wholeOf};
-ghost use Rattle.ask_words.specs.Asked.{byOne, byTwo, byThree, askedBy, usage, unopened};
+ghost use Rattle.ask_words.specs.Asked.{byOne, byTwo, byThree, byFour, askedBy, usage, unopened};
 
 // A question to the register, with any numbers.
 pub enum Question {
-    Holder { point: u64, day: u64 },
-    Period { point: u64, number: u64 },
-    Advance { point: u64 },
+    Holder {
+        point: u64,
+        day: u64,
+    },
+    Period {
+        point: u64,
+        number: u64,
+    },
+    Advance {
+        point: u64,
+    },
+    View {
+        supplier: u64,
+        point: u64,
+        number: u64,
+    },
 }
 
 // What words ask for: one question to the register, all of them, the working days between two days, or nothing that
@@ -34,9 +47,11 @@ pub enum Value {
     Nothing,
 }
 
-// What count words ask for, of which these are the first three.
-pub fn asked_by(count: usize, word: &[u8], first: &[u8], second: &[u8]) -> Asked
-    ensures { λ r. ⌜ r ≡ askedBy count (now (word .entry)) (now (first .entry)) (now (second .entry)) ⌝ }
+// What count words ask for, of which these are the first four.
+pub fn asked_by(count: usize, word: &[u8], first: &[u8], second: &[u8], third: &[u8]) -> Asked
+    ensures { λ r. ⌜
+        r ≡ askedBy count (now (word .entry)) (now (first .entry)) (now (second .entry)) (now (third .entry))
+        ⌝ }
 {
     if count == 1 {
         return by_one(word);
@@ -46,6 +61,9 @@ pub fn asked_by(count: usize, word: &[u8], first: &[u8], second: &[u8]) -> Asked
     }
     if count == 3 {
         return by_three(word, first, second);
+    }
+    if count == 4 {
+        return by_four(word, first, second, third);
     }
     Asked::Unknown
 }
@@ -57,7 +75,7 @@ pub fn put_usage(out: &mut [u8], at: usize) -> usize
     put_word(
         out,
         at,
-        b"usage: ask holder P DATE | ask period P N | ask advance P | ask working DATE DATE | ask all\n",
+        b"usage: ask holder P DATE | ask period P N | ask advance P | ask view S P N | ask working DATE DATE | ask all\n",
     )
 }
 
@@ -104,6 +122,21 @@ fn by_three(word: &[u8], first: &[u8], second: &[u8]) -> Asked
     Asked::Unknown
 }
 
+fn by_four(word: &[u8], first: &[u8], second: &[u8], third: &[u8]) -> Asked
+    ensures { λ r. ⌜
+        r ≡ byFour (now (word .entry)) (now (first .entry)) (now (second .entry)) (now (third .entry))
+        ⌝ }
+{
+    if same(word, b"view") {
+        return view_asked(
+            number_value(first),
+            number_value(second),
+            number_value(third),
+        );
+    }
+    Asked::Unknown
+}
+
 fn holder_asked(first: Value, second: Value) -> Asked
     ensures { λ r. ⌜ r ≡ holderAsked first second ⌝ }
 {
@@ -126,6 +159,25 @@ fn period_asked(first: Value, second: Value) -> Asked
         return Asked::Unknown;
     };
     Asked::One(Question::Period { point, number })
+}
+
+fn view_asked(first: Value, second: Value, third: Value) -> Asked
+    ensures { λ r. ⌜ r ≡ viewAsked first second third ⌝ }
+{
+    let Value::Is(supplier) = first else {
+        return Asked::Unknown;
+    };
+    let Value::Is(point) = second else {
+        return Asked::Unknown;
+    };
+    let Value::Is(number) = third else {
+        return Asked::Unknown;
+    };
+    Asked::One(Question::View {
+        supplier,
+        point,
+        number,
+    })
 }
 
 fn working_asked(first: Value, second: Value) -> Asked

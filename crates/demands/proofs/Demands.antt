@@ -11,6 +11,9 @@ use Rattle.agreement.proofs.Sound.{sound-registers}
 use Rattle.agreement.proofs.Parts.{parts-add-up}
 use Rattle.questions.proofs.Asking.{asking}
 use Rattle.questions.proofs.Examples.{question-examples}
+use Rattle.questions_supplier.proofs.Asking.{own-asking}
+use Rattle.questions_supplier.proofs.Apart.{halves-apart}
+use Rattle.questions_supplier.proofs.Examples.{own-examples}
 use Rattle.line_values.proofs.OneText.{one-text}
 use Rattle.line_messages.proofs.OneLine.{one-line}
 use Rattle.input_lines.proofs.LineLaws.{lines-are}
@@ -39,6 +42,9 @@ demands =
       parts-add-up = parts-add-up;
       questions = asking;
       question-examples = question-examples;
+      own-examples = own-examples;
+      suppliers = own-asking;
+      halves-apart = halves-apart;
       closing-lines = listing-by-book;
       lines = lines-are;
       transcript = transcript-served;

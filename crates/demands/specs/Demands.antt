@@ -14,6 +14,9 @@ use Rattle.agreement.specs.Sound.{SoundRegisters}
 use Rattle.agreement.specs.Parts.{PartsAddUp}
 use Rattle.questions.specs.Asking.{Asking}
 use Rattle.questions.specs.Examples.{QuestionExamples}
+use Rattle.questions_supplier.specs.Asking.{OwnAsking}
+use Rattle.questions_supplier.specs.Apart.{HalvesApart}
+use Rattle.questions_supplier.specs.Examples.{OwnExamples}
 use Rattle.line_values.specs.OneText.{OneText}
 use Rattle.line_messages.specs.OneLine.{OneLine}
 use Rattle.input_lines.specs.Laws.{LinesAre}
@@ -29,12 +32,13 @@ pub record Demands : Type 0 where
   pub years-as-bits : YearsAsBits
   pub same-as-walk : SameAsWalk
   -- The rules beside document 01: its dated examples, and those of working days between two days and of their bits; for
-  -- each number a case where it is given and one just beside; the questions.
+  -- each number a case where it is given and one just beside; the questions; a supplier's view.
   pub dated-examples : PExamples
   pub working-examples : WorkingExamples
   pub word-examples : WordExamples
   pub row-examples : RowExamples
   pub question-examples : QuestionExamples
+  pub own-examples : OwnExamples
   -- Demand 1: every answer is accepted or one number of the table, number 8 with its day.
   pub answers-tabled : EveryAnswerTabled
   -- Demand 2: numbers and dates have one text each; each call and each opening has exactly one line, which reads as
@@ -47,9 +51,12 @@ pub record Demands : Type 0 where
   pub sound-registers : SoundRegisters
   -- The parts of a reading add up to its total, in either volume and by whatever factor.
   pub parts-add-up : PartsAddUp
-  -- And so are its questions and its closing lines.
+  -- And so are its questions, what each supplier may see of its own, and its closing lines.
   pub questions : Asking
+  pub suppliers : OwnAsking
   pub closing-lines : ListingByBook
+  -- Neither supplier sees the other's half.
+  pub halves-apart : HalvesApart
   -- The programs: the lines of an input; what is handed on for them however the input is cut, which is the day
   -- book's; the desk that `ask` asks; and that handing in the rest again and again takes all of it.
   pub lines : (input : List ℕ) → LinesAre input

@@ -86,7 +86,7 @@ module _ (o : Opening) (ok : isAccepted (openingAnswer o) ≡ true) (calls : Lis
     periods-are = let h = tied .point in
         rw same-day (periods-told point (h .firm wheels .sized) (λ x. daysOn x l) (g .cells) (h .told) (r .day) (h .live))
 
-    unborn : unasked r p ≡ true → (n ≡ []) × (point .history .count ≡ 0)
+    pub unborn : unasked r p ≡ true → (n ≡ []) × (point .history .count ≡ 0)
     unborn off = let h = tied .point in let z : g .fields .enrolled ≡ false = rw (h .same) (not-true _ (rw (le-ltb p 1 lo, le-ltb 32 p hi) at off)) in
         (h .outside z, sym (length-listed wheels (point .history)) ∙ ap length (h .firm wheels .none z))
 

@@ -14,7 +14,7 @@ use Rattle.questions.specs.Seen.{notAsked, withoutPending, SameAnswers, 
 use Rattle.rules.proofs.Views.{passed}
 
 -- The point that stands for none has no request already.
-point-unseen : (p : ℕ) (ps : List Point) → pointAt p (map notAsked ps) ≡ notAsked (pointAt p ps)
+pub point-unseen : (p : ℕ) (ps : List Point) → pointAt p (map notAsked ps) ≡ notAsked (pointAt p ps)
 point-unseen p ps = List·getD-map notAsked ps (p - 1) noPoint
 
 unseen : (r : Register) → SameAnswers (withoutPending r) r
@@ -57,10 +57,18 @@ applied-unseen : (r : Register) (t : ℕ) (a : Action) → withoutPending (done 
 unfolding applied done
 applied-unseen r t a e = cases (isAccepted (says r (on t a))) (λ ok. rw (ok, day-accepted r t a ok) e) (λ ok. rw ok)
 
+pub request-hidden : (r : Register) (t p s k d : ℕ)
+    → withoutPending (applied r (on t (Action.At p (PointAction.Request s k d))) .register)
+    ≡ withoutPending (onlyDay r t (Action.At p (PointAction.Request s k d)))
+request-hidden r t p s k d = applied-unseen r t (Action.At p (PointAction.Request s k d)) (request-done (advanced t r) t p s k d)
+
+pub cancel-hidden : (r : Register) (t p s : ℕ) → withoutPending (applied r (on t (Action.At p (PointAction.Cancel s))) .register)
+    ≡ withoutPending (onlyDay r t (Action.At p (PointAction.Cancel s)))
+cancel-hidden r t p s = applied-unseen r t (Action.At p (PointAction.Cancel s)) (cancel-done (advanced t r) t p s)
+
 pub request-unseen : RequestUnseen
 request-unseen =
     record {
-      request = λ r t p s k d. pending-unseen _ _
-          (applied-unseen r t (Action.At p (PointAction.Request s k d)) (request-done (advanced t r) t p s k d));
-      cancel = λ r t p s. pending-unseen _ _ (applied-unseen r t (Action.At p (PointAction.Cancel s)) (cancel-done (advanced t r) t p s));
+      request = λ r t p s k d. pending-unseen _ _ (request-hidden r t p s k d);
+      cancel = λ r t p s. pending-unseen _ _ (cancel-hidden r t p s);
     }

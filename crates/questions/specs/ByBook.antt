@@ -30,7 +30,7 @@ periodsIn vol nor end (cell d h true ∷ cs) l =
 periodsIn vol nor end (cell d h false ∷ cs) l = periodsIn vol nor end cs l
 
 -- The n-th of a list, counted from 0.
-unfoldable pub nth : ℕ → List Period → Option Period
+unfoldable pub nth : {A : Type 0} → ℕ → List A → Option A
 nth n [] = none
 nth zero (q ∷ qs) = some q
 nth (suc n) (q ∷ qs) = nth n qs

@@ -10,7 +10,7 @@ use rules::Volume;
 ghost use mathlib.Core.Path.{_≡_};
 ghost use Prim.Native.Nat.{_+_, _%_, _^_, _≤_};
 ghost use Rattle.rules.specs.Pinned.Register.{pointAt};
-ghost use Rattle.questions.specs.Pinned.Questions.{unasked, holderAmong, holderAnswer};
+ghost use Rattle.questions.specs.Pinned.Questions.{unasked, askedHistory, holderAmong, holderAnswer};
 ghost use Rattle.questions.specs.Pinned.Questions.{periodAnswer, advanceAmong, advanceIn, advanceAnswer};
 
 // The answers to questions; a question off its range is refused.
@@ -61,6 +61,24 @@ fn history_of(r: Register, p: u64) -> History
     let i = (p - 1) as usize;
     let g = r.points[i];
     g.history
+}
+
+// The periods of point p; none where there is no such point, or where it is not enrolled.
+pub fn asked_history(r: Register, p: u64) -> History
+    ensures { λ x. ⌜ x ≡ askedHistory r p ⌝ }
+{
+    if is_unasked(r, p) {
+        return History {
+            count: 0,
+            periods: [Period {
+                start: 0,
+                holder: 0,
+                volume: Volume(0),
+                normal: NormalVolume(0),
+            }; 24],
+        };
+    }
+    history_of(r, p)
 }
 
 // The first n periods, the newest first, up to the first that starts on or before a day.

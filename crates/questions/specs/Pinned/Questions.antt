@@ -4,10 +4,10 @@ use mathlib.Core.List.{List}
 use mathlib.Core.Option.{Option, none, some}
 use Prim.Native.Nat.{ℕ, zero, suc, _+_, _-_, _%_, _^_}
 use lib.Dec.{leb, ltb}
-use lib.ListN.{getD}
+use lib.ListN.{getD, replicate}
 use Rattle.rules.specs.declared.{Period.Period, History.History, Register.Register}
 use Rattle.rules.specs.Rejections.{notPoint, outside}
-use Rattle.rules.specs.Pinned.Register.{noPeriod, used, pointAt}
+use Rattle.rules.specs.Pinned.Register.{history, noPeriod, used, pointAt}
 use Rattle.questions.specs.declared.{Held.Held, HolderAnswer.HolderAnswer, PeriodAnswer.PeriodAnswer}
 use Rattle.questions.specs.declared.{Advance.Advance, AdvanceAnswer.AdvanceAnswer}
 use Rattle.questions.specs.declared.PeriodAnswer.the-variants as period
@@ -16,6 +16,10 @@ use Rattle.questions.specs.declared.AdvanceAnswer.the-variants as advanc
 -- "A question off its range, or on a point not enrolled, gives 22."
 abbrev pub unasked : Register → ℕ → Bool
 unasked r p = notPoint p || not (pointAt p (r .points) .fields .enrolled)
+
+-- The periods that may be asked about: none of a point off its range, or not enrolled.
+unfoldable pub askedHistory : Register → ℕ → History
+askedHistory r p = cond (unasked r p) (history 0 (replicate 24 noPeriod)) (pointAt p (r .points) .history)
 
 abbrev pub held : ℕ → ℕ → HolderAnswer
 held h n = record { held = Held.Holder h; probes = n }

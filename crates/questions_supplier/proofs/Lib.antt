@@ -1,0 +1,5 @@
+pub mod Slots
+pub mod Own
+pub mod Asking
+pub mod Apart
+pub mod Examples

@@ -2,6 +2,8 @@
 // between two dates are told at once: nothing is read for them.
 // Other words get the usage line on standard error before anything is read. A read that fails, and an input that is not
 // taken to its end, end the run with a word on standard error and without an answer.
+#![tactic(auto)]
+
 mod every;
 
 use ask_lines::{put_reply, put_working};

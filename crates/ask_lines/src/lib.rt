@@ -1,4 +1,6 @@
 // The lines that answer questions.
+#![tactic(auto)]
+
 ghost use Rattle.std.specs.Prelude.{◌+◌, ◌≤◌, length};
 ghost use Rattle.line_text.specs.Between.Appending.{Appended, AppendedWithin};
 ghost use Rattle.ask_lines.specs.Lines.{field, date_field, end_field, one, two, volumes};

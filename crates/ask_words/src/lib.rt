@@ -1,4 +1,6 @@
 // What a program's words ask for, and what is written where they get no answer.
+#![tactic(auto)]
+
 ghost use Rattle.std.specs.Prelude.{◌≡◌};
 ghost use Rattle.line_text.specs.Between.Appending.{Appended};
 ghost use Rattle.ask_words.specs.Asked.{number_value, date_value, any_date_value};

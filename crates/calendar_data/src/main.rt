@@ -3,6 +3,8 @@
 //
 // easter.txt has Easter Sunday of the years 2000 to 2199, luxembourg-holidays.txt the legal holidays of those years,
 // each a date aaaammjj to a line. Every difference is a line of its own, before the count of what was compared.
+#![tactic(auto)]
+
 mod compare;
 mod counts;
 mod tally;

@@ -1,6 +1,8 @@
 // Counts working days between two days that lie so many days apart, again and again, by the years' words or by the walk
 // day by day, and prints the sum of the counts: `count_bench words DAYS TIMES`, `count_bench walk DAYS TIMES`.
 // bench/working times it.
+#![tactic(auto)]
+
 ghost use Rattle.std.specs.Prelude.{◌<◌, ◌≤◌};
 
 use dates::LAST_DAY;

@@ -1,4 +1,6 @@
 // Gas days and their dates: day 0 is Saturday 1 January 2000, day 73,048 is 31 December 2199.
+#![tactic(auto)]
+
 mod month;
 mod number;
 mod year;

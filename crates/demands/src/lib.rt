@@ -1,1 +1,2 @@
 // The end statements on one page: specs/Demands.antt. There is no code here.
+#![tactic(auto)]

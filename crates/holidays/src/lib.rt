@@ -1,4 +1,6 @@
 // Legal holidays and working days of the calendar.
+#![tactic(auto)]
+
 mod easter;
 
 ghost use Rattle.std.specs.Prelude.{◌≡◌, ◌≤◌};

@@ -1,4 +1,6 @@
 // What a message is answered, and what it changes, before and after the register is opened (specs/Desk).
+#![tactic(auto)]
+
 ghost use Rattle.std.specs.Prelude.{◌≡◌};
 ghost use Rattle.input_desk.specs.Pinned.Desk.{desk_after};
 

@@ -1,4 +1,6 @@
 // Lines out of an input that comes in pieces.
+#![tactic(auto)]
+
 ghost use Rattle.std.specs.Prelude.{◌≡◌, cond, ◌&&◌, [], ◌++◌, ◌+◌, ◌-◌, min, eqb, take, drop};
 ghost use Rattle.input_lines.specs.Between.Feeds.{until_feed, fitting as lines_fitting};
 ghost use Rattle.input_lines.specs.Between.Begun.{kept_bytes, capped, kept, begun_of};

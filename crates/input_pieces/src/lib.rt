@@ -1,5 +1,7 @@
 // Pieces of an input are handed in, answer lines come out, and the session stands for the desk that the lines have
 // brought it to.
+#![tactic(auto)]
+
 mod pieces;
 
 ghost use Rattle.std.specs.Prelude.{◌≡◌};

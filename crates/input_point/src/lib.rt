@@ -1,5 +1,7 @@
 // What a message is answered, and what it changes where nothing falls due by its day: told from the tables, at the
 // cost of the point that it names.
+#![tactic(auto)]
+
 mod answers;
 mod daily;
 mod deeds;

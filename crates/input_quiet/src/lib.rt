@@ -1,4 +1,6 @@
 // When something next falls due, and what the checks see of a point brought up to a day, without its periods.
+#![tactic(auto)]
+
 mod seen;
 
 ghost use Rattle.std.specs.Prelude.{◌≡◌, min};

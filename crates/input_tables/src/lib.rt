@@ -1,4 +1,6 @@
 // The points of a register in three tables: their fields, how many periods each has, and all their slots in a row.
+#![tactic(auto)]
+
 ghost use Rattle.std.specs.Prelude.{◌≡◌};
 ghost use Rattle.input_tables.specs.Between.Tables.{Apart, points_of, booked_at};
 

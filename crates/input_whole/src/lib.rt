@@ -1,5 +1,7 @@
 // A whole input: before it, and at its end; and what `input_pieces` hands on for it, beside the day book
 // (specs/Transcript).
+#![tactic(auto)]
+
 ghost use Rattle.std.specs.Prelude.{◌≡◌, min};
 ghost use Rattle.input_pieces.specs.Pinned.Session.{desk_of, FedBy};
 ghost use Rattle.input_whole.specs.Pinned.Ends.{Started, missing_feed, ClosedFrom};

@@ -1,4 +1,6 @@
 // The lines that are written: answers, and the closing lines with periods and totals. Each ends with a line feed.
+#![tactic(auto)]
+
 ghost use Rattle.std.specs.Prelude.{◌≡◌, ◌+◌, ◌≤◌, [], ◌∷◌, length};
 ghost use Rattle.line_text.specs.Between.Appending.{Appended};
 ghost use Rattle.line_text.specs.Decimal.{decimal};

@@ -1,5 +1,7 @@
 // The fields of a line behind its kind, and reading them. A position is an index of the line; a field is read from its
 // `;` on.
+#![tactic(auto)]
+
 ghost use Rattle.std.specs.Prelude.{◌≡◌, ◌+◌, ◌≤◌, ◌<◌, length, take, drop};
 ghost use Rattle.line_fields.specs.Between.Known.{packed, first_known};
 ghost use Rattle.line_fields.specs.Between.Shapes.{sort_at};

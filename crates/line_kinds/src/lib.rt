@@ -1,5 +1,7 @@
 // The kinds of message lines: one row for each, its word and the fields that stand behind it. The words are compared
 // when a line is read and copied when one is written.
+#![tactic(auto)]
+
 ghost use Rattle.std.specs.Prelude.{◌≡◌, cond};
 ghost use Rattle.line_text.specs.Between.Appending.{Appended};
 ghost use Rattle.line_values.specs.Pinned.Words.{are_same};

@@ -1,4 +1,6 @@
 // The closing lines of a register: for each enrolled point, rising, its periods and its total.
+#![tactic(auto)]
+
 ghost use Rattle.std.specs.Prelude.{◌≡◌, ◌+◌, ◌-◌, ◌*◌, ◌≤◌, ◌<◌, length};
 ghost use Rattle.rules.specs.Pinned.Register.{period};
 ghost use Rattle.line_text.specs.Between.Appending.{AppendedWithin};

@@ -1,4 +1,6 @@
 // Message lines: what a line says, and reading one.
+#![tactic(auto)]
+
 ghost use Rattle.std.specs.Prelude.{◌≡◌, ◌≤◌, length};
 ghost use Rattle.line_messages.specs.Pinned.Messages.{ask, ask_at, message_of};
 ghost use Rattle.line_messages.specs.Pinned.Reading.{word_end, read_line};

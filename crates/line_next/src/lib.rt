@@ -1,4 +1,6 @@
 // Reading the next line of a buffer, without looking for its end first.
+#![tactic(auto)]
+
 ghost use Rattle.std.specs.Prelude.{◌≡◌, ◌+◌, ◌≤◌, length, drop};
 ghost use Rattle.line_next.specs.Between.NextLine.{feed_first, stop_at, next_line};
 

@@ -1,4 +1,6 @@
 // Reading a text: words compared, numbers and dates. A position is an index of the text.
+#![tactic(auto)]
+
 ghost use Rattle.std.specs.Prelude.{◌≡◌, ◌-◌, ◌≤◌, ◌<◌, drop};
 ghost use Rattle.line_values.specs.Pinned.Words.{are_same};
 ghost use Rattle.line_values.specs.Pinned.Numbers.{more_of, fixed_of};

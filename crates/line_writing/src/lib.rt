@@ -1,4 +1,6 @@
 // Writing the line of a call or of an opening.
+#![tactic(auto)]
+
 ghost use Rattle.std.specs.Prelude.{◌≡◌, ◌+◌, ◌≤◌, [], length};
 ghost use Rattle.line_text.specs.Between.Appending.{Appended};
 ghost use Rattle.line_fields.specs.Fields.{field_text, fields_text, fits as fields_fits, fit_all};

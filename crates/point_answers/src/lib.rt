@@ -1,4 +1,6 @@
 // The answers to calls: the rows of the table.
+#![tactic(auto)]
+
 mod calls;
 mod rows;
 

@@ -1,4 +1,6 @@
 // The conditions of the table of rejection codes, for any numbers.
+#![tactic(auto)]
+
 mod days;
 mod marks;
 

@@ -1,4 +1,6 @@
 // One point of the register: its events, what the calls that name it are answered and do, and how that is written down.
+#![tactic(auto)]
+
 mod effects;
 mod events;
 

@@ -1,4 +1,6 @@
 // A point's periods in their slots: how many there are, and a holder named.
+#![tactic(auto)]
+
 ghost use Rattle.std.specs.Prelude.{◌≡◌, ◌-◌, ◌<◌, min};
 ghost use Rattle.rules.specs.Pinned.Register.{used, starts_on, replaced as register_replaced};
 ghost use Rattle.rules.specs.Pinned.Register.{appended as register_appended};

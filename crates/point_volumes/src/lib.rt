@@ -1,4 +1,6 @@
 // Volumes: what the wheels of a meter count, what a reading gives before a day, and booking it over a point's periods.
+#![tactic(auto)]
+
 mod booking;
 mod meter;
 mod reading;

@@ -1,4 +1,6 @@
 // The questions: they change nothing, and no pending request is seen through them.
+#![tactic(auto)]
+
 ghost use Rattle.std.specs.Prelude.{◌≡◌, ◌+◌, ◌%◌, ◌^◌, ◌≤◌};
 ghost use Rattle.rules.specs.Pinned.Register.{point_at};
 ghost use Rattle.questions.specs.Pinned.Questions.{unasked, asked_history, holder_among, holder_answer};

@@ -1,4 +1,6 @@
 // A supplier's own periods at a point: what it may be handed. Nothing of another supplier's half is in it.
+#![tactic(auto)]
+
 ghost use Rattle.std.specs.Prelude.{◌≡◌, ◌+◌, ◌≤◌, ◌<◌, take, drop};
 ghost use Rattle.questions_supplier.specs.Pinned.Own.{own, end_in, own_in, nth_own, own_answer};
 

@@ -1,4 +1,6 @@
 // The register: its opening, and the twelve calls as one.
+#![tactic(auto)]
+
 mod opening;
 mod points;
 

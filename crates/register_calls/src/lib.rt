@@ -1,4 +1,6 @@
 // The twelve calls, each over apply.
+#![tactic(auto)]
+
 mod readings;
 mod requests;
 mod service;

@@ -1,6 +1,8 @@
 // Reads standard input, hands the bytes on, writes what comes back. A word on the command line gets the usage line.
 // A read or a write that fails, and an input that is not taken to its end, end the run with a word on standard error
 // and without closing lines: they stand for a whole input.
+#![tactic(auto)]
+
 use input_pieces::Session;
 use libc::{STDERR_FILENO, STDOUT_FILENO};
 use standard_input::{End, read_all};

@@ -1,5 +1,6 @@
 // The register's types. Every value of them is allowed everywhere: the definitions in specs/ are total.
 // Days are gas days, 0 is 1 January 2000; holder 0 is the operator's account; volumes are in thousandths.
+#![tactic(auto)]
 
 // What the wheels of a meter count: cubic metres (OBIS 7-1:3.0.0), or normal ones where the meter counts these.
 #[derive(Drop)]

@@ -1,6 +1,8 @@
 // Standard input, read to its end: what is read is handed in piece by piece, and the answer lines are written or not.
 // No contract can say what is read or written; whatever it is, a session that is said to be whole has come to the end
 // of an input (specs/Reached).
+#![tactic(auto)]
+
 ghost use Rattle.std.specs.Prelude.{◌≡◌, length};
 ghost use Rattle.standard_input.specs.Reached.{ReadAll, IsFinished};
 

@@ -3,6 +3,8 @@
 //
 // list.txt names the cases: NAME.in is an input, NAME.out what has to be written for it. Every difference is a line of
 // its own, and so is a file that is missing or longer than the room for it.
+#![tactic(auto)]
+
 mod agreed;
 mod between;
 mod cases;

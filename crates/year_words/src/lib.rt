@@ -1,4 +1,6 @@
 // The working days of each year as six words of 64 bits, one bit for each day.
+#![tactic(auto)]
+
 ghost use Rattle.std.specs.Prelude.{◌≡◌};
 ghost use Rattle.year_words.specs.Words.{year_words};
 

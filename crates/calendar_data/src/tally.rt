@@ -2,14 +2,14 @@
 use libc::STDOUT_FILENO;
 
 // What comparing one item came to; one that is no case of what is compared counts as nothing.
-#[derive(Drop)]
+#[derive(Clone, Copy)]
 pub(crate) enum Outcome {
     Same,
     Different,
     Nothing,
 }
 
-#[derive(Drop)]
+#[derive(Clone, Copy)]
 pub(crate) struct Tally {
     pub compared: u64,
     pub different: u64,

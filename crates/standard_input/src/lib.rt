@@ -10,7 +10,7 @@ use input_pieces::Session;
 use libc::{STDIN_FILENO, STDOUT_FILENO};
 
 // How the reading ended. After a read or a write that failed the error is still the system's last one.
-#[derive(Drop)]
+#[derive(Clone, Copy)]
 pub enum End {
     // All of the input was taken.
     Whole,
@@ -21,7 +21,7 @@ pub enum End {
 }
 
 // What the input has come to.
-#[derive(Drop)]
+#[derive(Clone, Copy)]
 pub struct Came {
     pub end: End,
     pub session: Session,

@@ -2,7 +2,7 @@
 
 // The first len bytes are the same. Where the ones behind them are not, nothing further is compared. Again says how
 // often the rest of a piece was handed in again.
-#[derive(Drop)]
+#[derive(Clone, Copy)]
 pub(crate) struct Agreed {
     pub len: usize,
     pub is_same: bool,

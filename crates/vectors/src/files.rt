@@ -4,7 +4,7 @@ ghost use Rattle.io.specs.Counts.{IsPrefixLen};
 use line_text::write::put_word;
 
 // What a buffer holds of a file: its first len bytes, and whether that is the whole file.
-#[derive(Drop)]
+#[derive(Clone, Copy)]
 pub(crate) struct Held {
     pub len: usize,
     pub is_whole: bool,

@@ -7,7 +7,7 @@ pub(crate) const NONE: u64 = u64::MAX;
 
 // How many were compared, how many differences there are, how many bytes of input and of output were compared, and how
 // often the rest of a piece was handed in again.
-#[derive(Drop)]
+#[derive(Clone, Copy)]
 pub(crate) struct Tally {
     pub compared: u64,
     pub different: u64,

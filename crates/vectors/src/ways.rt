@@ -6,7 +6,7 @@ use crate::agreed::Agreed;
 use input_pieces::Session;
 
 // A session, and how far what was written so far is right.
-#[derive(Drop)]
+#[derive(Clone, Copy)]
 struct Run {
     session: Session,
     agreed: Agreed,

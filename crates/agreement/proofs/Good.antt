@@ -1,4 +1,4 @@
--- What an event or an accepted call leaves behind: everything that the next one needs to find.
+-- What an event or an accepted call leaves behind: everything that the next one rules to find.
 --
 -- Fine   what holds of a point's view on day t, of any list of calls
 -- Good   what holds of an effect on such a view, with the readings sp and the enrolments j that come with it

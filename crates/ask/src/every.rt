@@ -14,7 +14,7 @@ use rules::Register;
 const ROOM: usize = 128;
 
 // How many bytes of the buffer wait to be written; nothing more is written once that has failed.
-#[derive(Drop)]
+#[derive(Clone, Copy)]
 pub(crate) struct Waiting {
     pub len: usize,
     pub failed: bool,

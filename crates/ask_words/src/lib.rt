@@ -13,7 +13,7 @@ use line_text::write::put_word;
 use line_values::{Found, date_at, number_at, same};
 
 // A question to the register, with any numbers.
-#[derive(Drop)]
+#[derive(Clone, Copy)]
 pub enum Question {
     Holder {
         point: u64,
@@ -35,7 +35,7 @@ pub enum Question {
 
 // What words ask for: one question to the register, all of them, the working days between two days, or nothing that
 // there is.
-#[derive(Drop)]
+#[derive(Clone, Copy)]
 pub enum Asked {
     One(Question),
     All,
@@ -44,7 +44,7 @@ pub enum Asked {
 }
 
 // The value of a word, or none.
-#[derive(Drop)]
+#[derive(Clone, Copy)]
 pub enum Value {
     Is(u64),
     Nothing,

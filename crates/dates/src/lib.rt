@@ -15,7 +15,7 @@ ghost use Rattle.dates.specs.Between.Years.{year_answer};
 pub const LAST_DAY: u32 = 73048;
 
 // A date: month 1 to 12, day of the month from 1.
-#[derive(Drop)]
+#[derive(Clone, Copy)]
 pub struct Date {
     pub year: u16,
     pub month: u8,
@@ -23,21 +23,21 @@ pub struct Date {
 }
 
 // The day of a date.
-#[derive(Drop)]
+#[derive(Clone, Copy)]
 pub enum DayAnswer {
     Day(u32),
     NoDate,
 }
 
 // The date of a day.
-#[derive(Drop)]
+#[derive(Clone, Copy)]
 pub enum DateAnswer {
     On(Date),
     OffCalendar,
 }
 
 // A year, counted from 2000: its first day, and the first day after it.
-#[derive(Drop)]
+#[derive(Clone, Copy)]
 pub struct CalendarYear {
     pub index: u32,
     pub start: u32,
@@ -45,7 +45,7 @@ pub struct CalendarYear {
 }
 
 // The year of a day.
-#[derive(Drop)]
+#[derive(Clone, Copy)]
 pub enum YearAnswer {
     In(CalendarYear),
     OffCalendar,

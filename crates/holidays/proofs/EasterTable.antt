@@ -1,7 +1,7 @@
 -- The table of Easter Sundays follows the Gregorian computus in every year: one test that antt computes over the whole
 -- table, and one law that makes it the rule. Then the code's Easter Sunday from 22 March, and that it is a Sunday.
 use Rattle.basics.proofs.Basics.{◌≡◌, refl, sym, true, Bool, ◌&&◌, List, [], ◌∷◌, ◌≤◌, ℕ, ◌-◌, ◌+◌, ◌<◌, add_assoc}
-use Rattle.basics.proofs.Basics.{arith, eqb, ltb, get_or, eqb-true, ltb-true, needs}
+use Rattle.basics.proofs.Basics.{arith, eqb, ltb, get_or, eqb-true, ltb-true, rules}
 use Rattle.dates.specs.declared.{DayAnswer.DayAnswer}
 use Rattle.dates.specs.Dates.{leap_row, month_length, weekday, last_day}
 use Rattle.dates.specs.Numbers.{month_start, is_real, day_number, day_answer}
@@ -59,11 +59,11 @@ unfolding day_number
 table_follows k h = let y = 2000 + k in let x = get_or offsets k 0 in
     let t = every_below (λ k. is_easter (2000 + k) (get_or offsets k 0)) 200 all_follow k h in
     let sum : year_day y 3 22 + x ≡ year_day y (month y) (day y) = search (eqb-true, and_left, and_right) in
-    record { is_real_lem = search (and_left, and_right); is_days_on = omega arith; is_small = search (ltb-true, and_left, and_right) }
+    record { is_real = search (and_left, and_right); is_days_on = omega arith; is_small = search (ltb-true, and_left, and_right) }
 
 -- 22 March is a real date of every year of the calendar
 march_22_real : (y : ℕ) → 2000 ≤ y → y ≤ 2199 → Real y 3 22
-march_22_real y a b = let long = length_bounds (leap_row y) 2 (row_is y) (omega arith) in search needs
+march_22_real y a b = let long = length_bounds (leap_row y) 2 (row_is y) (omega arith) in search rules
 
 module _ (y : ℕ) where
   -- a year without a 22 March has no Easter

@@ -69,7 +69,7 @@ easter_day y = day_answer y (easter_sunday y).month (easter_sunday y).day
 
 -- An entry r of the table of year y: 22 March and r days on is Easter Sunday, a real date.
 pub record IsOffset (y r : ℕ) : Type 0 where
-  pub is_real_lem : is_real y (easter_sunday y).month (easter_sunday y).day ≡ true
+  pub is_real : is_real y (easter_sunday y).month (easter_sunday y).day ≡ true
   pub is_days_on : day_number y 3 22 + r ≡ day_number y (easter_sunday y).month (easter_sunday y).day
   pub is_small : r < 35
 

@@ -12,7 +12,7 @@ use dates::{Date, DateAnswer, DayAnswer};
 pub use easter::easter_day;
 
 // A holiday with a fixed date: month and day, and the first year in which it is one.
-#[derive(Drop)]
+#[derive(Clone, Copy)]
 pub struct FixedHoliday {
     pub month: u8,
     pub day: u8,

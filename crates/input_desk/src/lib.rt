@@ -10,7 +10,7 @@ use register::{apply, open};
 use rules::Register;
 
 // The register, once a set has opened it; before that the register is not looked at.
-#[derive(Drop)]
+#[derive(Clone, Copy)]
 pub struct Desk {
     pub ready: bool,
     pub register: Register,

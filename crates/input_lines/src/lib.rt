@@ -13,7 +13,7 @@ use line_text::write::put_word;
 pub const KEPT: usize = LONGEST_LINE + 1;
 
 // The start of a line that has not ended yet: its first len bytes.
-#[derive(Drop)]
+#[derive(Clone, Copy)]
 pub struct Begun {
     pub len: usize,
     pub bytes: [u8; KEPT],

@@ -15,7 +15,7 @@ use rules::{Fields, Period, Settings};
 
 // The register, with its points in tables (slot k of the point at place i is slots[24 * i + k]), whether it is open,
 // and the start of the line that is under way.
-#[derive(Drop)]
+#[derive(Clone, Copy)]
 pub struct Session {
     pub ready: bool,
     pub settings: Settings,
@@ -28,7 +28,7 @@ pub struct Session {
 }
 
 // The session after a piece, how many bytes of the piece were taken, and how many were written.
-#[derive(Drop)]
+#[derive(Clone, Copy)]
 pub struct Fed {
     pub session: Session,
     pub taken: usize,

@@ -26,7 +26,7 @@ use point_periods::newest_place;
 use rules::{Answer, Fields, Period, Register, Settings};
 
 // The session after the lines of a piece, and how many bytes were written.
-#[derive(Drop)]
+#[derive(Clone, Copy)]
 pub(crate) struct Answered {
     pub session: Session,
     pub written: usize,

@@ -13,7 +13,7 @@ use rules::{Action, Answer, Fields, Opening, Period, Settings};
 
 // The answer; of a call that names a point, with what it does there; or a failure of a supplier, which no row before
 // number 30 refuses: that looks at every point.
-#[derive(Drop)]
+#[derive(Clone, Copy)]
 pub enum Said {
     Known(Answer),
     Ruled(Ruling),

@@ -10,7 +10,7 @@ use point_checks::is_accepted;
 use point_volumes::{book_newest, span_to};
 use rules::{Action, Fields, NormalVolume, Period, PointAction, Reading, Volume};
 
-#[derive(Drop)]
+#[derive(Clone, Copy)]
 pub enum Daily {
     // The day, the last reading from then on, and the newest period's two volumes.
     Read(u32, Reading, Volume, NormalVolume),

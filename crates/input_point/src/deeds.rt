@@ -12,7 +12,7 @@ use point_volumes::book_newest;
 use rules::{Action, Effect, Fields, NormalVolume, Period, Span, Volume};
 
 // What a call stores at the point that it names: its fields, the number of its periods, and one slot.
-#[derive(Drop)]
+#[derive(Clone, Copy)]
 pub struct Entry {
     pub today: u32,
     pub fields: Fields,
@@ -21,7 +21,7 @@ pub struct Entry {
     pub period: Period,
 }
 
-#[derive(Drop)]
+#[derive(Clone, Copy)]
 pub enum Deed {
     Slot(Entry),
     // A reading whose days reach back behind the newest period.

@@ -8,7 +8,7 @@ use dates::LAST_DAY;
 use point_effects::due_by;
 use rules::{Due, Fields, Settings, Supply, View};
 
-#[derive(Drop)]
+#[derive(Clone, Copy)]
 pub(crate) struct Seen {
     pub fields: Fields,
     pub marks: usize,

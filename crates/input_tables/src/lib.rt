@@ -12,7 +12,7 @@ const POINTS: usize = 32;
 const SLOTS: usize = 24;
 
 // Slot k of the point at place i is slots[24 * i + k].
-#[derive(Drop)]
+#[derive(Clone, Copy)]
 pub struct Tables {
     pub fields: [Fields; 32],
     pub counts: [usize; 32],

@@ -10,7 +10,7 @@ ghost use Rattle.line_fields.specs.Between.With.{number_with, date_with, field_w
 use line_values::{Found, date_at, number_at};
 
 // What a field holds: a date, whose value is its day, or a number.
-#[derive(Drop)]
+#[derive(Clone, Copy)]
 pub enum Sort {
     Date,
     Number,
@@ -21,21 +21,21 @@ pub const MOST_FIELDS: usize = 9;
 
 // The fields of a line behind its kind: how many, at most MOST_FIELDS. The first is a date, and so is the one at
 // second.
-#[derive(Drop)]
+#[derive(Clone, Copy)]
 pub struct Shape {
     pub count: usize,
     pub second: usize,
 }
 
 // The last date read: its eight bytes as one number, the first byte the lowest, and its day.
-#[derive(Drop)]
+#[derive(Clone, Copy)]
 pub struct KnownDate {
     pub bytes: u64,
     pub day: u64,
 }
 
 // Whether a line has all the fields of a shape, the position behind them, and the last date read.
-#[derive(Drop)]
+#[derive(Clone, Copy)]
 pub struct LineFields {
     pub ok: bool,
     pub end: usize,
@@ -43,7 +43,7 @@ pub struct LineFields {
 }
 
 // A field's value, the position behind it and the last date read, or no such field.
-#[derive(Drop)]
+#[derive(Clone, Copy)]
 pub enum FieldFound {
     On(u64, usize, KnownDate),
     Bad,

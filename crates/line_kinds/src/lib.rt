@@ -13,7 +13,7 @@ use line_text::write::put_word;
 use line_values::same;
 
 // The kind of a line, named by the word it begins with; Unknown is printed for a line that is unreadable.
-#[derive(Drop)]
+#[derive(Clone, Copy)]
 pub enum Kind {
     Set,
     Ctr,
@@ -32,14 +32,14 @@ pub enum Kind {
 }
 
 // A kind's word: the first len of the bytes.
-#[derive(Drop)]
+#[derive(Clone, Copy)]
 pub struct Word {
     pub bytes: [u8; 8],
     pub len: usize,
 }
 
 // A kind's word, and the fields behind it.
-#[derive(Drop)]
+#[derive(Clone, Copy)]
 pub struct KindRow {
     pub word: Word,
     pub shape: Shape,

@@ -17,7 +17,7 @@ use rules::{NormalVolume, Period, Point, Register, Volume};
 const ROOM: usize = 1443;
 
 // What a call has done: the points before next are listed, and the text has so many bytes.
-#[derive(Drop)]
+#[derive(Clone, Copy)]
 pub struct Listed {
     pub next: usize,
     pub written: usize,

@@ -12,7 +12,7 @@ use line_text::LONGEST_LINE;
 use rules::{Action, Call, NewMeter, Opening, PointAction};
 
 // What a line says: an opening, one of the twelve calls, or nothing that can be read.
-#[derive(Drop)]
+#[derive(Clone, Copy)]
 pub enum Message {
     Open(Opening),
     Ask(Call),
@@ -20,14 +20,14 @@ pub enum Message {
 }
 
 // What a line says, with its kind: Unknown for one that cannot be read.
-#[derive(Drop)]
+#[derive(Clone, Copy)]
 pub struct LineMessage {
     pub kind: Kind,
     pub message: Message,
 }
 
 // A message's kind and the values of its fields; the places past its fields hold 0.
-#[derive(Drop)]
+#[derive(Clone, Copy)]
 pub struct Values {
     pub kind: Kind,
     pub values: [u64; MOST_FIELDS],

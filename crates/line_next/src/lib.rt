@@ -10,7 +10,7 @@ use line_kinds::{Kind, kind_named, row_of};
 use line_messages::{LineMessage, Message, message_of, read_line};
 
 // What the next line says, with its kind, the position of its end, and the last date read.
-#[derive(Drop)]
+#[derive(Clone, Copy)]
 pub struct NextLine {
     pub read: LineMessage,
     pub end: usize,

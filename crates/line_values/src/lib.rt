@@ -10,7 +10,7 @@ ghost use Rattle.line_values.specs.Between.Places.{date_at};
 use dates::DayAnswer;
 
 // What is read at a position: a value and the position behind it, or none.
-#[derive(Drop)]
+#[derive(Clone, Copy)]
 pub enum Found {
     Value(u64, usize),
     Bad,

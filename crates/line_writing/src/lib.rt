@@ -19,7 +19,7 @@ use line_text::write::{put_byte, put_day, put_number};
 use rules::{Action, PointAction};
 
 // A line: its first len bytes. The bytes behind them are 0.
-#[derive(Drop)]
+#[derive(Clone, Copy)]
 pub struct Line {
     pub len: usize,
     pub bytes: [u8; LONGEST_LINE],

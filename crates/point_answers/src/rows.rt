@@ -13,7 +13,7 @@ use rules::{Answer, Fields, NewMeter, Pending, PointAction, Settings, SupplyKind
 
 // What an answer looks at: the settings, the register's day, who is under contract, today, the point's number, and
 // what the checks see of it.
-#[derive(Drop)]
+#[derive(Clone, Copy)]
 pub(crate) struct Situation {
     pub settings: Settings,
     pub day: u32,

@@ -18,7 +18,7 @@ use point_volumes::book;
 use rules::{Answer, Effect, Fields, History, Point, PointAction, Settings, View};
 
 // The answer to a call, and what it does to the point.
-#[derive(Drop)]
+#[derive(Clone, Copy)]
 pub struct Ruling {
     pub answer: Answer,
     pub effect: Effect,

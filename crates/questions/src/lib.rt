@@ -11,33 +11,33 @@ use point_periods::period_count;
 use rules::{History, NormalVolume, Period, Register, Volume};
 
 // The answers to questions; a question off its range is refused.
-#[derive(Drop)]
+#[derive(Clone, Copy)]
 pub enum Held {
     Holder(u8),
     OffRange,
 }
 
 // Who held the point, and how many of its periods were looked at: none where the question is refused.
-#[derive(Drop)]
+#[derive(Clone, Copy)]
 pub struct HolderAnswer {
     pub held: Held,
     pub probes: u64,
 }
 
-#[derive(Drop)]
+#[derive(Clone, Copy)]
 pub enum PeriodAnswer {
     Of(Period),
     OffRange,
 }
 
 // A point's registered advance, as the wheels count and in normal cubic metres.
-#[derive(Drop)]
+#[derive(Clone, Copy)]
 pub struct Advance {
     pub volume: Volume,
     pub normal: NormalVolume,
 }
 
-#[derive(Drop)]
+#[derive(Clone, Copy)]
 pub enum AdvanceAnswer {
     Of(Advance),
     OffRange,

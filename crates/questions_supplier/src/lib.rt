@@ -10,14 +10,14 @@ use questions::asked_history;
 use rules::{NormalVolume, Period, Register, Volume};
 
 // Where a period ends: at the start of the point's next one, whoever holds that; or nowhere yet.
-#[derive(Drop)]
+#[derive(Clone, Copy)]
 pub enum PeriodEnd {
     Open,
     At(u32),
 }
 
 // A period as the supplier that holds it is told it.
-#[derive(Drop)]
+#[derive(Clone, Copy)]
 pub struct OwnPeriod {
     pub start: u32,
     pub end: PeriodEnd,
@@ -26,7 +26,7 @@ pub struct OwnPeriod {
 }
 
 // The period; or refused, as no supplier asks; or because nothing such is in this supplier's perimeter.
-#[derive(Drop)]
+#[derive(Clone, Copy)]
 pub enum OwnAnswer {
     Of(OwnPeriod),
     OffRange,

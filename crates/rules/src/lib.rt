@@ -3,15 +3,15 @@
 #![tactic(auto)]
 
 // What the wheels of a meter count: cubic metres (OBIS 7-1:3.0.0), or normal ones where the meter counts these.
-#[derive(Drop)]
+#[derive(Clone, Copy)]
 pub struct Volume(pub u64);
 
 // Normal cubic metres (OBIS 7-1:13.2.0). The one way to them from what the wheels count is a meter's factor.
-#[derive(Drop)]
+#[derive(Clone, Copy)]
 pub struct NormalVolume(pub u64);
 
 // A supplier period: it starts on a day and runs to the next period's start.
-#[derive(Drop)]
+#[derive(Clone, Copy)]
 pub struct Period {
     pub start: u32,
     pub holder: u8,
@@ -20,14 +20,14 @@ pub struct Period {
 }
 
 // A point's periods, the oldest first, in the first count slots.
-#[derive(Drop)]
+#[derive(Clone, Copy)]
 pub struct History {
     pub count: usize,
     pub periods: [Period; 24],
 }
 
 // How a point is supplied; default and last-resort supply end on a deadline, the first day of what comes after.
-#[derive(Drop)]
+#[derive(Clone, Copy)]
 pub enum SupplyKind {
     None,
     Contract,
@@ -36,14 +36,14 @@ pub enum SupplyKind {
 }
 
 // The pending request of a point: supplier and effective day.
-#[derive(Drop)]
+#[derive(Clone, Copy)]
 pub enum Pending {
     Nothing,
     Request(u8, u32),
 }
 
 // What events change of a point.
-#[derive(Drop)]
+#[derive(Clone, Copy)]
 pub struct Supply {
     pub holder: u8,
     pub kind: SupplyKind,
@@ -51,7 +51,7 @@ pub struct Supply {
 }
 
 // What a meter counts.
-#[derive(Drop)]
+#[derive(Clone, Copy)]
 pub enum Code {
     // Normal cubic metres, OBIS 7-1:13.2.0.
     Normal,
@@ -60,7 +60,7 @@ pub enum Code {
 }
 
 // A meter: its wheels before and after the comma, and what they count.
-#[derive(Drop)]
+#[derive(Clone, Copy)]
 pub struct Meter {
     pub before: u8,
     pub after: u8,
@@ -68,14 +68,14 @@ pub struct Meter {
 }
 
 // A reading: its day, and the index in units of the last wheel.
-#[derive(Drop)]
+#[derive(Clone, Copy)]
 pub struct Reading {
     pub day: u32,
     pub index: u64,
 }
 
 // What the register and the day book keep of a point alike.
-#[derive(Drop)]
+#[derive(Clone, Copy)]
 pub struct Fields {
     pub enrolled: bool,
     pub supply: Supply,
@@ -85,14 +85,14 @@ pub struct Fields {
     pub reading: Reading,
 }
 
-#[derive(Drop)]
+#[derive(Clone, Copy)]
 pub struct Point {
     pub fields: Fields,
     pub history: History,
 }
 
 // What the checks may look at of a point.
-#[derive(Drop)]
+#[derive(Clone, Copy)]
 pub struct View {
     pub fields: Fields,
     // the number of marked cells, which is that of periods
@@ -102,7 +102,7 @@ pub struct View {
 }
 
 // W working days to cancel, A and B days of default and of last-resort supply, and the two suppliers.
-#[derive(Drop)]
+#[derive(Clone, Copy)]
 pub struct Settings {
     pub w: u8,
     pub a: u16,
@@ -112,7 +112,7 @@ pub struct Settings {
 }
 
 // contracts[s] says that supplier s is under contract; points[p - 1] is point p.
-#[derive(Drop)]
+#[derive(Clone, Copy)]
 pub struct Register {
     pub settings: Settings,
     pub day: u32,
@@ -121,7 +121,7 @@ pub struct Register {
 }
 
 // An opening, with any numbers.
-#[derive(Drop)]
+#[derive(Clone, Copy)]
 pub struct Opening {
     pub day: u64,
     pub w: u64,
@@ -132,13 +132,13 @@ pub struct Opening {
 }
 
 // One of the twelve calls with its day, today, and any numbers. Nine of them name a point.
-#[derive(Drop)]
+#[derive(Clone, Copy)]
 pub struct Call {
     pub today: u64,
     pub action: Action,
 }
 
-#[derive(Drop)]
+#[derive(Clone, Copy)]
 pub enum Action {
     Contract { supplier: u64 },
     Failure { supplier: u64 },
@@ -147,7 +147,7 @@ pub enum Action {
 }
 
 // A meter as a call brings it: its wheels, the index that it starts with, its code and its factor.
-#[derive(Drop)]
+#[derive(Clone, Copy)]
 pub struct NewMeter {
     pub before: u64,
     pub after: u64,
@@ -156,7 +156,7 @@ pub struct NewMeter {
     pub factor: u64,
 }
 
-#[derive(Drop)]
+#[derive(Clone, Copy)]
 pub enum PointAction {
     Enrol {
         meter: NewMeter,
@@ -194,7 +194,7 @@ pub enum PointAction {
 
 // The answer to a call: accepted, accepted with its effective day, refused with a number, or refused with number 8
 // and the deadline.
-#[derive(Drop)]
+#[derive(Clone, Copy)]
 pub enum Answer {
     Accepted,
     AcceptedOn(u32),
@@ -203,14 +203,14 @@ pub enum Answer {
 }
 
 // The answer, and the whole register after the call.
-#[derive(Drop)]
+#[derive(Clone, Copy)]
 pub struct Outcome {
     pub answer: Answer,
     pub register: Register,
 }
 
 // What falls due first at a point by a day.
-#[derive(Drop)]
+#[derive(Clone, Copy)]
 pub enum Due {
     Nothing,
     // A holder is named on the day: the supply from then on.
@@ -219,7 +219,7 @@ pub enum Due {
 
 // What a reading books: an advance of the wheels from one day to a later one, the volume of one unit, and the factor
 // that makes it normal cubic metres.
-#[derive(Drop)]
+#[derive(Clone, Copy)]
 pub struct Span {
     pub from: u32,
     pub to: u32,
@@ -229,7 +229,7 @@ pub struct Span {
 }
 
 // What an event or an accepted call does to a point: the fields after it, and what goes with them.
-#[derive(Drop)]
+#[derive(Clone, Copy)]
 pub enum Effect {
     // No holder is named.
     Keep(Fields),

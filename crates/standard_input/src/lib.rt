@@ -11,7 +11,7 @@ use std::io;
 use std::io::{Input, Read};
 
 // How the reading ended. A read or a write that failed leaves its error.
-#[derive(Drop)]
+#[derive(Clone, Copy)]
 pub enum End {
     // All of the input was taken.
     Whole,
@@ -22,7 +22,7 @@ pub enum End {
 }
 
 // What the input has come to.
-#[derive(Drop)]
+#[derive(Clone, Copy)]
 pub struct Came {
     pub end: End,
     pub session: Session,

@@ -13,7 +13,7 @@ ghost use Rattle.working_count.specs.Between.Parts.{Counted};
 use dates::{CalendarYear, LAST_DAY, YearAnswer};
 
 // The answer to the question; days off the calendar or out of order are refused.
-#[derive(Drop)]
+#[derive(Clone, Copy)]
 pub enum WorkingAnswer {
     Days(u32),
     OffRange,
@@ -57,7 +57,7 @@ fn count(first: u64, end: u64) -> u32
 }
 
 // Some of the days from d on: the day after them, and how many of them are working days.
-#[derive(Drop)]
+#[derive(Clone, Copy)]
 struct Part {
     next: u64,
     count: u32,

@@ -1,6 +1,5 @@
 // Stored files.
-ghost use Rattle.std.specs.Prelude.{◌≡◌};
-ghost use Rattle.io.specs.Counts.{IsPrefixLen};
+ghost use Rattle.std.specs.Prelude.{◌≡◌, ◌≤◌, length, take};
 
 use line_text::write::put_word;
 use std::io::Read;
@@ -17,7 +16,8 @@ pub(crate) struct Held {
 // Reads a file by its name and ending. Nothing is held of a file that is missing; one that fills the buffer may be
 // longer than it.
 pub(crate) fn read(rt: &impl Files, name: &[u8], ending: &[u8], buffer: &mut [u8]) -> Held
-    ensures { IsPrefixLen result.len buffer.new }
+    ensures within { result.len ≤ length buffer.new }
+    ensures held { result.len ≡ length (take result.len buffer.new) }
 {
     let mut path = [0u8; 128];
     let mid = put_word(&mut path, 0, name);
@@ -46,7 +46,7 @@ fn missing() -> Held
 
 // Reads until the buffer is full, the file ends or a read fails, and tells how many bytes stand at the buffer's start.
 fn read_full(file: &mut impl Read, buffer: &mut [u8]) -> usize
-    ensures { IsPrefixLen result buffer.new }
+    ensures { result ≤ length buffer.new }
 {
     let mut done: usize = 0;
     while done < buffer.len() {

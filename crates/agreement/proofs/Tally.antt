@@ -60,9 +60,11 @@ Live t [] = ⊥
 Live t (c ∷ cs) = Runs (suc t) (c ∷ cs)
 
 pub live_runs : (t : ℕ) (cs : List Cell) → Live t cs → Runs (suc t) cs
+live_runs t [] r = elim r [ ]
 live_runs t (c ∷ cs) r = r
 
 pub live_overwritten : (t h : ℕ) (cs : List Cell) → Live t cs → Live t (overwritten h cs)
+live_overwritten t h [] r = elim r [ ]
 live_overwritten t h (cell d k m ∷ cs) r = r
 
 -- An unmarked cell has the holder of the cell before; the newest has holder h.
@@ -92,6 +94,7 @@ module _ (vol : ℕ → ℕ) where
 
   pub began : (t : ℕ) (cs : List Cell) → Live t cs → began_on t (tally vol cs 0) ≡ is_marked cs
   unfolding tally
+  began t [] r = elim r [ ]
   began t (cell d h true ∷ cs) r = eq-eqb d t (omega arith)
   began t (cell d h false ∷ cs) r = began_later t cs d (0 + vol d) (omega arith) r.1
 
@@ -99,6 +102,7 @@ module _ (vol : ℕ → ℕ) where
   pub begin_tally : (t h : ℕ) (cs : List Cell) → vol t ≡ 0 → Live t cs
       → begin t h (tally vol cs 0) ≡ tally vol (overwritten h cs) 0
   unfolding tally
+  begin_tally t h [] z r = elim r [ ]
   begin_tally t h (cell d k true ∷ cs) z r = let q : d ≡ t = omega arith in rw (eq-eqb d t q, q)
   begin_tally t h (cell d k false ∷ cs) z r = let q : d ≡ t = omega arith in
       let v : 0 + vol d ≡ 0 = rw q (omega arith) in rw (v, q) (begin_new t h (tally vol cs 0) (began_later t cs d 0 (omega arith) r.1))

@@ -1,0 +1,10 @@
+-- The rows of a contract, in order.
+use Rattle.basics.proofs.Basics.{refl, rules}
+use Rattle.rules.specs.Rejections.{rows, accepted, answer_to}
+use Rattle.point_answers.proofs.Folded.{through, all_refuse, folded}
+use Rattle.point_answers.proofs.calls.contract_answer.Goals as goal
+
+pub returns : goal.returns
+unfolding through all_refuse answer_to rows accepted
+returns c = λ S u v. rw (c.row.ensures, c.row-a-2.ensures, c.is_past.ensures, c.row-a.ensures, c.outside.ensures)
+    (folded _ _ refl refl)

@@ -1,0 +1,13 @@
+-- The rows of a cancellation, in order.
+use Rattle.basics.proofs.Basics.{refl, rules}
+use Rattle.rules.specs.Effects.{effect_of}
+use Rattle.rules.specs.Rejections.{rows_at}
+use Rattle.point_answers.specs.Between.{answer_at}
+use Rattle.point_answers.proofs.Folded.{through, all_refuse, folded}
+use Rattle.point_answers.proofs.rows.cancel.Goals as goal
+
+pub returns : goal.returns
+unfolding through all_refuse answer_at rows_at effect_of
+returns c = rw (c.late_row.ensures, c.row-a-5.ensures, c.is_by.ensures, c.row-a-4.ensures)
+    (rw (c.not_enrolled.ensures, c.row-a-3.ensures, c.row-a-2.ensures, c.is_past.ensures)
+    (rw (c.row-a.ensures, c.outside.ensures) (folded _ _ refl refl)))

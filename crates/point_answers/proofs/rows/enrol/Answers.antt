@@ -1,0 +1,14 @@
+-- The rows of an enrolment, in order.
+use Rattle.basics.proofs.Basics.{refl, rules}
+use Rattle.rules.specs.Effects.{effect_of}
+use Rattle.rules.specs.Rejections.{rows_at}
+use Rattle.point_answers.specs.Between.{answer_at}
+use Rattle.point_answers.proofs.Folded.{through, all_refuse, folded}
+use Rattle.point_answers.proofs.rows.enrol.Goals as goal
+
+pub returns : goal.returns
+unfolding through all_refuse answer_at rows_at effect_of
+returns c = rw (c.row.ensures, c.full_turn.ensures, c.row-a-6.ensures, c.row-a-5.ensures)
+    (rw (c.outside.ensures, c.row-a-4.ensures, c.row-a-3.ensures, c.is_past.ensures)
+    (rw (c.row-a-2.ensures, c.bad_factor.ensures, c.row-a.ensures, c.not_meter.ensures)
+    (folded _ _ refl refl)))

@@ -1,0 +1,13 @@
+-- The rows of a point going out of service, in order.
+use Rattle.basics.proofs.Basics.{refl, rules}
+use Rattle.rules.specs.Effects.{effect_of}
+use Rattle.rules.specs.Rejections.{rows_at}
+use Rattle.point_answers.specs.Between.{answer_at}
+use Rattle.point_answers.proofs.Folded.{through, all_refuse, folded}
+use Rattle.point_answers.proofs.rows.out_of_service.Goals as goal
+
+pub returns : goal.returns
+unfolding through all_refuse answer_at rows_at effect_of
+returns c = rw (c.row.ensures, c.is_full.ensures, c.row-a-4.ensures, c.row-a-3.ensures)
+    (rw (c.not_enrolled.ensures, c.row-a-2.ensures, c.row-a.ensures, c.is_past.ensures)
+    (folded _ _ refl refl))

@@ -1,0 +1,6 @@
+-- The meter that a call brings, field by field.
+use Rattle.basics.proofs.Basics.{rules}
+use Rattle.point_effects.proofs.effects.fitted.Goals as goal
+
+pub returns : goal.returns
+returns c = rw c.code_of.ensures

@@ -1,0 +1,10 @@
+use Rattle.basics.proofs.Basics.{◌≡◌, sym, ◌∙◌, ◌≤◌, ◌-◌, ◌+◌, add-one, arith, length, drop, length-drop, rules}
+use Rattle.input_lines.specs.Between.Feeds.{fitting}
+use Rattle.input_lines.proofs.Feeds.{fitting_all, fitting_over, fitting_next, fitting_le}
+use Rattle.input_lines.proofs.fitting.Given as goal
+
+abbrev pub invariant-loop-i : goal.invariant-loop-i
+invariant-loop-i l = (l.i ≤ length l.piece) × (l.i + fitting l.left (drop l.i l.piece) ≡ fitting l.n l.piece)
+
+abbrev pub decreases-loop-i : goal.decreases-loop-i
+decreases-loop-i l = length l.piece - l.i

@@ -1,0 +1,6 @@
+-- A later opening is none.
+use Rattle.basics.proofs.Basics.{rules}
+use Rattle.input_point.proofs.answers.opening_said.Goals as goal
+
+pub returns : goal.returns
+returns c = rw c.if-ready.false c.opening_answer.ensures

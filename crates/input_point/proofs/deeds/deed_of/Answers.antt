@@ -1,0 +1,16 @@
+-- The deed, message by message.
+use Rattle.basics.proofs.Basics.{lt-ltb, le-ltb, rules}
+use Rattle.input_point.specs.Between.Deeds.{deed_of}
+use Rattle.input_point.proofs.deeds.deed_of.Goals as goal
+
+pub returns-then-c-quiet : goal.returns-then-c-quiet
+returns-then-c-quiet c = unfold deed_of in rw (c.in-Ask.is, lt-ltb _ _ c.if-c-quiet.true) c.call_deed.ensures
+
+pub returns-in-Open : goal.returns-in-Open
+returns-in-Open c = unfold deed_of in rw c.in-Open.is
+
+pub returns-else-c-quiet : goal.returns-else-c-quiet
+returns-else-c-quiet c = unfold deed_of in rw (c.in-Ask.is, le-ltb _ _ c.if-c-quiet.false)
+
+pub returns-in-Unreadable : goal.returns-in-Unreadable
+returns-in-Unreadable c = unfold deed_of in rw c.in-Unreadable.is

@@ -1,0 +1,6 @@
+-- What is seen, with today's mark.
+use Rattle.basics.proofs.Basics.{rules}
+use Rattle.input_quiet.proofs.seen.view_in.Goals as goal
+
+pub returns : goal.returns
+returns c = rw c.is_marked.ensures

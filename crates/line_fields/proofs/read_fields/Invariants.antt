@@ -1,0 +1,16 @@
+use Rattle.basics.proofs.Basics.{◌≡◌, refl, true, false, [], ◌≤◌, ◌-◌, ◌<◌, arith, length, drop, take, length-set}
+use Rattle.basics.proofs.Basics.{replicate, rules}
+use Rattle.line_fields.specs.Between.With.{fields_with}
+use Rattle.line_fields.specs.Between.Shapes.{most_fields, sorts_from}
+use Rattle.line_fields.proofs.FieldSteps.{sorts_next, sorts_none, one_more, zeros_left, fields_in_is, too_many}
+use Rattle.line_fields.proofs.Handed.{handed, fields_step, handed_here, reads}
+use Rattle.line_fields.proofs.read_fields.Given as goal
+
+abbrev pub invariant-loop-i : goal.invariant-loop-i
+invariant-loop-i l =
+    ((l.i ≤ l.count) × (l.count ≤ most_fields) × (length l.values ≡ most_fields)) × (drop l.i l.values ≡ replicate (most_fields - l.i) 0) ×
+    (handed l.line l.from (fields_with l.initial.known (sorts_from l.second 0 l.count) [] (drop l.from l.line)) ≡
+    handed l.line l.at (fields_with l.known (sorts_from l.second l.i (l.count - l.i)) (take l.i l.values) (drop l.at l.line)))
+
+abbrev pub decreases-loop-i : goal.decreases-loop-i
+decreases-loop-i l = l.count - l.i

@@ -1,0 +1,6 @@
+-- The register, put together.
+use Rattle.basics.proofs.Basics.{rules}
+use Rattle.input_pieces.proofs.desk_of.Goals as goal
+
+pub returns : goal.returns
+returns c = rw c.register_of.ensures

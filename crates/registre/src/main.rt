@@ -40,7 +40,10 @@ fn write_closing(rt: &(impl Print + Eprint), s: Session) {
         }
         let next = listed.next;
         if next <= from {
-            say(rt, "registre: the closing lines were not written to their end\n");
+            say(
+                rt,
+                "registre: the closing lines were not written to their end\n",
+            );
             return;
         }
         from = next;

@@ -1,6 +1,4 @@
-use Rattle.basics.proofs.Basics.{◌≡◌, refl, ◌∙◌, ◌≤◌, ◌-◌, ◌+◌, add-one, arith, length, length-set, paste, paste-zero}
-use Rattle.basics.proofs.Basics.{paste-suc, rules}
-use Rattle.line_text.proofs.Appends.{appended, not_appended, word_pasted}
+use Rattle.basics.proofs.Basics.{◌≡◌, ◌≤◌, ◌-◌, ◌+◌, length, paste}
 use Rattle.line_text.proofs.write.put_word.Given as goal
 
 abbrev pub invariant-loop-i : goal.invariant-loop-i

@@ -1,10 +1,8 @@
-use Rattle.basics.proofs.Basics.{◌≡◌, refl, sym, ◌∙◌, ap, true, Bool, ◌&&◌, List, ◌≤◌, ℕ, ◌-◌, ◌+◌, arith, rules}
+use Rattle.basics.proofs.Basics.{◌≡◌, Bool, ◌&&◌, List, ◌≤◌, ℕ, ◌-◌, ◌+◌}
 use Rattle.rules.specs.declared.{Fields.Fields, Period.Period, Settings.Settings}
 use Rattle.rules.specs.Effects.{failed}
 use Rattle.rules.specs.Rejections.{any_point, shown, touches, is_full}
-use Rattle.register.proofs.Search.{any_found, any_passed, any_none}
-use Rattle.input_point.specs.Between.Answers.{shows, failure_answer}
-use Rattle.input_point.proofs.Settled.{shown_next}
+use Rattle.input_point.specs.Between.Answers.{shows}
 use Rattle.input_point.proofs.answers.failure_answer.Given as goal
 
 abbrev filled : Settings → ℕ → ℕ → ℕ → List Fields → List ℕ → List Period → ℕ → Bool

@@ -121,7 +121,8 @@ loop-at-preserved c = let x = c.answer_of-said.ensures in
       | goal.then-is_accepted+in-Whole w ↦ rw (w.ready-is, w.set-is, w.day-is, w.contracts-is, w.fields-is, w.counts-is, w.slots-is, w.quiet-is)
           (whole_next z s q n at ha lt p hp told (ok ∙ w.if-is_accepted.true) w.register_of.ensures w.after-next.ensures
           w.tables_of-tables.ensures w.first_due-quiet-in-Whole.ensures)
-      | goal.else-is_accepted w ↦ rw (w.ready-is, w.set-is, w.day-is, w.contracts-is, w.fields-is, w.counts-is, w.slots-is, w.quiet-is) (refused_next z s q n at ha lt p hp told (ok ∙ w.if-is_accepted.false))
+      | goal.else-is_accepted w ↦ rw (w.ready-is, w.set-is, w.day-is, w.contracts-is, w.fields-is, w.counts-is, w.slots-is, w.quiet-is)
+          (refused_next z s q n at ha lt p hp told (ok ∙ w.if-is_accepted.false))
     ]
     in (
       line_done l.invariant.0 read c.if-piece-end.false c.whole_message-whole.ensures next.turned c.put_answer-written-in-loop-at.ensures,

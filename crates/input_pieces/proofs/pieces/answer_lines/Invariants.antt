@@ -10,7 +10,10 @@ use Rattle.input_pieces.proofs.pieces.answer_lines.Given as goal
 
 abbrev pub invariant-loop-at : goal.invariant-loop-at
 invariant-loop-at l =
-    Going l.piece l.initial.out (desk l.initial.ready (register_in l.initial.set l.initial.day l.initial.contracts l.initial.fields l.initial.counts l.initial.slots)) (kept l.initial.part) l.out l.part
+    Going l.piece l.initial.out
+    (desk l.initial.ready
+    (register_in l.initial.set l.initial.day l.initial.contracts l.initial.fields l.initial.counts l.initial.slots))
+    (kept l.initial.part) l.out l.part
     (desk l.ready (register_in l.set l.day l.contracts l.fields l.counts l.slots)) l.at l.written
     × IsKnown l.known × Sized l.fields l.counts l.slots × (l.quiet ≤ first_due l.fields)
 

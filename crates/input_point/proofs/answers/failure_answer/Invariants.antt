@@ -11,7 +11,8 @@ filled S day t s fs ns ss p = touches s (shown (shows S day t fs ns ss) p).field
 
 abbrev pub invariant-loop-i : goal.invariant-loop-i
 invariant-loop-i l = (l.i ≤ 32)
-    × (any_point 1 32 (filled l.set l.day l.today l.s l.fields l.counts l.slots) ≡ any_point (l.i + 1) (32 - l.i) (filled l.set l.day l.today l.s l.fields l.counts l.slots))
+    × (any_point 1 32 (filled l.set l.day l.today l.s l.fields l.counts l.slots) ≡
+    any_point (l.i + 1) (32 - l.i) (filled l.set l.day l.today l.s l.fields l.counts l.slots))
 
 abbrev pub decreases-loop-i : goal.decreases-loop-i
 decreases-loop-i l = 32 - l.i

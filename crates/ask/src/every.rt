@@ -20,43 +20,50 @@ pub(crate) struct Waiting {
     pub failed: bool,
 }
 
-pub(crate) fn answer_all(r: Register) {
-    let mut out = io::large_buffer();
+pub(crate) fn answer_all(rt: &(impl Print + Eprint), r: Register) {
+    let mut out = [0u8; 65536];
     let mut w = Waiting {
         len: 0,
         failed: false,
     };
     let mut p: u64 = 0;
     while p < 34 {
-        w = of_point(&mut out, w, r, p);
+        w = of_point(rt, &mut out, w, r, p);
         p += 1;
     }
-    flushed(&out, w);
+    flushed(rt, &out, w);
 }
 
 // The advance; of an enrolled point period n for n from 0 to one past its count, then the holder on each day from the day
 // before its first period to the day after the register's, and then the suppliers' views.
-fn of_point(out: &mut [u8], w: Waiting, r: Register, p: u64) -> Waiting
+fn of_point(rt: &(impl Print + Eprint), out: &mut [u8], w: Waiting, r: Register, p: u64) -> Waiting
     requires { w.len ≤ length out.old }
     ensures { result.len ≤ length out.new }
 {
-    let advance = asked(out, w, r, Question::Advance { point: p });
+    let advance = asked(rt, out, w, r, Question::Advance { point: p });
     let PeriodAnswer::Of(first) = period_of(r, p, 1) else {
-        return of_other_point(out, advance, r, p);
+        return of_other_point(rt, out, advance, r, p);
     };
-    let periods = of_periods(out, advance, r, p);
-    let days = of_days(out, periods, r, p, first.start);
-    of_suppliers(out, days, r, p)
+    let periods = of_periods(rt, out, advance, r, p);
+    let days = of_days(rt, out, periods, r, p, first.start);
+    of_suppliers(rt, out, days, r, p)
 }
 
 // Of any other point the holder on the register's day, period 1, and the views of the suppliers 0 and 1.
-fn of_other_point(out: &mut [u8], w: Waiting, r: Register, p: u64) -> Waiting
+fn of_other_point(
+    rt: &(impl Print + Eprint),
+    out: &mut [u8],
+    w: Waiting,
+    r: Register,
+    p: u64,
+) -> Waiting
     requires { w.len ≤ length out.old }
     ensures { result.len ≤ length out.new }
 {
     let day = r.day as u64;
-    let holder = asked(out, w, r, Question::Holder { point: p, day });
+    let holder = asked(rt, out, w, r, Question::Holder { point: p, day });
     let period = asked(
+        rt,
         out,
         holder,
         r,
@@ -65,11 +72,17 @@ fn of_other_point(out: &mut [u8], w: Waiting, r: Register, p: u64) -> Waiting
             number: 1,
         },
     );
-    let view = viewed(out, period, r, 0, p, 1);
-    viewed(out, view, r, 1, p, 1)
+    let view = viewed(rt, out, period, r, 0, p, 1);
+    viewed(rt, out, view, r, 1, p, 1)
 }
 
-fn of_periods(out: &mut [u8], w: Waiting, r: Register, p: u64) -> Waiting
+fn of_periods(
+    rt: &(impl Print + Eprint),
+    out: &mut [u8],
+    w: Waiting,
+    r: Register,
+    p: u64,
+) -> Waiting
     requires { w.len ≤ length out.old }
     ensures { result.len ≤ length out.new }
 {
@@ -78,6 +91,7 @@ fn of_periods(out: &mut [u8], w: Waiting, r: Register, p: u64) -> Waiting
     let mut is_last = false;
     while n < 26 && !is_last {
         after = asked(
+            rt,
             out,
             after,
             r,
@@ -94,7 +108,14 @@ fn of_periods(out: &mut [u8], w: Waiting, r: Register, p: u64) -> Waiting
     after
 }
 
-fn of_days(out: &mut [u8], w: Waiting, r: Register, p: u64, first: u32) -> Waiting
+fn of_days(
+    rt: &(impl Print + Eprint),
+    out: &mut [u8],
+    w: Waiting,
+    r: Register,
+    p: u64,
+    first: u32,
+) -> Waiting
     requires { w.len ≤ length out.old }
     ensures { result.len ≤ length out.new }
 {
@@ -105,28 +126,41 @@ fn of_days(out: &mut [u8], w: Waiting, r: Register, p: u64, first: u32) -> Waiti
     }
     let end = r.day as u64 + 2;
     while day < end {
-        after = asked(out, after, r, Question::Holder { point: p, day });
+        after = asked(rt, out, after, r, Question::Holder { point: p, day });
         day += 1;
     }
     after
 }
 
 // The views of the suppliers 0 to 100.
-fn of_suppliers(out: &mut [u8], w: Waiting, r: Register, p: u64) -> Waiting
+fn of_suppliers(
+    rt: &(impl Print + Eprint),
+    out: &mut [u8],
+    w: Waiting,
+    r: Register,
+    p: u64,
+) -> Waiting
     requires { w.len ≤ length out.old }
     ensures { result.len ≤ length out.new }
 {
     let mut after = w;
     let mut s: u64 = 0;
     while s < 101 {
-        after = of_views(out, after, r, s, p);
+        after = of_views(rt, out, after, r, s, p);
         s += 1;
     }
     after
 }
 
 // A supplier's view n for n from 0 to one past the count of its periods.
-fn of_views(out: &mut [u8], w: Waiting, r: Register, s: u64, p: u64) -> Waiting
+fn of_views(
+    rt: &(impl Print + Eprint),
+    out: &mut [u8],
+    w: Waiting,
+    r: Register,
+    s: u64,
+    p: u64,
+) -> Waiting
     requires { w.len ≤ length out.old }
     ensures { result.len ≤ length out.new }
 {
@@ -134,7 +168,7 @@ fn of_views(out: &mut [u8], w: Waiting, r: Register, s: u64, p: u64) -> Waiting
     let mut n: u64 = 0;
     let mut is_last = false;
     while n < 26 && !is_last {
-        after = viewed(out, after, r, s, p, n);
+        after = viewed(rt, out, after, r, s, p, n);
         is_last = n > 0;
         if let OwnAnswer::Of(_) = own_period_of(r, s, p, n) {
             is_last = false;
@@ -144,11 +178,20 @@ fn of_views(out: &mut [u8], w: Waiting, r: Register, s: u64, p: u64) -> Waiting
     after
 }
 
-fn viewed(out: &mut [u8], w: Waiting, r: Register, s: u64, p: u64, n: u64) -> Waiting
+fn viewed(
+    rt: &(impl Print + Eprint),
+    out: &mut [u8],
+    w: Waiting,
+    r: Register,
+    s: u64,
+    p: u64,
+    n: u64,
+) -> Waiting
     requires { w.len ≤ length out.old }
     ensures { result.len ≤ length out.new }
 {
     asked(
+        rt,
         out,
         w,
         r,
@@ -161,7 +204,13 @@ fn viewed(out: &mut [u8], w: Waiting, r: Register, s: u64, p: u64, n: u64) -> Wa
 }
 
 // One question more; what waits is written where another line may find no room.
-fn asked(out: &mut [u8], w: Waiting, r: Register, q: Question) -> Waiting
+fn asked(
+    rt: &(impl Print + Eprint),
+    out: &mut [u8],
+    w: Waiting,
+    r: Register,
+    q: Question,
+) -> Waiting
     requires { w.len ≤ length out.old }
     ensures { result.len ≤ length out.new }
 {
@@ -175,7 +224,7 @@ fn asked(out: &mut [u8], w: Waiting, r: Register, q: Question) -> Waiting
         failed: false,
     };
     if out.len() - next < ROOM {
-        return flushed(out, after);
+        return flushed(rt, out, after);
     }
     after
 }
@@ -225,7 +274,7 @@ fn put_field(out: &mut [u8], at: usize, v: u64) -> usize
 }
 
 // Nothing waits any more, unless writing has failed.
-fn flushed(out: &[u8], w: Waiting) -> Waiting
+fn flushed(rt: &(impl Print + Eprint), out: &[u8], w: Waiting) -> Waiting
     requires { w.len ≤ length out.now }
     ensures { result.len ≤ length out.now }
 {
@@ -233,7 +282,7 @@ fn flushed(out: &[u8], w: Waiting) -> Waiting
     if w.failed {
         return w;
     }
-    let is_written = write_out(&out[..n]);
+    let is_written = write_out(rt, &out[..n]);
     Waiting {
         len: 0,
         failed: !is_written,

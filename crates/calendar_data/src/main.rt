@@ -5,62 +5,80 @@
 // each a date aaaammjj to a line. Every difference is a line of its own, before the count of what was compared.
 #![tactic(auto)]
 
+ghost use Rattle.std.specs.Prelude.{◌≤◌, length};
+
 mod compare;
 mod counts;
 mod tally;
 mod text;
 mod walk;
 
-fn main() {
-    easter_sundays();
-    holidays();
-    let days = walk::days();
-    tally::report(b"days to dates and back: ", days);
-    let dates = walk::dates();
-    tally::report(b"dates to days and back: ", dates);
-    working_days();
+use std::fs;
+use std::io::Read;
+use std::rt::Files;
+
+fn main(rt: HostRuntime) {
+    easter_sundays(&rt);
+    holidays(&rt);
+    let days = walk::days(&rt);
+    tally::report(&rt, "days to dates and back: ", days);
+    let dates = walk::dates(&rt);
+    tally::report(&rt, "dates to days and back: ", dates);
+    working_days(&rt);
 }
 
-fn working_days() {
-    let from_first = counts::from_the_first_day();
-    tally::report(b"working days from the first day on: ", from_first);
-    let cancel = counts::of_21_days();
-    tally::report(b"working days within 21 days: ", cancel);
-    let years = counts::of_up_to_three_years();
-    tally::report(b"working days within up to three years: ", years);
+fn working_days(rt: &impl Print) {
+    let from_first = counts::from_the_first_day(rt);
+    tally::report(rt, "working days from the first day on: ", from_first);
+    let cancel = counts::of_21_days(rt);
+    tally::report(rt, "working days within 21 days: ", cancel);
+    let years = counts::of_up_to_three_years(rt);
+    tally::report(rt, "working days within up to three years: ", years);
 }
 
 // A file to be read; one that cannot be is named on standard error.
-fn opened(path: &[u8]) -> i32 {
-    let fd = os::open_read(path);
-    if fd < 0 {
-        os::fail(path);
+fn opened<R: Files + Eprint>(rt: &R, path: &str) -> Option<R::File> {
+    match fs::open(rt, path) {
+        Ok(file) => Some(file),
+        Err(e) => {
+            let _ = eprintln!(rt; "{path}: {e}");
+            None
+        }
     }
-    fd
 }
 
-fn easter_sundays() {
-    let fd = opened(b"easter.txt");
-    if fd < 0 {
-        return;
+// Reads until the buffer is full, the file ends or a read fails, and tells how many bytes stand at the buffer's start.
+fn read_full(file: &mut impl Read, buffer: &mut [u8]) -> usize
+    ensures { result ≤ length buffer.new }
+{
+    let mut done: usize = 0;
+    while done < buffer.len() {
+        match file.read(&mut buffer[done..]) {
+            Ok(0) | Err(_) => break,
+            Ok(n) => done += n,
+        }
     }
-    let mut list = io::large_buffer();
-    let n = io::read_full(fd, &mut list);
-    libc::close(fd);
-    let t = compare::easter_sundays(&list[..n]);
-    tally::report(b"Easter Sundays: ", t);
+    done
 }
 
-fn holidays() {
-    let fd = opened(b"luxembourg-holidays.txt");
-    if fd < 0 {
+fn easter_sundays(rt: &(impl Files + Print + Eprint)) {
+    let Some(mut file) = opened(rt, "easter.txt") else {
         return;
-    }
-    let mut list = io::large_buffer();
-    let n = io::read_full(fd, &mut list);
-    libc::close(fd);
-    let listed = compare::holidays_of_the_file(&list[..n]);
-    tally::report(b"holidays of the file: ", listed);
-    let found = compare::holidays_of_the_code(&list[..n]);
-    tally::report(b"holidays of the code: ", found);
+    };
+    let mut list = [0u8; 65536];
+    let n = read_full(&mut file, &mut list);
+    let t = compare::easter_sundays(rt, &list[..n]);
+    tally::report(rt, "Easter Sundays: ", t);
+}
+
+fn holidays(rt: &(impl Files + Print + Eprint)) {
+    let Some(mut file) = opened(rt, "luxembourg-holidays.txt") else {
+        return;
+    };
+    let mut list = [0u8; 65536];
+    let n = read_full(&mut file, &mut list);
+    let listed = compare::holidays_of_the_file(rt, &list[..n]);
+    tally::report(rt, "holidays of the file: ", listed);
+    let found = compare::holidays_of_the_code(rt, &list[..n]);
+    tally::report(rt, "holidays of the code: ", found);
 }

@@ -1,6 +1,4 @@
 // What comparing came to, counted and printed.
-use libc::STDOUT_FILENO;
-
 // What comparing one item came to; one that is no case of what is compared counts as nothing.
 #[derive(Clone, Copy)]
 pub(crate) enum Outcome {
@@ -37,26 +35,20 @@ pub(crate) fn counted(t: Tally, o: Outcome) -> Tally {
 }
 
 // A difference is printed where it is found.
-pub(crate) fn judged(is_same: bool, label: &[u8], n: u64) -> Outcome {
+pub(crate) fn judged(rt: &impl Print, is_same: bool, label: &str, n: u64) -> Outcome {
     if is_same {
         return Outcome::Same;
     }
-    line(label, n);
+    line(rt, label, n);
     Outcome::Different
 }
 
 // Prints under a label how many were compared and how many of them differ.
-pub(crate) fn report(label: &[u8], t: Tally) {
-    io::write_all(STDOUT_FILENO, label);
-    io::print_decimal(STDOUT_FILENO, t.compared);
-    io::write_all(STDOUT_FILENO, b" compared, ");
-    io::print_decimal(STDOUT_FILENO, t.different);
-    io::write_all(STDOUT_FILENO, b" different\n");
+pub(crate) fn report(rt: &impl Print, label: &str, t: Tally) {
+    let _ = println!(rt; "{label}{} compared, {} different", t.compared, t.different);
 }
 
 // Prints a label and a number.
-fn line(label: &[u8], n: u64) {
-    io::write_all(STDOUT_FILENO, label);
-    io::print_decimal(STDOUT_FILENO, n);
-    io::write_all(STDOUT_FILENO, b"\n");
+fn line(rt: &impl Print, label: &str, n: u64) {
+    let _ = println!(rt; "{label}{n}");
 }

@@ -3,54 +3,60 @@
 // bench/working times it.
 #![tactic(auto)]
 
-ghost use Rattle.std.specs.Prelude.{◌<◌, ◌≤◌};
+ghost use Rattle.std.specs.Prelude.{◌<◌, ◌≤◌, length};
 
 use dates::LAST_DAY;
 use holidays::working_days;
-use libc::{STDERR_FILENO, STDOUT_FILENO};
 use line_values::{Found, number_at, same};
+use std::rt::Env;
 use working_count::working_between;
 
-fn main() {
+fn main(rt: HostRuntime) {
     let mut way = [0u8; 8];
-    let len = os::arg(1, &mut way);
-    let days = number(2);
-    let times = number(3);
+    let len = arg(&rt, 1, &mut way);
+    let days = number(&rt, 2);
+    let times = number(&rt, 3);
     if days < 1 {
-        return tell_usage();
+        return tell_usage(&rt);
     }
     if (LAST_DAY as u64) < days {
-        return tell_usage();
+        return tell_usage(&rt);
     }
     if same(&way[..len], b"words") {
-        return tell(total(true, days, times));
+        return tell(&rt, total(true, days, times));
     }
     if same(&way[..len], b"walk") {
-        return tell(total(false, days, times));
+        return tell(&rt, total(false, days, times));
     }
-    tell_usage();
+    tell_usage(&rt);
+}
+
+// Puts word i at the start of a buffer and tells its length; 0 where it is missing or longer than the buffer.
+fn arg(rt: &impl Env, i: usize, buffer: &mut [u8]) -> usize
+    ensures { result ≤ length buffer.new }
+{
+    match rt.arg(i, buffer) {
+        Ok(n) => n,
+        Err(_) => 0,
+    }
 }
 
 // The number that a word is; 0 where it is none.
-fn number(i: usize) -> u64 {
+fn number(rt: &impl Env, i: usize) -> u64 {
     let mut word = [0u8; 16];
-    let len = os::arg(i, &mut word);
+    let len = arg(rt, i, &mut word);
     match number_at(&word[..len], 0) {
         Found::Value(n, _) => n,
         Found::Bad => 0,
     }
 }
 
-fn tell(sum: u64) {
-    io::print_decimal(STDOUT_FILENO, sum);
-    io::write_all(STDOUT_FILENO, b"\n");
+fn tell(rt: &impl Print, sum: u64) {
+    let _ = println!(rt; "{sum}");
 }
 
-fn tell_usage() {
-    io::write_all(
-        STDERR_FILENO,
-        b"usage: count_bench words DAYS TIMES | count_bench walk DAYS TIMES\n",
-    );
+fn tell_usage(rt: &impl Eprint) {
+    let _ = rt.eprintln("usage: count_bench words DAYS TIMES | count_bench walk DAYS TIMES");
 }
 
 // So many counts, added up: they begin on all days in turn.

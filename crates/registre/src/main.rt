@@ -4,52 +4,69 @@
 #![tactic(auto)]
 
 use input_pieces::Session;
-use libc::{STDERR_FILENO, STDOUT_FILENO};
 use standard_input::{End, read_all};
+use std::env::FillError;
+use std::io;
+use std::rt::Env;
 
-fn write_out(text: &[u8]) -> bool {
-    let is_written = io::write_all(STDOUT_FILENO, text);
-    if !is_written {
-        os::fail(b"registre: writing the answers");
-    }
-    is_written
+// What failed, and why, on standard error.
+fn fail(rt: &impl Eprint, what: &str, error: io::Error) {
+    let _ = eprintln!(rt; "{what}: {error}");
 }
 
-fn say(text: &[u8]) {
-    io::write_all(STDERR_FILENO, text);
+fn write_out(rt: &(impl Print + Eprint), text: &[u8]) -> bool {
+    match rt.write_all(text) {
+        Ok(()) => true,
+        Err(e) => {
+            fail(rt, "registre: writing the answers", e);
+            false
+        }
+    }
+}
+
+fn say(rt: &impl Eprint, text: &str) {
+    let _ = rt.eprint(text);
 }
 
 // The closing lines, point by point as far as each call came.
-fn write_closing(s: Session) {
-    let mut out = io::large_buffer();
+fn write_closing(rt: &(impl Print + Eprint), s: Session) {
+    let mut out = [0u8; 65536];
     let mut from: usize = 0;
     while from < 32 {
         let listed = input_whole::close(s, from, &mut out);
         let n = listed.written;
-        if !write_out(&out[..n]) {
+        if !write_out(rt, &out[..n]) {
             return;
         }
         let next = listed.next;
         if next <= from {
-            say(b"registre: the closing lines were not written to their end\n");
+            say(rt, "registre: the closing lines were not written to their end\n");
             return;
         }
         from = next;
     }
 }
 
-fn main() {
-    if os::arg_count() > 1 {
-        say(b"registre: reads standard input and takes no words\n");
+// Whether a word stands behind the program's name.
+fn has_words(rt: &impl Env) -> bool {
+    match rt.arg(1, &mut []) {
+        Err(FillError::NotPresent) => false,
+        _ => true,
+    }
+}
+
+fn main(rt: HostRuntime) {
+    if has_words(&rt) {
+        say(&rt, "registre: reads standard input and takes no words\n");
         return;
     }
-    let came = read_all(true);
+    let came = read_all(&rt, true);
     let end = came.end;
     let s = came.session;
     match end {
-        End::Whole => write_closing(s),
-        End::Unread => os::fail(b"registre: reading the input"),
-        End::Unwritten => os::fail(b"registre: writing the answers"),
-        End::Untaken => say(b"registre: the input was not taken to its end\n"),
+        End::Whole => write_closing(&rt, s),
+        End::Unread(e) => fail(&rt, "registre: reading the input", e),
+        End::Unwritten(e) => fail(&rt, "registre: writing the answers", e),
+        End::Untaken => say(&rt, "registre: the input was not taken to its end\n"),
     }
 }

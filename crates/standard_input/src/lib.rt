@@ -7,15 +7,16 @@ ghost use Rattle.std.specs.Prelude.{◌≡◌, length};
 ghost use Rattle.standard_input.specs.Reached.{ReadAll, IsFinished};
 
 use input_pieces::Session;
-use libc::{STDIN_FILENO, STDOUT_FILENO};
+use std::io;
+use std::io::{Input, Read};
 
-// How the reading ended. After a read or a write that failed the error is still the system's last one.
+// How the reading ended. A read or a write that failed leaves its error.
 #[derive(Clone, Copy)]
 pub enum End {
     // All of the input was taken.
     Whole,
-    Unread,
-    Unwritten,
+    Unread(io::Error),
+    Unwritten(io::Error),
     // Not all of the input was taken.
     Untaken,
 }
@@ -28,30 +29,28 @@ pub struct Came {
 }
 
 // Reads to the end, the last line without its line feed too. Where show, the answer lines are written.
-pub fn read_all(show: bool) -> Came
+pub fn read_all(rt: &(impl Input + Print), show: bool) -> Came
     ensures { ReadAll result }
 {
-    let mut input = io::large_buffer();
+    let mut reader = rt.reader();
+    let mut input = [0u8; 65536];
     let mut out = answer_buffer();
     let mut s = input_whole::start();
     // What is read and not yet taken stands from `from` to `end`.
     let mut from: usize = 0;
     let mut end: usize = 0;
-    // A proved loop has to end, and nothing says that the input does: turns are counted down from a number that no run
-    // uses up.
-    let mut turns = u64::MAX;
-    while turns > 0 {
-        turns -= 1;
+    // A proved loop has to end, and nothing says that the input does: no run uses up so many turns.
+    for _ in 0..u64::MAX {
         if from == end {
-            let got = libc::read(STDIN_FILENO, &mut input);
-            if got < 0 {
-                return ended(End::Unread, s);
-            }
+            let got = match reader.read(&mut input) {
+                Ok(got) => got,
+                Err(e) => return ended(End::Unread(e), s),
+            };
             if got == 0 {
-                return finished(show, s);
+                return finished(rt, show, s);
             }
             from = 0;
-            end = io::count(got, &input);
+            end = got;
             continue;
         }
         let f = input_pieces::feed(s, &input[from..end], &mut out);
@@ -60,8 +59,8 @@ pub fn read_all(show: bool) -> Came
             break;
         }
         let n = f.written;
-        if !shown(show, &out[..n]) {
-            return ended(End::Unwritten, s);
+        if let Err(e) = shown(rt, show, &out[..n]) {
+            return ended(End::Unwritten(e), s);
         }
         s = f.session;
         from += taken;
@@ -70,14 +69,14 @@ pub fn read_all(show: bool) -> Came
 }
 
 // The session behind the last line, if it lacks its line feed.
-fn finished(show: bool, s: Session) -> Came
+fn finished(rt: &impl Print, show: bool, s: Session) -> Came
     ensures { IsFinished s result }
 {
-    let mut out = io::buffer();
+    let mut out = [0u8; 4096];
     let f = input_whole::finish(s, &mut out);
     let n = f.written;
-    if !shown(show, &out[..n]) {
-        return ended(End::Unwritten, s);
+    if let Err(e) = shown(rt, show, &out[..n]) {
+        return ended(End::Unwritten(e), s);
     }
     let last = f.session;
     let part = last.part;
@@ -87,11 +86,11 @@ fn finished(show: bool, s: Session) -> Came
     ended(End::Whole, last)
 }
 
-fn shown(show: bool, text: &[u8]) -> bool {
+fn shown(rt: &impl Print, show: bool, text: &[u8]) -> io::Result<()> {
     if show {
-        return io::write_all(STDOUT_FILENO, text);
+        return rt.write_all(text);
     }
-    true
+    Ok(())
 }
 
 fn ended(end: End, session: Session) -> Came

@@ -20,22 +20,22 @@ const EXAMPLES: [[u64; 3]; 13] = [
     [73_049, 73_049, NONE], // both of them
 ];
 
-pub(crate) fn all(t: Tally) -> Tally {
+pub(crate) fn all(rt: &impl Print, t: Tally) -> Tally {
     let mut after = t;
     let mut i: usize = 0;
     while i < 13 {
         let e = EXAMPLES[i];
-        after = between(after, e[0], e[1], e[2]);
+        after = between(rt, after, e[0], e[1], e[2]);
         i += 1;
     }
     after
 }
 
-fn between(t: Tally, a: u64, b: u64, expected: u64) -> Tally {
+fn between(rt: &impl Print, t: Tally, a: u64, b: u64, expected: u64) -> Tally {
     let count = match working_of(a, b) {
         WorkingAnswer::Days(n) => n as u64,
         WorkingAnswer::OffRange => NONE,
     };
-    tally::days(a, b);
-    tally::told(t, b"working days between them: ", count, expected)
+    tally::days(rt, a, b);
+    tally::told(rt, t, b"working days between them: ", count, expected)
 }

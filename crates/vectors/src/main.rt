@@ -13,9 +13,9 @@ mod files;
 mod tally;
 mod ways;
 
-fn main() {
-    let stored = cases::all();
-    tally::report_cases(stored);
-    let examples = dated::all();
-    tally::report_examples(examples);
+fn main(rt: HostRuntime) {
+    let stored = cases::all(&rt);
+    tally::report_cases(&rt, stored);
+    let examples = dated::all(&rt);
+    tally::report_examples(&rt, examples);
 }

@@ -1,6 +1,5 @@
 // What comparing came to, counted and printed.
 use crate::agreed::Agreed;
-use libc::STDOUT_FILENO;
 
 // What is told where there is no number.
 pub(crate) const NONE: u64 = u64::MAX;
@@ -37,15 +36,15 @@ pub(crate) fn counted(t: Tally, input: u64, output: u64) -> Tally {
 }
 
 // A file that cannot be compared.
-pub(crate) fn unread(t: Tally, name: &[u8], ending: &[u8]) -> Tally {
-    print(name);
-    print(ending);
-    print(b": missing, or longer than the room for it\n");
+pub(crate) fn unread(rt: &impl Print, t: Tally, name: &[u8], ending: &[u8]) -> Tally {
+    print(rt, name);
+    print(rt, ending);
+    print(rt, b": missing, or longer than the room for it\n");
     one_more(t)
 }
 
 // What one way of running a case came to: a difference is printed where it is found.
-pub(crate) fn judged(t: Tally, name: &[u8], way: &[u8], a: Agreed) -> Tally {
+pub(crate) fn judged(rt: &impl Print, t: Tally, name: &[u8], way: &[u8], a: Agreed) -> Tally {
     let after = Tally {
         again: std::num::wrapping_add_u64(t.again, a.again),
         ..t
@@ -53,56 +52,56 @@ pub(crate) fn judged(t: Tally, name: &[u8], way: &[u8], a: Agreed) -> Tally {
     if a.is_same {
         return after;
     }
-    print(name);
-    print(way);
-    print_number(std::num::wrapping_add_u64(a.len as u64, 1));
-    print(b"\n");
+    print(rt, name);
+    print(rt, way);
+    print_number(rt, std::num::wrapping_add_u64(a.len as u64, 1));
+    print(rt, b"\n");
     one_more(after)
 }
 
 // What the code says, where a document gives a number; another one is printed beside it.
-pub(crate) fn told(t: Tally, what: &[u8], n: u64, expected: u64) -> Tally {
-    print(what);
-    print_told(n);
+pub(crate) fn told(rt: &impl Print, t: Tally, what: &[u8], n: u64, expected: u64) -> Tally {
+    print(rt, what);
+    print_told(rt, n);
     let after = counted(t, 0, 0);
     if n == expected {
-        print(b"\n");
+        print(rt, b"\n");
         return after;
     }
-    print(b", and by the document ");
-    print_told(expected);
-    print(b"\n");
+    print(rt, b", and by the document ");
+    print_told(rt, expected);
+    print(rt, b"\n");
     one_more(after)
 }
 
 // The two days of which something is told.
-pub(crate) fn days(a: u64, b: u64) {
-    print(b"days ");
-    print_number(a);
-    print(b" and ");
-    print_number(b);
-    print(b", ");
+pub(crate) fn days(rt: &impl Print, a: u64, b: u64) {
+    print(rt, b"days ");
+    print_number(rt, a);
+    print(rt, b" and ");
+    print_number(rt, b);
+    print(rt, b", ");
 }
 
-pub(crate) fn report_cases(t: Tally) {
-    print_number(t.compared);
-    print(b" cases (");
-    print_number(t.input);
-    print(b" bytes of input, ");
-    print_number(t.output);
-    print(b" of output), 4 ways each: ");
-    print_number(t.different);
-    print(b" differences\n");
-    print(b"the rest of a piece was handed in again ");
-    print_number(t.again);
-    print(b" times\n");
+pub(crate) fn report_cases(rt: &impl Print, t: Tally) {
+    print_number(rt, t.compared);
+    print(rt, b" cases (");
+    print_number(rt, t.input);
+    print(rt, b" bytes of input, ");
+    print_number(rt, t.output);
+    print(rt, b" of output), 4 ways each: ");
+    print_number(rt, t.different);
+    print(rt, b" differences\n");
+    print(rt, b"the rest of a piece was handed in again ");
+    print_number(rt, t.again);
+    print(rt, b" times\n");
 }
 
-pub(crate) fn report_examples(t: Tally) {
-    print_number(t.compared);
-    print(b" dated examples of the calendar: ");
-    print_number(t.different);
-    print(b" differences\n");
+pub(crate) fn report_examples(rt: &impl Print, t: Tally) {
+    print_number(rt, t.compared);
+    print(rt, b" dated examples of the calendar: ");
+    print_number(rt, t.different);
+    print(rt, b" differences\n");
 }
 
 fn one_more(t: Tally) -> Tally {
@@ -112,18 +111,18 @@ fn one_more(t: Tally) -> Tally {
     }
 }
 
-fn print_told(n: u64) {
+fn print_told(rt: &impl Print, n: u64) {
     if n == NONE {
-        print(b"none");
+        print(rt, b"none");
         return;
     }
-    print_number(n);
+    print_number(rt, n);
 }
 
-fn print(text: &[u8]) {
-    io::write_all(STDOUT_FILENO, text);
+fn print(rt: &impl Print, text: &[u8]) {
+    let _ = rt.write_all(text);
 }
 
-fn print_number(n: u64) {
-    io::print_decimal(STDOUT_FILENO, n);
+fn print_number(rt: &impl Print, n: u64) {
+    let _ = print!(rt; "{n}");
 }

@@ -14,14 +14,14 @@ struct Run {
 
 // The whole input at once, with room for all.
 pub(crate) fn in_one_piece(input: &[u8], expected: &[u8]) -> Agreed {
-    let mut out = io::large_buffer();
+    let mut out = [0u8; 65536];
     let r = answered(input, input.len(), expected, &mut out);
     closed(r, expected, &mut out)
 }
 
 // One byte at a time.
 pub(crate) fn byte_by_byte(input: &[u8], expected: &[u8]) -> Agreed {
-    let mut out = io::large_buffer();
+    let mut out = [0u8; 65536];
     let r = answered(input, 1, expected, &mut out);
     closed(r, expected, &mut out)
 }

@@ -6,7 +6,7 @@ use Rattle.basics.proofs.Basics.{◌≡◌, refl, sym, ◌∙◌, ap, subst, tru
 use Rattle.basics.proofs.Basics.{◌≤◌, ℕ, ◌+◌, ◌<◌, suc, ◌*◌, arith}
 use Rattle.rules.specs.declared.{Fields.Fields, Settings.Settings, Supply.Supply}
 use Rattle.rules.specs.declared.{Meter.Meter, Reading.Reading, Span.Span, Due.Due, Effect.Effect}
-use Rattle.rules.specs.Fields.{supply, fields, with_supply, unsupplied}
+use Rattle.rules.specs.Fields.{with_supply, unsupplied}
 use Rattle.rules.specs.Effects.{fields_of, names, spans_in, event}
 use Rattle.rules.specs.Volumes.{summed}
 use Rattle.rules.specs.declared.{View.View}

@@ -7,7 +7,7 @@ use Rattle.dates.specs.Dates.{leap_row, month_length, weekday, last_day}
 use Rattle.dates.specs.Numbers.{month_start, is_real, day_number, day_answer}
 use Rattle.dates.proofs.Every.{every, every_below, and_left, and_right}
 use Rattle.dates.proofs.Months.{row_is, length_bounds}
-use Rattle.dates.proofs.Real.{Real, real_is, is_real_lem, real_day, no_date, day_real}
+use Rattle.dates.proofs.Real.{Real, real_is, real_day, no_date, day_real}
 use Rattle.dates.proofs.OneToOne.{one_to_one}
 use Rattle.dates.proofs.Years.{year_formula, year_is}
 use Rattle.holidays.specs.Easter.{easter_sunday, easter_day, IsOffset, EasterIsSunday}

@@ -1,6 +1,5 @@
 -- The answer to the advance question, by its cases.
 use Rattle.ask_lines.specs.Lines.{advance_reply}
-use Rattle.basics.proofs.Basics.{rules}
 use Rattle.ask_lines.proofs.put_advance.Goals as goal
 
 pub returns-in-Of : goal.returns-in-Of

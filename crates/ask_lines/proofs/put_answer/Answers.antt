@@ -1,6 +1,5 @@
 -- The answer to a question, by the question's cases.
 use Rattle.ask_lines.specs.Lines.{reply}
-use Rattle.basics.proofs.Basics.{rules}
 use Rattle.ask_lines.proofs.put_answer.Goals as goal
 
 pub returns-in-Holder : goal.returns-in-Holder

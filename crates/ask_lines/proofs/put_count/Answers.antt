@@ -1,5 +1,5 @@
 -- The answer to the question of working days, by its cases.
-use Rattle.basics.proofs.Basics.{arith, rules}
+use Rattle.basics.proofs.Basics.{arith}
 use Rattle.line_text.proofs.Within.{within_wider}
 use Rattle.ask_lines.specs.Lines.{working_reply}
 use Rattle.ask_lines.proofs.put_count.Goals as goal

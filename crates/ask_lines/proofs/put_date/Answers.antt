@@ -1,5 +1,5 @@
 -- A day's date, and the byte behind it.
-use Rattle.basics.proofs.Basics.{[], ◌∷◌, arith, rules}
+use Rattle.basics.proofs.Basics.{[], ◌∷◌, arith}
 use Rattle.line_text.proofs.DayTexts.{day_append, day_length}
 use Rattle.line_text.proofs.Within.{within, within_more}
 use Rattle.ask_lines.proofs.put_date.Goals as goal

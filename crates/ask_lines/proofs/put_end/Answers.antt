@@ -1,5 +1,5 @@
 -- A date or `-`, and the byte behind it.
-use Rattle.basics.proofs.Basics.{arith, rules}
+use Rattle.basics.proofs.Basics.{arith}
 use Rattle.line_text.proofs.Within.{within, within_more, within_wider}
 use Rattle.ask_lines.proofs.put_end.Goals as goal
 

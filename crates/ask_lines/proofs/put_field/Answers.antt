@@ -1,5 +1,5 @@
 -- A number, and the byte behind it.
-use Rattle.basics.proofs.Basics.{[], ◌∷◌, arith, rules}
+use Rattle.basics.proofs.Basics.{[], ◌∷◌, arith}
 use Rattle.line_text.proofs.Spelling.{decimal_append}
 use Rattle.line_text.proofs.Within.{within, within_more}
 use Rattle.line_answers.proofs.LineTexts.{digits_few}

@@ -1,5 +1,5 @@
 -- The answer to the holder question, by its cases.
-use Rattle.basics.proofs.Basics.{arith, rules}
+use Rattle.basics.proofs.Basics.{arith}
 use Rattle.line_text.proofs.Within.{within_wider}
 use Rattle.ask_lines.specs.Lines.{holder_reply}
 use Rattle.ask_lines.proofs.put_holder.Goals as goal

@@ -1,5 +1,5 @@
 -- `ok;`, and the two volumes behind it.
-use Rattle.basics.proofs.Basics.{arith, rules}
+use Rattle.basics.proofs.Basics.{arith}
 use Rattle.line_text.proofs.Within.{within, within_more, within_wider, room_left}
 use Rattle.ask_lines.proofs.put_ok_advance.Goals as goal
 

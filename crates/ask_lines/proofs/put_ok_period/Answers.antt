@@ -1,5 +1,5 @@
 -- `ok;`, a period's start, its holder and its volumes, one behind the other.
-use Rattle.basics.proofs.Basics.{append_assoc, arith, rules}
+use Rattle.basics.proofs.Basics.{append_assoc, arith}
 use Rattle.line_text.proofs.Within.{within, within_more, room_left}
 use Rattle.ask_lines.proofs.put_ok_period.Goals as goal
 

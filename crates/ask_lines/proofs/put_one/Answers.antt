@@ -1,5 +1,5 @@
 -- A word, and a number with the byte behind it.
-use Rattle.basics.proofs.Basics.{arith, length, rules}
+use Rattle.basics.proofs.Basics.{arith, length}
 use Rattle.line_text.proofs.Within.{within, within_more, room_left}
 use Rattle.ask_lines.proofs.put_one.Goals as goal
 

@@ -1,5 +1,5 @@
 -- The line is made aside, where it surely fits, and copied.
-use Rattle.basics.proofs.Basics.{sym, arith, length-take-le, rules}
+use Rattle.basics.proofs.Basics.{sym, arith, length-take-le}
 use Rattle.line_text.proofs.Appends.{appended_take}
 use Rattle.line_text.proofs.Within.{appended_within}
 use Rattle.ask_lines.proofs.put_reply.Goals as goal

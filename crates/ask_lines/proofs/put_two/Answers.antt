@@ -1,5 +1,5 @@
 -- A word and two numbers, one behind the other.
-use Rattle.basics.proofs.Basics.{◌+◌, arith, length, rules}
+use Rattle.basics.proofs.Basics.{◌+◌, arith, length}
 use Rattle.line_text.proofs.Within.{within_more, within_wider, room_left}
 use Rattle.ask_lines.proofs.put_two.Goals as goal
 

@@ -1,6 +1,5 @@
 -- The answer to the question of a supplier's view, by its cases.
 use Rattle.ask_lines.specs.Lines.{view_reply}
-use Rattle.basics.proofs.Basics.{rules}
 use Rattle.ask_lines.proofs.put_view.Goals as goal
 
 pub returns-in-Of : goal.returns-in-Of

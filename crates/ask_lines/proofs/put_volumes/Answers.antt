@@ -1,5 +1,5 @@
 -- The two volumes, one behind the other.
-use Rattle.basics.proofs.Basics.{arith, rules}
+use Rattle.basics.proofs.Basics.{arith}
 use Rattle.line_text.proofs.Within.{within_more, room_left}
 use Rattle.ask_lines.proofs.put_volumes.Goals as goal
 

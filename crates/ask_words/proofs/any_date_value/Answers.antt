@@ -1,5 +1,5 @@
 -- The value of a word that is a date, or eight digits that are none.
-use Rattle.basics.proofs.Basics.{ne_eqb, rules}
+use Rattle.basics.proofs.Basics.{ne_eqb}
 use Rattle.ask_words.specs.Asked.{any_date_value}
 use Rattle.ask_words.proofs.any_date_value.Goals as goal
 

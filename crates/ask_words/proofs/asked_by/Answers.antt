@@ -1,5 +1,5 @@
 -- By the count of the words.
-use Rattle.basics.proofs.Basics.{ne_eqb, rules}
+use Rattle.basics.proofs.Basics.{ne_eqb}
 use Rattle.ask_words.specs.Asked.{asked_by}
 use Rattle.ask_words.proofs.asked_by.Goals as goal
 

@@ -1,6 +1,5 @@
 -- Four words.
 use Rattle.ask_words.specs.Asked.{by_four}
-use Rattle.basics.proofs.Basics.{rules}
 use Rattle.ask_words.proofs.by_four.Goals as goal
 
 pub returns-then-same : goal.returns-then-same

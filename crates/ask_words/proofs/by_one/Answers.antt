@@ -1,6 +1,5 @@
 -- One word.
 use Rattle.ask_words.specs.Asked.{by_one}
-use Rattle.basics.proofs.Basics.{rules}
 use Rattle.ask_words.proofs.by_one.Goals as goal
 
 pub returns-then-same : goal.returns-then-same

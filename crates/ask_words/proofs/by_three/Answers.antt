@@ -1,6 +1,5 @@
 -- Three words: the first of them is compared with one name after another.
 use Rattle.ask_words.specs.Asked.{by_three}
-use Rattle.basics.proofs.Basics.{rules}
 use Rattle.ask_words.proofs.by_three.Goals as goal
 
 pub returns-then-same : goal.returns-then-same

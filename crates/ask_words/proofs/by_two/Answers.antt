@@ -1,6 +1,5 @@
 -- Two words.
 use Rattle.ask_words.specs.Asked.{by_two}
-use Rattle.basics.proofs.Basics.{rules}
 use Rattle.ask_words.proofs.by_two.Goals as goal
 
 pub returns-in_default : goal.returns-in_default

@@ -1,5 +1,5 @@
 -- The value of a word that is a date.
-use Rattle.basics.proofs.Basics.{◌∙◌, ap, length, rules}
+use Rattle.basics.proofs.Basics.{◌∙◌, ap, length}
 use Rattle.line_values.specs.Pinned.Days.{day_in}
 use Rattle.line_values.proofs.Places.{day_leaves}
 use Rattle.ask_words.specs.Asked.{date_value}

@@ -1,5 +1,5 @@
 -- The value of a word that is a number.
-use Rattle.basics.proofs.Basics.{◌∙◌, ap, length, rules}
+use Rattle.basics.proofs.Basics.{◌∙◌, ap, length}
 use Rattle.line_values.specs.Pinned.Numbers.{number_of}
 use Rattle.line_values.proofs.Places.{number_leaves}
 use Rattle.ask_words.specs.Asked.{number_value}

@@ -1,5 +1,4 @@
 -- Both values are there, or nothing is asked.
-use Rattle.basics.proofs.Basics.{rules}
 use Rattle.ask_words.proofs.period_asked.Goals as goal
 
 pub returns : goal.returns

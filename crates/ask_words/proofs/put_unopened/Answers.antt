@@ -1,6 +1,5 @@
 -- The line, where it fits.
 use Rattle.ask_words.specs.Asked.{unopened}
-use Rattle.basics.proofs.Basics.{rules}
 use Rattle.ask_words.proofs.put_unopened.Goals as goal
 
 pub returns : goal.returns

@@ -1,6 +1,5 @@
 -- The line, where it fits.
 use Rattle.ask_words.specs.Asked.{usage}
-use Rattle.basics.proofs.Basics.{rules}
 use Rattle.ask_words.proofs.put_usage.Goals as goal
 
 pub returns : goal.returns

@@ -1,5 +1,4 @@
 -- All three values are there, or nothing is asked.
-use Rattle.basics.proofs.Basics.{rules}
 use Rattle.ask_words.proofs.view_asked.Goals as goal
 
 pub returns : goal.returns

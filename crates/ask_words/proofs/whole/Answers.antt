@@ -1,5 +1,5 @@
 -- What was read, where nothing follows it.
-use Rattle.basics.proofs.Basics.{sym, rules}
+use Rattle.basics.proofs.Basics.{sym}
 use Rattle.ask_words.proofs.Values.{whole_more, whole_all}
 use Rattle.ask_words.proofs.whole.Goals as goal
 

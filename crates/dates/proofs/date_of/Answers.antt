@@ -1,5 +1,5 @@
 -- `date_of` meets its contract: a day past the last has no date.
-use Rattle.basics.proofs.Basics.{arith, le-leb, lt-leb, rules}
+use Rattle.basics.proofs.Basics.{arith, le-leb, lt-leb}
 use Rattle.dates.specs.Numbers.{date_answer}
 use Rattle.dates.proofs.date_of.Goals as goal
 

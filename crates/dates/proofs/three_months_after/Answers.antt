@@ -1,5 +1,5 @@
 -- `three_months_after` meets its contract: in the same year up to September, in the next from October on.
-use Rattle.basics.proofs.Basics.{◌∙◌, arith, lt-leb, rules}
+use Rattle.basics.proofs.Basics.{◌∙◌, arith, lt-leb}
 use Rattle.dates.specs.Months.{three_months_after}
 use Rattle.dates.proofs.ThreeMonths.{in_the_year, in_the_next}
 use Rattle.dates.proofs.three_months_after.Goals as goal

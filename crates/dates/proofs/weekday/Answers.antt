@@ -1,5 +1,5 @@
 -- `weekday` meets its contract: a remainder taken early leaves the same day of the week.
-use Rattle.basics.proofs.Basics.{arith, rules}
+use Rattle.basics.proofs.Basics.{arith}
 use Rattle.dates.specs.Dates.{weekday}
 use Rattle.dates.proofs.weekday.Goals as goal
 

@@ -1,5 +1,5 @@
 -- `year_of` meets its contract: the year found is that of the day's date; a day past the last has none.
-use Rattle.basics.proofs.Basics.{arith, lt-leb, rules}
+use Rattle.basics.proofs.Basics.{arith, lt-leb}
 use Rattle.dates.specs.Between.Years.{year_answer}
 use Rattle.dates.proofs.InYear.{year_told}
 use Rattle.dates.proofs.year_of.Goals as goal

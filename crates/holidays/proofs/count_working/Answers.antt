@@ -1,6 +1,5 @@
 -- `count_working` meets its contract: the days counted and the working days left are all of them.
-use Rattle.basics.proofs.Basics.{◌≡◌, sym, ◌∙◌, ◌≤◌, ◌-◌, ◌+◌, arith, rules}
-use Rattle.holidays.specs.Working.{working_days}
+use Rattle.basics.proofs.Basics.{sym, ◌∙◌, arith}
 use Rattle.holidays.proofs.Counting.{walk_step, walk_end}
 use Rattle.holidays.proofs.count_working.Goals as goal
 use Rattle.holidays.proofs.count_working.Goals.{then-is_working, else-is_working}

@@ -1,7 +1,5 @@
-use mathlib.Core.Logic.{⊎_elim}
-use Rattle.basics.proofs.Basics.{◌≡◌, sym, ◌∙◌, ◌≤◌, ◌-◌, ◌+◌, arith, rules}
+use Rattle.basics.proofs.Basics.{◌≡◌, ◌≤◌, ◌-◌, ◌+◌}
 use Rattle.holidays.specs.Working.{working_days}
-use Rattle.holidays.proofs.Counting.{walk_step, walk_end}
 use Rattle.holidays.proofs.count_working.Given as goal
 
 abbrev pub invariant-loop-d : goal.invariant-loop-d

@@ -1,5 +1,5 @@
 -- `is_after_easter` meets its contract: three days after Easter Sunday, and none where there is no Easter.
-use Rattle.basics.proofs.Basics.{sym, ◌∙◌, ◌+◌, ne_eqb, eq-eqb, rules}
+use Rattle.basics.proofs.Basics.{sym, ◌∙◌, ◌+◌, ne_eqb, eq-eqb}
 use Rattle.holidays.specs.Holidays.{is_after_easter}
 use Rattle.holidays.proofs.is_after_easter.Goals as goal
 

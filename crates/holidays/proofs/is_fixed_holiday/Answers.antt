@@ -1,6 +1,6 @@
 -- `is_fixed_holiday` meets its contract: the rows passed do not fall on the date.
-use Rattle.basics.proofs.Basics.{◌≡◌, refl, sym, ◌∙◌, ◌≤◌, ◌-◌, arith, drop, rules}
-use Rattle.holidays.specs.Holidays.{fixed_holidays, any_falls_on, is_fixed_holiday}
+use Rattle.basics.proofs.Basics.{◌≡◌, refl, sym, ◌∙◌, arith, rules}
+use Rattle.holidays.specs.Holidays.{fixed_holidays, is_fixed_holiday}
 use Rattle.holidays.proofs.FixedTable.{row_passed, row_met}
 use Rattle.holidays.proofs.is_fixed_holiday.Goals as goal
 

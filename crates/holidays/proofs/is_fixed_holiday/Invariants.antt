@@ -1,6 +1,5 @@
-use Rattle.basics.proofs.Basics.{◌≡◌, refl, sym, ◌∙◌, ◌≤◌, ◌-◌, arith, drop, rules}
-use Rattle.holidays.specs.Holidays.{fixed_holidays, any_falls_on, is_fixed_holiday}
-use Rattle.holidays.proofs.FixedTable.{row_passed, row_met}
+use Rattle.basics.proofs.Basics.{◌≡◌, ◌≤◌, ◌-◌, drop}
+use Rattle.holidays.specs.Holidays.{fixed_holidays, any_falls_on}
 use Rattle.holidays.proofs.is_fixed_holiday.Given as goal
 
 abbrev pub invariant-loop-i : goal.invariant-loop-i

@@ -1,5 +1,5 @@
 -- `is_holiday` meets its contract: a day with a date that is a fixed or a moving holiday.
-use Rattle.basics.proofs.Basics.{sym, ◌∙◌, le-leb, lt-leb, rules}
+use Rattle.basics.proofs.Basics.{sym, ◌∙◌, le-leb, lt-leb}
 use Rattle.dates.proofs.Answers.{answer_on, answer_off}
 use Rattle.holidays.specs.Holidays.{is_holiday, is_holiday_on}
 use Rattle.holidays.proofs.is_holiday.Goals as goal

@@ -1,5 +1,5 @@
 -- `is_working` meets its contract: on the calendar, Monday to Friday, no holiday.
-use Rattle.basics.proofs.Basics.{arith, lt-ltb, le-leb, le-ltb, lt-leb, rules}
+use Rattle.basics.proofs.Basics.{arith, lt-ltb, le-leb, le-ltb, lt-leb}
 use Rattle.holidays.specs.Working.{is_working}
 use Rattle.holidays.proofs.is_working.Goals as goal
 

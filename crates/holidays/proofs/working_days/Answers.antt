@@ -1,5 +1,5 @@
 -- `working_days` meets its contract: past the calendar's end no day counts, so the walk may stop there.
-use Rattle.basics.proofs.Basics.{sym, ◌∙◌, arith, rules}
+use Rattle.basics.proofs.Basics.{sym, ◌∙◌, arith}
 use Rattle.holidays.proofs.Counting.{past_days, past_cut}
 use Rattle.holidays.proofs.working_days.Goals as goal
 

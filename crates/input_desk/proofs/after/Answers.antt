@@ -1,7 +1,6 @@
 -- The register opened, or the call done; else nothing.
 use Rattle.input_desk.specs.Pinned.Desk.{desk_after}
 use Rattle.input_desk.proofs.Openings.{opening_after}
-use Rattle.basics.proofs.Basics.{rules}
 use Rattle.input_desk.proofs.after.Goals as goal
 
 pub returns-then-d : goal.returns-then-d

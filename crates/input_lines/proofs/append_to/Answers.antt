@@ -1,4 +1,4 @@
-use Rattle.basics.proofs.Basics.{sym, arith, length-take-le, rules}
+use Rattle.basics.proofs.Basics.{sym, arith, length-take-le}
 use Rattle.input_lines.proofs.KeptBytes.{begun_appended}
 use Rattle.input_lines.proofs.append_to.Goals as goal
 

@@ -1,4 +1,4 @@
-use Rattle.basics.proofs.Basics.{arith, ne_eqb, eq-eqb, rules}
+use Rattle.basics.proofs.Basics.{arith, ne_eqb, eq-eqb}
 use Rattle.input_lines.proofs.fewer.Goals as goal
 
 pub returns-then-left-eq0 : goal.returns-then-left-eq0

@@ -1,5 +1,4 @@
-use Rattle.basics.proofs.Basics.{◌≡◌, sym, ◌∙◌, ◌≤◌, ◌-◌, ◌+◌, add-one, arith, length, drop, length-drop, rules}
-use Rattle.input_lines.specs.Between.Feeds.{fitting}
+use Rattle.basics.proofs.Basics.{sym, ◌∙◌, add-one, arith, drop, length-drop}
 use Rattle.input_lines.proofs.Feeds.{fitting_all, fitting_over, fitting_next, fitting_le}
 use Rattle.input_lines.proofs.fitting.Goals as goal
 

@@ -1,6 +1,5 @@
-use Rattle.basics.proofs.Basics.{◌≡◌, sym, ◌∙◌, ◌≤◌, ◌-◌, ◌+◌, add-one, arith, length, drop, length-drop, rules}
+use Rattle.basics.proofs.Basics.{◌≡◌, ◌≤◌, ◌-◌, ◌+◌, length, drop}
 use Rattle.input_lines.specs.Between.Feeds.{fitting}
-use Rattle.input_lines.proofs.Feeds.{fitting_all, fitting_over, fitting_next, fitting_le}
 use Rattle.input_lines.proofs.fitting.Given as goal
 
 abbrev pub invariant-loop-i : goal.invariant-loop-i

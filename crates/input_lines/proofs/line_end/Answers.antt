@@ -1,5 +1,4 @@
-use Rattle.basics.proofs.Basics.{◌≡◌, refl, ◌-◌, ◌+◌, add-one, arith, length, drop, length-drop, rules}
-use Rattle.input_lines.specs.Between.Feeds.{until_feed}
+use Rattle.basics.proofs.Basics.{refl, add-one, arith, drop, length-drop}
 use Rattle.input_lines.proofs.Feeds.{until_here, until_later, until_le}
 use Rattle.input_lines.proofs.line_end.Goals as goal
 

@@ -1,6 +1,5 @@
-use Rattle.basics.proofs.Basics.{◌≡◌, refl, ◌-◌, ◌+◌, add-one, arith, length, drop, length-drop, rules}
+use Rattle.basics.proofs.Basics.{◌≡◌, ◌-◌, ◌+◌, length, drop}
 use Rattle.input_lines.specs.Between.Feeds.{until_feed}
-use Rattle.input_lines.proofs.Feeds.{until_here, until_later, until_le}
 use Rattle.input_lines.proofs.line_end.Given as goal
 
 abbrev pub invariant-loop-i : goal.invariant-loop-i

@@ -1,5 +1,4 @@
 -- The register, put together.
-use Rattle.basics.proofs.Basics.{rules}
 use Rattle.input_pieces.proofs.desk_of.Goals as goal
 
 pub returns : goal.returns

@@ -1,5 +1,5 @@
 -- As much of the piece as there is room for.
-use Rattle.basics.proofs.Basics.{sym, ◌/◌, arith, length, length-take-le, rules}
+use Rattle.basics.proofs.Basics.{sym, ◌/◌, arith, length, length-take-le}
 use Rattle.line_answers.specs.Answers.{longest_answer}
 use Rattle.input_lines.proofs.Feeds.{fitting_le}
 use Rattle.input_pieces.proofs.Turns.{taken_room}

@@ -1,5 +1,5 @@
 -- The place of a point, one before its number.
-use Rattle.basics.proofs.Basics.{sym, ◌∙◌, [], ◌∷◌, rules}
+use Rattle.basics.proofs.Basics.{sym, ◌∙◌, rules}
 use Rattle.input_point.proofs.Apart.{not_at}
 use Rattle.input_point.proofs.Places.{point_in, point_lt, place_none}
 use Rattle.input_point.proofs.place_in.Goals as goal

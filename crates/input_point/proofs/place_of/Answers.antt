@@ -1,5 +1,5 @@
 -- The place, message by message.
-use Rattle.basics.proofs.Basics.{arith, rules}
+use Rattle.basics.proofs.Basics.{arith}
 use Rattle.input_point.specs.Between.Answers.{place_of}
 use Rattle.input_point.proofs.place_of.Goals as goal
 

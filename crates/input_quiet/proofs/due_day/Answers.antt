@@ -1,4 +1,3 @@
-use Rattle.basics.proofs.Basics.{rules}
 use Rattle.input_quiet.specs.Between.Quiet.{due_day}
 use Rattle.input_quiet.proofs.due_day.Goals as goal
 

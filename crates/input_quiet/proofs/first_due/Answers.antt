@@ -1,5 +1,4 @@
-use Rattle.basics.proofs.Basics.{◌≡◌, ◌≤◌, arith, length, drop, rules}
-use Rattle.input_quiet.specs.Between.Quiet.{first_due}
+use Rattle.basics.proofs.Basics.{arith, rules}
 use Rattle.input_quiet.proofs.Dues.{first_end, first_step, first_start}
 use Rattle.input_quiet.proofs.first_due.Goals as goal
 

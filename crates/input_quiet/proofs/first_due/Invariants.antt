@@ -1,6 +1,5 @@
-use Rattle.basics.proofs.Basics.{◌≡◌, ◌≤◌, arith, length, drop, rules}
+use Rattle.basics.proofs.Basics.{◌≡◌, ◌≤◌, length, drop}
 use Rattle.input_quiet.specs.Between.Quiet.{first_due}
-use Rattle.input_quiet.proofs.Dues.{first_end, first_step, first_start}
 use Rattle.input_quiet.proofs.first_due.Given as goal
 
 abbrev pub invariant-loop-i : goal.invariant-loop-i

@@ -1,9 +1,9 @@
 -- The row taken out, booked, and put back slot by slot.
-use Rattle.basics.proofs.Basics.{◌≡◌, refl, sym, ◌∙◌, ◌≤◌, ◌-◌, ◌*◌, arith, lt-ltb, le-ltb, rules}
+use Rattle.basics.proofs.Basics.{◌≡◌, refl, sym, ◌∙◌, arith, lt-ltb, le-ltb, rules}
 use Rattle.rules.specs.Pinned.Register.{no_period}
-use Rattle.input_tables.specs.Between.Tables.{row_at, booked_at}
+use Rattle.input_tables.specs.Between.Tables.{booked_at}
 use Rattle.input_tables.proofs.Points.{row_length, row_get}
-use Rattle.input_tables.proofs.Filled.{Filled, filled_next, filled_all, Pasted, pasted_start, pasted_next}
+use Rattle.input_tables.proofs.Filled.{filled_next, filled_all, pasted_start, pasted_next}
 use Rattle.input_tables.proofs.booked_at.Goals as goal
 
 pub returns-then-i-ge-POINTS : goal.returns-then-i-ge-POINTS

@@ -1,8 +1,6 @@
-use Rattle.basics.proofs.Basics.{◌≡◌, refl, sym, ◌∙◌, ◌≤◌, ◌-◌, ◌*◌, arith, lt-ltb, le-ltb, rules}
-use Rattle.rules.specs.Pinned.Register.{no_period}
-use Rattle.input_tables.specs.Between.Tables.{row_at, booked_at}
-use Rattle.input_tables.proofs.Points.{row_length, row_get}
-use Rattle.input_tables.proofs.Filled.{Filled, filled_next, filled_all, Pasted, pasted_start, pasted_next}
+use Rattle.basics.proofs.Basics.{◌≤◌, ◌-◌, ◌*◌}
+use Rattle.input_tables.specs.Between.Tables.{row_at}
+use Rattle.input_tables.proofs.Filled.{Filled, Pasted}
 use Rattle.input_tables.proofs.booked_at.Given as goal
 
 abbrev pub invariant-loop-k : goal.invariant-loop-k

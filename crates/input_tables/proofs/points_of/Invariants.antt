@@ -1,9 +1,6 @@
-use Rattle.basics.proofs.Basics.{refl, sym, ◌≤◌, ◌-◌, arith, rules}
-use Rattle.rules.specs.Fields.{blank}
-use Rattle.rules.specs.Pinned.Register.{no_point, no_period}
+use Rattle.basics.proofs.Basics.{◌≤◌, ◌-◌}
 use Rattle.input_tables.specs.Between.Tables.{row_at, points_of}
-use Rattle.input_tables.proofs.Points.{row_length, row_get, points_length, points_get}
-use Rattle.input_tables.proofs.Filled.{Filled, filled_next, filled_all}
+use Rattle.input_tables.proofs.Filled.{Filled}
 use Rattle.input_tables.proofs.points_of.Given as goal
 
 abbrev pub invariant-loop-k : goal.invariant-loop-k

@@ -1,9 +1,8 @@
 -- The tables, filled in turn.
-use Rattle.basics.proofs.Basics.{◌≡◌, refl, ◌≤◌, ◌-◌, ◌*◌, arith, rules}
+use Rattle.basics.proofs.Basics.{◌≡◌, refl, arith, rules}
 use Rattle.rules.specs.Pinned.Register.{no_point, no_period}
-use Rattle.input_tables.specs.Between.Tables.{Sized, points_of}
 use Rattle.input_tables.proofs.Points.{points_length, pasted_points, pasted_sized}
-use Rattle.input_tables.proofs.Filled.{Filled, filled_next, filled_all, Pasted, pasted_start, pasted_next}
+use Rattle.input_tables.proofs.Filled.{filled_next, filled_all, pasted_start, pasted_next}
 use Rattle.input_tables.proofs.tables_of.Goals as goal
 
 pub loop-i-init : goal.loop-i-init

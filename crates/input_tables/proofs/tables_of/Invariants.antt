@@ -1,8 +1,6 @@
-use Rattle.basics.proofs.Basics.{◌≡◌, refl, ◌≤◌, ◌-◌, ◌*◌, arith, rules}
-use Rattle.rules.specs.Pinned.Register.{no_point, no_period}
+use Rattle.basics.proofs.Basics.{◌≤◌, ◌-◌, ◌*◌}
 use Rattle.input_tables.specs.Between.Tables.{Sized, points_of}
-use Rattle.input_tables.proofs.Points.{points_length, pasted_points, pasted_sized}
-use Rattle.input_tables.proofs.Filled.{Filled, filled_next, filled_all, Pasted, pasted_start, pasted_next}
+use Rattle.input_tables.proofs.Filled.{Filled, Pasted}
 use Rattle.input_tables.proofs.tables_of.Given as goal
 
 abbrev pub invariant-loop-k : goal.invariant-loop-k

@@ -1,7 +1,6 @@
 -- The closing lines, where a register is open.
 use Rattle.input_pieces.specs.Pinned.Session.{desk_of}
 use Rattle.input_whole.proofs.Ends.{closed_ready, closed_unready}
-use Rattle.basics.proofs.Basics.{rules}
 use Rattle.input_whole.proofs.close.Goals as goal
 
 pub returns-then-s : goal.returns-then-s

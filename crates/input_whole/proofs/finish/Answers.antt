@@ -1,4 +1,4 @@
-use Rattle.basics.proofs.Basics.{sym, [], ◌∷◌, arith, length-take-le, rules}
+use Rattle.basics.proofs.Basics.{sym, [], ◌∷◌, arith, length-take-le}
 use Rattle.input_whole.proofs.Ends.{missing_taken}
 use Rattle.input_whole.proofs.finish.Goals as goal
 

@@ -1,5 +1,5 @@
 -- Before any input: no register is open, and no line has begun.
-use Rattle.basics.proofs.Basics.{ap, false, rules}
+use Rattle.basics.proofs.Basics.{ap, false}
 use Rattle.input_desk.specs.Pinned.Desk.{desk}
 use Rattle.input_whole.specs.Pinned.Ends.{start_desk}
 use Rattle.input_whole.proofs.start.Goals as goal

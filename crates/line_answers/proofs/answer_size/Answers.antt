@@ -1,5 +1,5 @@
 -- `line_answers::answer_size` meets its contract.
-use Rattle.basics.proofs.Basics.{arith, rules}
+use Rattle.basics.proofs.Basics.{arith}
 use Rattle.line_kinds.proofs.KindTable.{word_long}
 use Rattle.line_answers.proofs.LineTexts.{digits_few}
 use Rattle.line_answers.proofs.answer_size.Goals as goal

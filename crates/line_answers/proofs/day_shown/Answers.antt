@@ -1,7 +1,6 @@
 -- `line_answers::day_shown` meets its contract: the first day past the calendar is written 00000000.
 use Rattle.dates.specs.Numbers.{date_answer}
 use Rattle.line_text.specs.Decimal.{fixed}
-use Rattle.basics.proofs.Basics.{rules}
 use Rattle.line_answers.proofs.day_shown.Goals as goal
 
 pub returns-in-Accepted : goal.returns-in-Accepted

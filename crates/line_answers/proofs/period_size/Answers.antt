@@ -1,5 +1,5 @@
 -- `line_answers::period_size` meets its contract.
-use Rattle.basics.proofs.Basics.{arith, rules}
+use Rattle.basics.proofs.Basics.{arith}
 use Rattle.line_answers.proofs.LineTexts.{digits_few, period_length}
 use Rattle.line_answers.proofs.period_size.Goals as goal
 

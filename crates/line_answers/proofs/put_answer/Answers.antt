@@ -1,5 +1,5 @@
 -- `line_answers::put_answer` meets its contract: the line is put piece by piece, where there is room for all of it.
-use Rattle.basics.proofs.Basics.{◌∙◌, ap, List, [], ◌∷◌, ◌≤◌, ℕ, ◌+◌, arith, length, rules}
+use Rattle.basics.proofs.Basics.{◌∙◌, ap, List, [], ◌∷◌, ◌≤◌, ℕ, ◌+◌, arith, length}
 use Rattle.rules.specs.Answers.{is_accepted, number, date}
 use Rattle.line_text.specs.Decimal.{decimal}
 use Rattle.line_text.proofs.Appends.{not_appended, rest_start, rest_next, rest_done}

@@ -1,5 +1,5 @@
 -- `line_answers::put_total` meets its contract: the line is put piece by piece, where there is room for all of it.
-use Rattle.basics.proofs.Basics.{ap, [], List, ℕ, ◌≤◌, ◌+◌, arith, length, rules}
+use Rattle.basics.proofs.Basics.{ap, [], List, ℕ, ◌≤◌, ◌+◌, arith, length}
 use Rattle.rules.specs.declared.{Volume.Volume, NormalVolume.NormalVolume}
 use Rattle.line_text.specs.Ascii.{ascii}
 use Rattle.line_text.specs.Between.Appending.{Appended}

@@ -1,5 +1,4 @@
 -- `line_answers::put_verdict` meets its contract: three bytes.
-use Rattle.basics.proofs.Basics.{rules}
 use Rattle.line_answers.proofs.put_verdict.Goals as goal
 
 pub returns : goal.returns

@@ -1,5 +1,5 @@
 -- `line_answers::put_volumes` meets its contract: there is room, and the text is put piece by piece.
-use Rattle.basics.proofs.Basics.{ap, [], ◌∷◌, ◌≤◌, ◌+◌, arith, length, rules}
+use Rattle.basics.proofs.Basics.{ap, [], ◌∷◌, ◌≤◌, ◌+◌, arith, length}
 use Rattle.line_text.specs.Decimal.{decimal}
 use Rattle.line_text.proofs.Appends.{rest_start, rest_next, rest_done}
 use Rattle.line_answers.proofs.LineTexts.{volumes_pieces, volumes_pieces_lem}

@@ -1,5 +1,5 @@
 -- `line_answers::total_size` meets its contract.
-use Rattle.basics.proofs.Basics.{arith, rules}
+use Rattle.basics.proofs.Basics.{arith}
 use Rattle.line_answers.proofs.LineTexts.{digits_few, total_length}
 use Rattle.line_answers.proofs.total_size.Goals as goal
 

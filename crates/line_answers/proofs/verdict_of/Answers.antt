@@ -1,5 +1,4 @@
 -- `line_answers::verdict_of` meets its contract, answer by answer.
-use Rattle.basics.proofs.Basics.{rules}
 use Rattle.line_answers.proofs.verdict_of.Goals as goal
 
 pub returns-in-Accepted : goal.returns-in-Accepted

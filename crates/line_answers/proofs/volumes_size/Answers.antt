@@ -1,5 +1,5 @@
 -- `line_answers::volumes_size` meets its contract.
-use Rattle.basics.proofs.Basics.{arith, rules}
+use Rattle.basics.proofs.Basics.{arith}
 use Rattle.line_answers.proofs.LineTexts.{digits_few, volumes_length, volumes_short}
 use Rattle.line_answers.proofs.volumes_size.Goals as goal
 

@@ -1,5 +1,5 @@
 -- `line_fields::field_at` meets its contract: a `;`, and then what the sort asks for.
-use Rattle.basics.proofs.Basics.{drop_of_length-le, ne_eqb, eq-eqb, rules}
+use Rattle.basics.proofs.Basics.{drop_of_length-le, ne_eqb, eq-eqb}
 use Rattle.line_values.proofs.Steps.{cons_at}
 use Rattle.line_fields.specs.Between.With.{field_with}
 use Rattle.line_fields.proofs.Handed.{field_step}

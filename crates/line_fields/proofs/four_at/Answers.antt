@@ -1,5 +1,5 @@
 -- `line_fields::four_at` meets its contract: four bytes, one after the other.
-use Rattle.basics.proofs.Basics.{arith, rules}
+use Rattle.basics.proofs.Basics.{arith}
 use Rattle.line_fields.proofs.KnownDates.{four_bytes}
 use Rattle.line_fields.proofs.four_at.Goals as goal
 

@@ -1,5 +1,5 @@
 -- `line_fields::known_date_at` meets its contract: the bytes are those of the known date, or a date is read.
-use Rattle.basics.proofs.Basics.{◌≡◌, ◌+◌, ◌<◌, ◌*◌, ◌^◌, arith, drop, take, length-drop, rules}
+use Rattle.basics.proofs.Basics.{◌≡◌, ◌+◌, ◌<◌, ◌*◌, ◌^◌, arith, drop, take, length-drop}
 use Rattle.line_fields.specs.Between.Known.{packed}
 use Rattle.line_fields.proofs.KnownDates.{date_short, date_same, date_other, eight_packed, eight_bytes}
 use Rattle.line_fields.proofs.Handed.{found_known}

@@ -1,6 +1,5 @@
 -- `line_fields::known_number_at` meets its contract: the number, and the date that was known.
 use Rattle.line_fields.proofs.Handed.{found_known}
-use Rattle.basics.proofs.Basics.{rules}
 use Rattle.line_fields.proofs.known_number_at.Goals as goal
 
 pub returns-in_default : goal.returns-in_default

@@ -1,10 +1,10 @@
 -- `line_fields::read_fields` meets its contract: the values so far, and what is read from here on, are what is read in all.
-use Rattle.basics.proofs.Basics.{◌≡◌, refl, true, false, [], ◌≤◌, ◌-◌, ◌<◌, arith, length, drop, take, length-set}
-use Rattle.basics.proofs.Basics.{replicate, rules}
+use Rattle.basics.proofs.Basics.{◌≡◌, refl, true, false, ◌-◌, ◌<◌, arith, length, length-set}
+use Rattle.basics.proofs.Basics.{replicate}
 use Rattle.line_fields.specs.Between.With.{fields_with}
-use Rattle.line_fields.specs.Between.Shapes.{most_fields, sorts_from}
+use Rattle.line_fields.specs.Between.Shapes.{most_fields}
 use Rattle.line_fields.proofs.FieldSteps.{sorts_next, sorts_none, one_more, zeros_left, fields_in_is, too_many}
-use Rattle.line_fields.proofs.Handed.{handed, fields_step, handed_here, reads}
+use Rattle.line_fields.proofs.Handed.{fields_step, handed_here, reads}
 use Rattle.line_fields.proofs.read_fields.Goals as goal
 
 pub returns-then-count-gt-MOST_FIELDS : goal.returns-then-count-gt-MOST_FIELDS

@@ -1,9 +1,8 @@
-use Rattle.basics.proofs.Basics.{◌≡◌, refl, true, false, [], ◌≤◌, ◌-◌, ◌<◌, arith, length, drop, take, length-set}
-use Rattle.basics.proofs.Basics.{replicate, rules}
+use Rattle.basics.proofs.Basics.{◌≡◌, [], ◌≤◌, ◌-◌, length, drop, take}
+use Rattle.basics.proofs.Basics.{replicate}
 use Rattle.line_fields.specs.Between.With.{fields_with}
 use Rattle.line_fields.specs.Between.Shapes.{most_fields, sorts_from}
-use Rattle.line_fields.proofs.FieldSteps.{sorts_next, sorts_none, one_more, zeros_left, fields_in_is, too_many}
-use Rattle.line_fields.proofs.Handed.{handed, fields_step, handed_here, reads}
+use Rattle.line_fields.proofs.Handed.{handed}
 use Rattle.line_fields.proofs.read_fields.Given as goal
 
 abbrev pub invariant-loop-i : goal.invariant-loop-i

@@ -1,5 +1,5 @@
 -- `line_kinds::is_word` meets its contract: the word is compared with the one that the code holds.
-use Rattle.basics.proofs.Basics.{sym, length-take-le, rules}
+use Rattle.basics.proofs.Basics.{sym, length-take-le}
 use Rattle.line_kinds.proofs.KindTable.{sound}
 use Rattle.line_kinds.proofs.is_word.Goals as goal
 

@@ -1,5 +1,5 @@
 -- `line_kinds::kind_named` meets its contract: only the kinds whose word is as long are left to compare.
-use Rattle.basics.proofs.Basics.{sym, ◌∙◌, rules}
+use Rattle.basics.proofs.Basics.{sym, ◌∙◌}
 use Rattle.line_kinds.specs.Kinds.{kinds}
 use Rattle.line_kinds.specs.Pinned.Naming.{kind_in}
 use Rattle.line_kinds.proofs.Naming.{kind_of_length, kind_of_none}

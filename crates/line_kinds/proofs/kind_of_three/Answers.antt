@@ -1,6 +1,5 @@
 -- `line_kinds::kind_of_three` meets its contract: the last kind first.
 use Rattle.line_kinds.specs.Pinned.Naming.{kind_in}
-use Rattle.basics.proofs.Basics.{rules}
 use Rattle.line_kinds.proofs.kind_of_three.Goals as goal
 
 pub returns : goal.returns

@@ -1,5 +1,5 @@
 -- `line_kinds::kind_or` meets its contract: the word is the kind's or not.
-use Rattle.basics.proofs.Basics.{sym, ◌∙◌, rules}
+use Rattle.basics.proofs.Basics.{sym, ◌∙◌}
 use Rattle.line_kinds.proofs.kind_or.Goals as goal
 
 pub returns-then-is_word : goal.returns-then-is_word

@@ -1,5 +1,5 @@
 -- `line_kinds::put_kind` meets its contract: the word that the code holds is copied.
-use Rattle.basics.proofs.Basics.{sym, length-take-le, rules}
+use Rattle.basics.proofs.Basics.{sym, length-take-le}
 use Rattle.line_kinds.proofs.KindTable.{sound}
 use Rattle.line_kinds.proofs.put_kind.Goals as goal
 

@@ -1,5 +1,4 @@
 -- `line_kinds::row_of` meets its contract, kind by kind.
-use Rattle.basics.proofs.Basics.{rules}
 use Rattle.line_kinds.proofs.row_of.Goals as goal
 
 pub returns-in-Set : goal.returns-in-Set

@@ -1,5 +1,5 @@
 -- One period's line, and how long it can be.
-use Rattle.basics.proofs.Basics.{arith, rules}
+use Rattle.basics.proofs.Basics.{arith}
 use Rattle.rules.specs.Pinned.Register.{period}
 use Rattle.line_listing.proofs.Growing.{period_within}
 use Rattle.line_listing.proofs.put_line.Goals as goal

@@ -1,5 +1,5 @@
 -- The points that fit, one behind the other.
-use Rattle.basics.proofs.Basics.{arith, rules}
+use Rattle.basics.proofs.Basics.{arith}
 use Rattle.line_text.proofs.Within.{within_length}
 use Rattle.line_listing.proofs.Rising.{listed}
 use Rattle.line_listing.proofs.put_listing.Goals as goal

@@ -1,7 +1,5 @@
 -- The lines of the periods passed so far stand behind the position.
-use Rattle.basics.proofs.Basics.{◌≡◌, ◌≤◌, ◌-◌, ◌+◌, ◌*◌, arith, rules}
-use Rattle.line_text.specs.Between.Appending.{AppendedWithin}
-use Rattle.line_listing.specs.Pinned.Listing.{period_lines}
+use Rattle.basics.proofs.Basics.{◌≡◌, ◌+◌, ◌*◌, arith}
 use Rattle.line_text.proofs.Within.{within_none, within_more, within_length}
 use Rattle.line_listing.proofs.Growing.{lines_next, lines_none}
 use Rattle.line_listing.proofs.put_periods.Goals as goal

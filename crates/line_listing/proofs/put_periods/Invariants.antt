@@ -1,8 +1,6 @@
-use Rattle.basics.proofs.Basics.{◌≡◌, ◌≤◌, ◌-◌, ◌+◌, ◌*◌, arith, rules}
+use Rattle.basics.proofs.Basics.{◌≤◌, ◌-◌, ◌*◌}
 use Rattle.line_text.specs.Between.Appending.{AppendedWithin}
 use Rattle.line_listing.specs.Pinned.Listing.{period_lines}
-use Rattle.line_text.proofs.Within.{within_none, within_more, within_length}
-use Rattle.line_listing.proofs.Growing.{lines_next, lines_none}
 use Rattle.line_listing.proofs.put_periods.Given as goal
 
 abbrev pub invariant-loop-i : goal.invariant-loop-i

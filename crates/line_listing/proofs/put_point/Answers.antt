@@ -1,5 +1,5 @@
 -- The lines of one point: none, or its periods and then its total.
-use Rattle.basics.proofs.Basics.{◌≡◌, ◌-◌, ◌+◌, ◌*◌, arith, not-true, not-false, rules}
+use Rattle.basics.proofs.Basics.{◌≡◌, ◌-◌, ◌+◌, ◌*◌, arith, not-true, not-false}
 use Rattle.line_text.proofs.Within.{within, within_none, within_more, within_wider}
 use Rattle.line_answers.proofs.LineTexts.{total_short}
 use Rattle.line_listing.specs.Pinned.Listing.{point_lines}

@@ -1,8 +1,6 @@
 -- The lines of the points passed so far stand at the start of the buffer.
-use Rattle.basics.proofs.Basics.{◌≡◌, ◌≤◌, ◌-◌, ◌+◌, ◌*◌, arith, drop, take, get_or-drop, rules}
+use Rattle.basics.proofs.Basics.{◌≡◌, ◌+◌, ◌*◌, arith, drop, get_or-drop}
 use Rattle.rules.specs.Pinned.Register.{no_point}
-use Rattle.line_text.specs.Between.Appending.{AppendedWithin}
-use Rattle.line_listing.specs.Pinned.Listing.{listing_from}
 use Rattle.line_text.proofs.Within.{within_none, within_more, within_length, within_end}
 use Rattle.line_listing.proofs.Rising.{listing_none, listing_next}
 use Rattle.line_listing.proofs.put_points.Goals as goal

@@ -1,9 +1,6 @@
-use Rattle.basics.proofs.Basics.{◌≡◌, ◌≤◌, ◌-◌, ◌+◌, ◌*◌, arith, drop, take, get_or-drop, rules}
-use Rattle.rules.specs.Pinned.Register.{no_point}
+use Rattle.basics.proofs.Basics.{◌≤◌, ◌-◌, ◌+◌, ◌*◌, drop, take}
 use Rattle.line_text.specs.Between.Appending.{AppendedWithin}
 use Rattle.line_listing.specs.Pinned.Listing.{listing_from}
-use Rattle.line_text.proofs.Within.{within_none, within_more, within_length, within_end}
-use Rattle.line_listing.proofs.Rising.{listing_none, listing_next}
 use Rattle.line_listing.proofs.put_points.Given as goal
 
 abbrev pub invariant-loop-i : goal.invariant-loop-i

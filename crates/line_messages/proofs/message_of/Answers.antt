@@ -1,5 +1,4 @@
 -- `line_messages::message_of` meets its contract, kind by kind.
-use Rattle.basics.proofs.Basics.{rules}
 use Rattle.line_messages.proofs.message_of.Goals as goal
 
 pub returns-in-Set : goal.returns-in-Set

@@ -1,5 +1,5 @@
 -- `line_messages::read_line` meets its contract, step by step.
-use Rattle.basics.proofs.Basics.{sym, ◌∙◌, arith, length, length-take-le, lt-leb, not-true, not-false, rules}
+use Rattle.basics.proofs.Basics.{sym, ◌∙◌, arith, length, length-take-le, lt-leb, not-true, not-false}
 use Rattle.line_text.specs.Longest.{longest_line}
 use Rattle.line_fields.proofs.KnownStays.{first_is_known}
 use Rattle.line_messages.specs.Pinned.Reading.{read_line}

@@ -1,6 +1,5 @@
 -- `line_messages::word_end` meets its contract: the bytes passed, and the word's end from here on, are the word's end.
-use Rattle.basics.proofs.Basics.{◌≡◌, ◌≤◌, ◌-◌, ◌+◌, arith, length, drop, rules}
-use Rattle.line_messages.specs.Pinned.Reading.{word_end}
+use Rattle.basics.proofs.Basics.{arith}
 use Rattle.line_messages.proofs.WordEnds.{end_here, end_past, end_none}
 use Rattle.line_messages.proofs.word_end.Goals as goal
 

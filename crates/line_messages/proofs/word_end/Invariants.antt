@@ -1,6 +1,5 @@
-use Rattle.basics.proofs.Basics.{◌≡◌, ◌≤◌, ◌-◌, ◌+◌, arith, length, drop, rules}
+use Rattle.basics.proofs.Basics.{◌≡◌, ◌≤◌, ◌-◌, ◌+◌, length, drop}
 use Rattle.line_messages.specs.Pinned.Reading.{word_end}
-use Rattle.line_messages.proofs.WordEnds.{end_here, end_past, end_none}
 use Rattle.line_messages.proofs.word_end.Given as goal
 
 abbrev pub invariant-loop-i : goal.invariant-loop-i

@@ -1,5 +1,5 @@
 -- `line_next::is_feed` meets its contract: the byte at the position, where there is one.
-use Rattle.basics.proofs.Basics.{sym, rules}
+use Rattle.basics.proofs.Basics.{sym}
 use Rattle.line_next.proofs.NextLines.{feed_off, feed_at}
 use Rattle.line_next.proofs.is_feed.Goals as goal
 

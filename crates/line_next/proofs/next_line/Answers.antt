@@ -1,5 +1,5 @@
 -- `line_next::next_line` meets its contract: by its fields where they end at a line feed, else by its end.
-use Rattle.basics.proofs.Basics.{◌≡◌, sym, ◌∙◌, false, ◌&&◌, arith, drop, length-drop, rules}
+use Rattle.basics.proofs.Basics.{◌≡◌, sym, ◌∙◌, false, ◌&&◌, arith, drop, length-drop}
 use Rattle.line_next.specs.Between.NextLine.{feed_first}
 use Rattle.line_next.proofs.Handed.{next_off, next_by_end, next_by_fields}
 use Rattle.input_lines.proofs.Feeds.{until_le}

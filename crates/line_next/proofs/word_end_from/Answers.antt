@@ -1,6 +1,5 @@
 -- `line_next::word_end_from` meets its contract, byte by byte.
-use Rattle.basics.proofs.Basics.{◌≡◌, refl, ◌≤◌, ◌-◌, ◌+◌, arith, length, drop, rules}
-use Rattle.line_next.specs.Between.NextLine.{stop_at}
+use Rattle.basics.proofs.Basics.{refl, arith}
 use Rattle.line_next.proofs.NextLines.{stop_here, stop_feed, stop_past, stop_none}
 use Rattle.line_next.proofs.word_end_from.Goals as goal
 

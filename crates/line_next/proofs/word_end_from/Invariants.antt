@@ -1,6 +1,5 @@
-use Rattle.basics.proofs.Basics.{◌≡◌, refl, ◌≤◌, ◌-◌, ◌+◌, arith, length, drop, rules}
+use Rattle.basics.proofs.Basics.{◌≡◌, ◌≤◌, ◌-◌, ◌+◌, length, drop}
 use Rattle.line_next.specs.Between.NextLine.{stop_at}
-use Rattle.line_next.proofs.NextLines.{stop_here, stop_feed, stop_past, stop_none}
 use Rattle.line_next.proofs.word_end_from.Given as goal
 
 abbrev pub invariant-loop-i : goal.invariant-loop-i

@@ -1,5 +1,5 @@
 -- `line_values::date_at` meets its contract: the year, the month, the day, and then the calendar.
-use Rattle.basics.proofs.Basics.{sym, ◌∙◌, ap, rules}
+use Rattle.basics.proofs.Basics.{sym, ◌∙◌, ap}
 use Rattle.dates.specs.declared.{DayAnswer.DayAnswer}
 use Rattle.line_values.proofs.Steps.{day_found, date_steps}
 use Rattle.line_values.proofs.date_at.Goals as goal

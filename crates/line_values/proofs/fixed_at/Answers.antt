@@ -1,6 +1,6 @@
 -- `line_values::fixed_at` meets its contract: what is read from the first digit is what is read from here on.
-use Rattle.basics.proofs.Basics.{◌≡◌, ◌≤◌, ◌-◌, ◌+◌, ◌<◌, ◌^◌, arith, length, drop, length-drop, rules}
-use Rattle.line_values.proofs.Steps.{below_digit, above_digit, in_digit, fixed_at, fixed_step, fixed_few, fixed_end, fixed_small, fixed_grows}
+use Rattle.basics.proofs.Basics.{◌≡◌, ◌-◌, ◌+◌, arith, drop, length-drop}
+use Rattle.line_values.proofs.Steps.{below_digit, above_digit, in_digit, fixed_step, fixed_few, fixed_end, fixed_small, fixed_grows}
 use Rattle.line_values.proofs.fixed_at.Goals as goal
 
 pub returns-then-s-at : goal.returns-then-s-at

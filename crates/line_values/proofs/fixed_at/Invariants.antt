@@ -1,5 +1,5 @@
-use Rattle.basics.proofs.Basics.{◌≡◌, ◌≤◌, ◌-◌, ◌+◌, ◌<◌, ◌^◌, arith, length, drop, length-drop, rules}
-use Rattle.line_values.proofs.Steps.{below_digit, above_digit, in_digit, fixed_at, fixed_step, fixed_few, fixed_end, fixed_small, fixed_grows}
+use Rattle.basics.proofs.Basics.{◌≡◌, ◌≤◌, ◌-◌, ◌+◌, ◌<◌, ◌^◌, length}
+use Rattle.line_values.proofs.Steps.{fixed_at}
 use Rattle.line_values.proofs.fixed_at.Given as goal
 
 abbrev pub invariant-loop-i : goal.invariant-loop-i

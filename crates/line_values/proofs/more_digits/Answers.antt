@@ -1,6 +1,6 @@
 -- `line_values::more_digits` meets its contract: what is read from the first digit is what is read from here on.
-use Rattle.basics.proofs.Basics.{◌≡◌, refl, ◌-◌, ◌<◌, ◌^◌, arith, length, lt-ltb, le-ltb, rules}
-use Rattle.line_values.proofs.Steps.{more_at, cons_at, below_digit, above_digit, in_digit, more_end, more_step}
+use Rattle.basics.proofs.Basics.{refl, ◌^◌, arith, lt-ltb, le-ltb}
+use Rattle.line_values.proofs.Steps.{cons_at, below_digit, above_digit, in_digit, more_end, more_step}
 use Rattle.line_values.proofs.more_digits.Goals as goal
 
 pub loop-i-init : goal.loop-i-init

@@ -1,5 +1,5 @@
-use Rattle.basics.proofs.Basics.{◌≡◌, refl, ◌-◌, ◌<◌, ◌^◌, arith, length, lt-ltb, le-ltb, rules}
-use Rattle.line_values.proofs.Steps.{more_at, cons_at, below_digit, above_digit, in_digit, more_end, more_step}
+use Rattle.basics.proofs.Basics.{◌≡◌, ◌-◌, ◌<◌, ◌^◌, length}
+use Rattle.line_values.proofs.Steps.{more_at}
 use Rattle.line_values.proofs.more_digits.Given as goal
 
 abbrev pub invariant-loop-i : goal.invariant-loop-i

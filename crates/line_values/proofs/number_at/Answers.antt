@@ -1,5 +1,5 @@
 -- `line_values::number_at` meets its contract: the first byte decides.
-use Rattle.basics.proofs.Basics.{drop_of_length-le, ne_eqb, eq-eqb, rules}
+use Rattle.basics.proofs.Basics.{drop_of_length-le, ne_eqb, eq-eqb}
 use Rattle.line_values.specs.Pinned.Numbers.{number_of}
 use Rattle.line_values.proofs.Steps.{cons_at, below_digit, above_digit, in_digit, number_step}
 use Rattle.line_values.proofs.number_at.Goals as goal

@@ -1,6 +1,5 @@
 -- `line_values::same` meets its contract: what is left to compare says whether the words are the same.
-use Rattle.basics.proofs.Basics.{◌≡◌, refl, ◌≤◌, ◌-◌, arith, length, drop, ne_eqb, eq-eqb, rules}
-use Rattle.line_values.specs.Pinned.Words.{are_same}
+use Rattle.basics.proofs.Basics.{refl, arith, ne_eqb, eq-eqb, rules}
 use Rattle.line_values.proofs.Steps.{other_length, same_step, same_end}
 use Rattle.line_values.proofs.same.Goals as goal
 

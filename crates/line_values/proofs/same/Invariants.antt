@@ -1,6 +1,5 @@
-use Rattle.basics.proofs.Basics.{◌≡◌, refl, ◌≤◌, ◌-◌, arith, length, drop, ne_eqb, eq-eqb, rules}
+use Rattle.basics.proofs.Basics.{◌≡◌, ◌≤◌, ◌-◌, length, drop}
 use Rattle.line_values.specs.Pinned.Words.{are_same}
-use Rattle.line_values.proofs.Steps.{other_length, same_step, same_end}
 use Rattle.line_values.proofs.same.Given as goal
 
 abbrev pub invariant-loop-i : goal.invariant-loop-i

@@ -1,5 +1,4 @@
 -- `line_writing::call_values` meets its contract, call by call.
-use Rattle.basics.proofs.Basics.{rules}
 use Rattle.line_writing.proofs.call_values.Goals as goal
 
 pub returns-in-Contract : goal.returns-in-Contract

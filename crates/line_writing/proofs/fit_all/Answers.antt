@@ -1,7 +1,7 @@
 -- `line_writing::fit_all` meets its contract: whether the fields left fit says whether all do.
-use Rattle.basics.proofs.Basics.{◌≡◌, sym, ◌∙◌, ap, ◌≤◌, ◌-◌, arith, length, not-true, not-false, rules}
+use Rattle.basics.proofs.Basics.{◌≡◌, sym, ◌∙◌, ap, ◌-◌, arith, length, rules}
 use Rattle.line_fields.specs.Fields.{fit_all}
-use Rattle.line_fields.specs.Between.Shapes.{most_fields, fields_from}
+use Rattle.line_fields.specs.Between.Shapes.{most_fields}
 use Rattle.line_writing.proofs.FieldLoops.{fields_next, fields_none}
 use Rattle.line_writing.proofs.fit_all.Goals as goal
 

@@ -1,7 +1,6 @@
-use Rattle.basics.proofs.Basics.{◌≡◌, sym, ◌∙◌, ap, ◌≤◌, ◌-◌, arith, length, not-true, not-false, rules}
+use Rattle.basics.proofs.Basics.{◌≡◌, ◌≤◌, ◌-◌, length}
 use Rattle.line_fields.specs.Fields.{fit_all}
-use Rattle.line_fields.specs.Between.Shapes.{most_fields, fields_from}
-use Rattle.line_writing.proofs.FieldLoops.{fields_next, fields_none}
+use Rattle.line_fields.specs.Between.Shapes.{fields_from}
 use Rattle.line_writing.proofs.fit_all.Given as goal
 
 abbrev pub invariant-loop-i : goal.invariant-loop-i

@@ -1,5 +1,4 @@
 -- `line_writing::fits` meets its contract, sort by sort.
-use Rattle.basics.proofs.Basics.{rules}
 use Rattle.line_writing.proofs.fits.Goals as goal
 
 pub returns-in-Date : goal.returns-in-Date

@@ -1,5 +1,5 @@
 -- `line_writing::is_writable` meets its contract: the fields fit.
-use Rattle.basics.proofs.Basics.{◌≡◌, sym, ◌∙◌, ap, arith, rules}
+use Rattle.basics.proofs.Basics.{sym, ◌∙◌, ap}
 use Rattle.line_fields.specs.Fields.{fit_all}
 use Rattle.line_messages.specs.Writing.{is_writable}
 use Rattle.line_messages.proofs.OneLine.{writable_is}

@@ -1,5 +1,4 @@
 -- `line_writing::point_values` meets its contract, call by call.
-use Rattle.basics.proofs.Basics.{rules}
 use Rattle.line_writing.proofs.point_values.Goals as goal
 
 pub returns-in-Enrol : goal.returns-in-Enrol

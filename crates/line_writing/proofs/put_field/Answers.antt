@@ -1,6 +1,5 @@
 -- `line_writing::put_field` meets its contract: the `;`, and then what the sort asks for.
 use Rattle.line_writing.proofs.FieldLoops.{field_put}
-use Rattle.basics.proofs.Basics.{rules}
 use Rattle.line_writing.proofs.put_field.Goals as goal
 
 pub returns-in-Date : goal.returns-in-Date

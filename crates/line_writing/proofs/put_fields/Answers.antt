@@ -1,8 +1,8 @@
 -- `line_writing::put_fields` meets its contract: of the text, that of the fields left is still to be put.
-use Rattle.basics.proofs.Basics.{◌≡◌, ◌∙◌, ap, [], ◌≤◌, ◌-◌, arith, length, get_or, length-append, rules}
-use Rattle.line_text.proofs.Appends.{Rest, rest_start, rest_next, rest_none}
-use Rattle.line_fields.specs.Fields.{field_text, fields_text}
-use Rattle.line_fields.specs.Between.Shapes.{most_fields, sort_at, fields_from}
+use Rattle.basics.proofs.Basics.{◌≡◌, ◌∙◌, ap, [], ◌-◌, arith, length, get_or, length-append, rules}
+use Rattle.line_text.proofs.Appends.{rest_start, rest_next, rest_none}
+use Rattle.line_fields.specs.Fields.{field_text}
+use Rattle.line_fields.specs.Between.Shapes.{most_fields, sort_at}
 use Rattle.line_writing.proofs.FieldLoops.{text_next, fields_none}
 use Rattle.line_writing.proofs.put_fields.Goals as goal
 

@@ -1,8 +1,7 @@
-use Rattle.basics.proofs.Basics.{◌≡◌, ◌∙◌, ap, [], ◌≤◌, ◌-◌, arith, length, get_or, length-append, rules}
-use Rattle.line_text.proofs.Appends.{Rest, rest_start, rest_next, rest_none}
-use Rattle.line_fields.specs.Fields.{field_text, fields_text}
-use Rattle.line_fields.specs.Between.Shapes.{most_fields, sort_at, fields_from}
-use Rattle.line_writing.proofs.FieldLoops.{text_next, fields_none}
+use Rattle.basics.proofs.Basics.{◌≤◌, ◌-◌, length}
+use Rattle.line_text.proofs.Appends.{Rest}
+use Rattle.line_fields.specs.Fields.{fields_text}
+use Rattle.line_fields.specs.Between.Shapes.{fields_from}
 use Rattle.line_writing.proofs.put_fields.Given as goal
 
 abbrev pub invariant-loop-i : goal.invariant-loop-i

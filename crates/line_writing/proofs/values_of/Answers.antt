@@ -1,5 +1,4 @@
 -- `line_writing::values_of` meets its contract, message by message.
-use Rattle.basics.proofs.Basics.{rules}
 use Rattle.line_writing.proofs.values_of.Goals as goal
 
 pub returns-in-Open : goal.returns-in-Open

@@ -1,5 +1,5 @@
 -- `line_writing::write_line` meets its contract: the word, and then the fields, in front of zeros.
-use Rattle.basics.proofs.Basics.{sym, ◌∙◌, not-true, not-false, rules}
+use Rattle.basics.proofs.Basics.{sym, ◌∙◌}
 use Rattle.line_messages.specs.Writing.{text_of}
 use Rattle.line_writing.specs.Between.Written.{written_line}
 use Rattle.line_writing.proofs.WrittenLines.{fields_room, line_written}

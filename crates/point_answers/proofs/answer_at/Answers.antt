@@ -1,5 +1,5 @@
 -- Call by call.
-use Rattle.basics.proofs.Basics.{refl, rules}
+use Rattle.basics.proofs.Basics.{refl}
 use Rattle.point_answers.proofs.answer_at.Goals as goal
 
 pub returns-in-Enrol : goal.returns-in-Enrol

@@ -1,5 +1,5 @@
 -- Number 40, by the code.
-use Rattle.basics.proofs.Basics.{◌∙◌, arith, eq-eqb, ne_eqb, rules}
+use Rattle.basics.proofs.Basics.{◌∙◌, arith, eq-eqb, ne_eqb}
 use Rattle.point_checks.proofs.Tests.{or_false}
 use Rattle.point_checks.proofs.bad_factor.Goals as goal
 

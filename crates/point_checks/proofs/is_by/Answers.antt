@@ -1,5 +1,4 @@
 -- The pending request is by s.
-use Rattle.basics.proofs.Basics.{rules}
 use Rattle.point_checks.proofs.is_by.Goals as goal
 
 pub returns : goal.returns

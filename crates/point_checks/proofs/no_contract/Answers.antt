@@ -1,5 +1,5 @@
 -- Number 1: nobody past 99 is under contract.
-use Rattle.basics.proofs.Basics.{false, arith, rules}
+use Rattle.basics.proofs.Basics.{false, arith}
 use Rattle.point_checks.proofs.Past.{get_d_past}
 use Rattle.point_checks.proofs.no_contract.Goals as goal
 

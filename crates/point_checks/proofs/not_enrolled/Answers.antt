@@ -1,5 +1,4 @@
 -- Number 2: no point, or not enrolled.
-use Rattle.basics.proofs.Basics.{rules}
 use Rattle.point_checks.proofs.not_enrolled.Goals as goal
 
 pub returns : goal.returns

@@ -1,5 +1,5 @@
 -- The wheels and the code of a meter.
-use Rattle.basics.proofs.Basics.{◌∙◌, ap₂, Bool, ◌||◌, rules}
+use Rattle.basics.proofs.Basics.{◌∙◌, ap₂, Bool, ◌||◌}
 use Rattle.point_checks.proofs.not_meter.Goals as goal
 
 pub returns : goal.returns

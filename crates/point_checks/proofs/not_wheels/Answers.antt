@@ -1,5 +1,4 @@
 -- The wheels of a meter: before the comma and after it.
-use Rattle.basics.proofs.Basics.{rules}
 use Rattle.point_checks.proofs.not_wheels.Goals as goal
 
 pub returns : goal.returns

@@ -1,5 +1,4 @@
 -- A holder is named, and the fields stand beside it.
-use Rattle.basics.proofs.Basics.{rules}
 use Rattle.point_effects.proofs.named_point.Goals as goal
 
 pub returns : goal.returns

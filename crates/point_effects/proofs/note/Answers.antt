@@ -1,6 +1,5 @@
 -- Effect by effect.
 use Rattle.point_effects.specs.Between.{noted}
-use Rattle.basics.proofs.Basics.{rules}
 use Rattle.point_effects.proofs.note.Goals as goal
 
 pub returns-in-Keep : goal.returns-in-Keep

@@ -1,5 +1,5 @@
 -- The answer, and what an accepted call does.
-use Rattle.basics.proofs.Basics.{◌≡◌, refl, true, Bool, arith, rules}
+use Rattle.basics.proofs.Basics.{◌≡◌, refl, true, Bool, arith}
 use Rattle.rules.specs.declared.{Answer.Answer}
 use Rattle.rules.specs.Answers.{is_accepted}
 use Rattle.point_effects.specs.Between.{ruling_at}

@@ -1,5 +1,5 @@
 -- The next slot is written where there is one.
-use Rattle.basics.proofs.Basics.{arith, lt-ltb, le-ltb, rules}
+use Rattle.basics.proofs.Basics.{arith, lt-ltb, le-ltb}
 use Rattle.rules.specs.Pinned.Register.{appended}
 use Rattle.point_periods.proofs.appended.Goals as goal
 

@@ -1,5 +1,5 @@
 -- A holder is named: the newest period is replaced where it starts on the day, else a period is appended.
-use Rattle.basics.proofs.Basics.{sym, ◌∙◌, rules}
+use Rattle.basics.proofs.Basics.{sym, ◌∙◌}
 use Rattle.rules.specs.Pinned.Register.{named}
 use Rattle.point_periods.proofs.Starts.{starts_some}
 use Rattle.point_periods.proofs.named.Goals as goal

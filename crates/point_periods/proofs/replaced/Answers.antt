@@ -1,6 +1,5 @@
 -- The newest slot is written anew with its volume kept.
 use Rattle.rules.specs.Pinned.Register.{replaced}
-use Rattle.basics.proofs.Basics.{rules}
 use Rattle.point_periods.proofs.replaced.Goals as goal
 
 pub returns : goal.returns

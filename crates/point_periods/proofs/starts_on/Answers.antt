@@ -1,5 +1,5 @@
 -- The newest period starts on the day: none does where no slot is in use.
-use Rattle.basics.proofs.Basics.{arith, lt-ltb, le-ltb, rules}
+use Rattle.basics.proofs.Basics.{arith, lt-ltb, le-ltb}
 use Rattle.rules.specs.Pinned.Register.{starts_on}
 use Rattle.point_periods.proofs.starts_on.Goals as goal
 

@@ -1,5 +1,4 @@
 -- The volumes of all the periods in use, added up.
-use Rattle.basics.proofs.Basics.{rules}
 use Rattle.questions.proofs.advance_in.Goals as goal
 
 pub returns : goal.returns

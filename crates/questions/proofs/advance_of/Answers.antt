@@ -1,5 +1,5 @@
 -- The advance question: off its range, or the sum of the point's volumes.
-use Rattle.basics.proofs.Basics.{sym, ◌∙◌, rules}
+use Rattle.basics.proofs.Basics.{sym, ◌∙◌}
 use Rattle.questions.specs.Pinned.Questions.{advance_answer}
 use Rattle.questions.proofs.Asked.{asked_in}
 use Rattle.questions.proofs.advance_of.Goals as goal

@@ -1,5 +1,5 @@
 -- The periods that may be asked about.
-use Rattle.basics.proofs.Basics.{sym, ◌∙◌, rules}
+use Rattle.basics.proofs.Basics.{sym, ◌∙◌}
 use Rattle.questions.specs.Pinned.Questions.{asked_history}
 use Rattle.questions.proofs.Asked.{asked_in}
 use Rattle.questions.proofs.asked_history.Goals as goal

@@ -1,5 +1,5 @@
 -- The periods are looked at from the newest down: what is left to look at decides.
-use Rattle.basics.proofs.Basics.{◌≡◌, sym, ◌∙◌, ap, ◌≤◌, ℕ, ◌-◌, ◌+◌, arith, rules}
+use Rattle.basics.proofs.Basics.{◌≡◌, sym, ◌∙◌, ap, ℕ, ◌-◌, ◌+◌, arith}
 use Rattle.questions.specs.Pinned.Questions.{holder_among}
 use Rattle.questions.proofs.Walks.{among_found, among_passed, among_none}
 use Rattle.questions.proofs.holder_among.Goals as goal

@@ -1,6 +1,5 @@
-use Rattle.basics.proofs.Basics.{◌≡◌, sym, ◌∙◌, ap, ◌≤◌, ℕ, ◌-◌, ◌+◌, arith, rules}
+use Rattle.basics.proofs.Basics.{◌≡◌, ◌≤◌, ◌-◌}
 use Rattle.questions.specs.Pinned.Questions.{holder_among}
-use Rattle.questions.proofs.Walks.{among_found, among_passed, among_none}
 use Rattle.questions.proofs.holder_among.Given as goal
 
 abbrev pub invariant-loop-i : goal.invariant-loop-i

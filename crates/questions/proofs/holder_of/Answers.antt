@@ -1,5 +1,5 @@
 -- The holder question: off its range, or the search over the point's periods.
-use Rattle.basics.proofs.Basics.{◌≡◌, sym, ◌∙◌, true, false, ◌||◌, ltb, rules}
+use Rattle.basics.proofs.Basics.{◌≡◌, sym, ◌∙◌, true, false, ◌||◌, ltb}
 use Rattle.questions.specs.Pinned.Questions.{unasked, holder_answer}
 use Rattle.rules.proofs.Accept.{neither}
 use Rattle.questions.proofs.Asked.{asked_in}

@@ -1,5 +1,5 @@
 -- No point, or one that is not enrolled.
-use Rattle.basics.proofs.Basics.{arith, rules}
+use Rattle.basics.proofs.Basics.{arith}
 use Rattle.questions.proofs.Asked.{told_in}
 use Rattle.questions.proofs.is_unasked.Goals as goal
 

@@ -1,5 +1,5 @@
 -- The period question: off its range, or the n-th slot.
-use Rattle.basics.proofs.Basics.{sym, ◌∙◌, arith, rules}
+use Rattle.basics.proofs.Basics.{sym, ◌∙◌, arith}
 use Rattle.questions.specs.Pinned.Questions.{period_answer}
 use Rattle.questions.proofs.Asked.{asked_in, told, told_in}
 use Rattle.questions.proofs.period_of.Goals as goal

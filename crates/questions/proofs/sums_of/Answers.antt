@@ -1,7 +1,7 @@
 -- The volumes passed so far, added up, each kind by itself.
-use Rattle.basics.proofs.Basics.{◌≡◌, sym, ap₂, ℕ, ◌≤◌, ◌-◌, arith, rules}
+use Rattle.basics.proofs.Basics.{◌≡◌, sym, ap₂, ℕ, arith, rules}
 use Rattle.rules.specs.declared.{Period.Period}
-use Rattle.questions.specs.Pinned.Questions.{sum_of, advances}
+use Rattle.questions.specs.Pinned.Questions.{advances}
 use Rattle.questions.proofs.Walks.{sum_next, sum_none}
 use Rattle.questions.proofs.sums_of.Goals as goal
 

@@ -1,7 +1,6 @@
-use Rattle.basics.proofs.Basics.{◌≡◌, sym, ap₂, ℕ, ◌≤◌, ◌-◌, arith, rules}
+use Rattle.basics.proofs.Basics.{◌≡◌, ℕ, ◌≤◌, ◌-◌}
 use Rattle.rules.specs.declared.{Period.Period}
-use Rattle.questions.specs.Pinned.Questions.{sum_of, advances}
-use Rattle.questions.proofs.Walks.{sum_next, sum_none}
+use Rattle.questions.specs.Pinned.Questions.{sum_of}
 use Rattle.questions.proofs.sums_of.Given as goal
 
 abbrev booked : Period → ℕ

@@ -1,5 +1,5 @@
 -- The slots are looked at from the oldest on: what is left to look at decides.
-use Rattle.basics.proofs.Basics.{◌≡◌, sym, ◌∙◌, ap, ◌≤◌, ◌<◌, ℕ, ◌-◌, arith, rules, length, take, drop}
+use Rattle.basics.proofs.Basics.{◌≡◌, sym, ◌∙◌, ap, ◌≤◌, ◌<◌, ℕ, ◌-◌, arith, rules, length, take}
 use Rattle.questions_supplier.specs.Pinned.Own.{own_in, nth_own}
 use Rattle.questions_supplier.proofs.Slots.{own_found, own_passed, own_other, own_none}
 use Rattle.questions_supplier.proofs.own_among.Goals as goal

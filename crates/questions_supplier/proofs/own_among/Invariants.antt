@@ -1,7 +1,5 @@
-use mathlib.Core.Logic.{inl, inr}
-use Rattle.basics.proofs.Basics.{◌≡◌, sym, ◌∙◌, ap, ◌≤◌, ◌<◌, ℕ, ◌-◌, arith, rules, length, take, drop}
+use Rattle.basics.proofs.Basics.{◌≡◌, ◌≤◌, ◌-◌, take, drop}
 use Rattle.questions_supplier.specs.Pinned.Own.{own_in, nth_own}
-use Rattle.questions_supplier.proofs.Slots.{own_found, own_passed, own_other, own_none}
 use Rattle.questions_supplier.proofs.own_among.Given as goal
 
 abbrev pub invariant-loop-i : goal.invariant-loop-i

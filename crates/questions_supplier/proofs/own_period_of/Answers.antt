@@ -1,5 +1,5 @@
 -- The view: no supplier, or the walk over the point's periods.
-use Rattle.basics.proofs.Basics.{arith, rules}
+use Rattle.basics.proofs.Basics.{arith}
 use Rattle.questions.proofs.Asked.{told}
 use Rattle.questions_supplier.specs.Pinned.Own.{own_periods, own_answer}
 use Rattle.questions_supplier.proofs.own_period_of.Goals as goal

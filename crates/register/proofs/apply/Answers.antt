@@ -1,5 +1,4 @@
 -- Each call by its function.
-use Rattle.basics.proofs.Basics.{rules}
 use Rattle.register.proofs.apply.Goals as goal
 
 pub returns-in-Contract : goal.returns-in-Contract

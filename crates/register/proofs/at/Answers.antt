@@ -1,5 +1,5 @@
 -- A call that names a point, on the register: the point is found, ruled on, and stored where the call is accepted.
-use Rattle.basics.proofs.Basics.{sym, ◌∙◌, arith, not-true, not-false, rules}
+use Rattle.basics.proofs.Basics.{sym, ◌∙◌, arith}
 use Rattle.register.proofs.AtPoint.{ruling_refused, ruling_in, ruling_accepted}
 use Rattle.register.proofs.at.Goals as goal
 

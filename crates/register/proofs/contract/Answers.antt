@@ -1,5 +1,5 @@
 -- A contract: refused by its rows, or signed on the register brought up to today.
-use Rattle.basics.proofs.Basics.{sym, ◌∙◌, arith, not-true, not-false, rules}
+use Rattle.basics.proofs.Basics.{sym, ◌∙◌, arith}
 use Rattle.rules.specs.declared.{Action.Action}
 use Rattle.rules.specs.Pinned.Register.{done}
 use Rattle.point_answers.proofs.Apart.{contract_apart}

@@ -1,5 +1,5 @@
 -- A failure: the rows before number 30, number 30, then last resort at each of its points.
-use Rattle.basics.proofs.Basics.{sym, ◌∙◌, arith, not-true, not-false, rules}
+use Rattle.basics.proofs.Basics.{sym, ◌∙◌, arith}
 use Rattle.register.proofs.Failing.{failure_refused, failure_in, failure_full, failure_done}
 use Rattle.register.proofs.fail.Goals as goal
 

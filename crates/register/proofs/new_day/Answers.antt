@@ -1,5 +1,5 @@
 -- A day: the register brought up to it, or refused.
-use Rattle.basics.proofs.Basics.{sym, ◌∙◌, rules}
+use Rattle.basics.proofs.Basics.{sym, ◌∙◌}
 use Rattle.rules.specs.declared.{Action.Action}
 use Rattle.rules.specs.Pinned.Register.{done}
 use Rattle.point_answers.proofs.Apart.{day_apart}

@@ -1,6 +1,5 @@
 -- `count` meets its contract: what is counted and what is left are all of it.
-use Rattle.basics.proofs.Basics.{◌≡◌, ◌-◌, ◌+◌, arith, rules}
-use Rattle.holidays.specs.Working.{working_from}
+use Rattle.basics.proofs.Basics.{◌-◌, arith}
 use Rattle.working_count.proofs.Counting.{part_step, none_left, most}
 use Rattle.working_count.proofs.count.Goals as goal
 

@@ -1,6 +1,5 @@
-use Rattle.basics.proofs.Basics.{◌≡◌, ◌-◌, ◌+◌, arith, rules}
+use Rattle.basics.proofs.Basics.{◌≡◌, ◌-◌, ◌+◌}
 use Rattle.holidays.specs.Working.{working_from}
-use Rattle.working_count.proofs.Counting.{part_step, none_left, most}
 use Rattle.working_count.proofs.count.Given as goal
 
 abbrev pub invariant-loop-d : goal.invariant-loop-d

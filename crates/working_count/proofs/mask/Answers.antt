@@ -1,5 +1,4 @@
 -- `mask` meets its contract.
-use Rattle.basics.proofs.Basics.{rules}
 use Rattle.working_count.proofs.Masks.{some, less, mask_is}
 use Rattle.working_count.proofs.mask.Goals as goal
 

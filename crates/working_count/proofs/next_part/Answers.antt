@@ -1,5 +1,5 @@
 -- `next_part` meets its contract: the year is that of the day; past the calendar no day is worked.
-use Rattle.basics.proofs.Basics.{◌∙◌, sym, rules}
+use Rattle.basics.proofs.Basics.{◌∙◌, sym}
 use Rattle.dates.proofs.InYear.{year_found, year_past}
 use Rattle.working_count.proofs.Counting.{rest_past}
 use Rattle.working_count.proofs.next_part.Goals as goal

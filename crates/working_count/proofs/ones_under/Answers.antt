@@ -1,5 +1,5 @@
 -- `ones_under` meets its contract: a word has at most 64 ones.
-use Rattle.basics.proofs.Basics.{ap, rules}
+use Rattle.basics.proofs.Basics.{ap}
 use native.Mathlib.Nat.{lt_of_le_of_lt}
 use lib.Bits.{bit_and, and_le_l}
 use lib.Count.{ones, ones-le}

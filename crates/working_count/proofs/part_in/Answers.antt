@@ -1,5 +1,4 @@
 -- `part_in` meets its contract: the ones under the mask are the working days of the part.
-use Rattle.basics.proofs.Basics.{rules}
 use Rattle.working_count.proofs.Parts.{word_in, counted}
 use Rattle.working_count.proofs.part_in.Goals as goal
 

@@ -1,5 +1,5 @@
 -- `working_between` meets its contract: the days after the first and before the second; none where it is not ahead.
-use Rattle.basics.proofs.Basics.{sym, rules}
+use Rattle.basics.proofs.Basics.{sym}
 use Rattle.holidays.specs.Working.{working_between}
 use Rattle.holidays.proofs.Counting.{between_none}
 use Rattle.working_count.proofs.working_between.Goals as goal

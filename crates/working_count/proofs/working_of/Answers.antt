@@ -1,5 +1,5 @@
 -- `working_of` meets its contract: both days are of the calendar and in order, or the question is refused.
-use Rattle.basics.proofs.Basics.{ap, arith, le-leb, lt-leb, and-false, rules}
+use Rattle.basics.proofs.Basics.{ap, arith, le-leb, lt-leb, and-false}
 use Rattle.working_count.specs.declared.{WorkingAnswer.WorkingAnswer}
 use Rattle.working_count.specs.Question.{working_answer}
 use Rattle.working_count.proofs.working_of.Goals as goal

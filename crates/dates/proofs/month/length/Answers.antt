@@ -1,5 +1,5 @@
 -- `month::length` meets its contract: the code's table is the definition's.
-use Rattle.basics.proofs.Basics.{◌≡◌, arith, rules}
+use Rattle.basics.proofs.Basics.{◌≡◌, arith}
 use Rattle.dates.specs.Dates.{month_length}
 use Rattle.dates.proofs.Months.{length_bounds}
 use Rattle.dates.proofs.month.length.Goals as goal

@@ -1,5 +1,5 @@
 -- `month::of_day` meets its contract: the day lies between the first days of two months.
-use Rattle.basics.proofs.Basics.{add-one, arith, rules}
+use Rattle.basics.proofs.Basics.{add-one, arith}
 use Rattle.dates.specs.Numbers.{month_start}
 use Rattle.dates.proofs.Months.{month_kept, month_after, year_length_lem}
 use Rattle.dates.proofs.month.of_day.Goals as goal

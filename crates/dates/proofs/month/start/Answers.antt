@@ -1,5 +1,5 @@
 -- `month::start` meets its contract: the code's table is that of the sums of the lengths.
-use Rattle.basics.proofs.Basics.{◌≡◌, arith, rules}
+use Rattle.basics.proofs.Basics.{◌≡◌, arith}
 use Rattle.dates.proofs.Months.{start_at, start_is}
 use Rattle.dates.proofs.month.start.Goals as goal
 

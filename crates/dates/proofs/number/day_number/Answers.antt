@@ -1,5 +1,5 @@
 -- `number::day_number` meets its contract: the sum of the parts is the definition's.
-use Rattle.basics.proofs.Basics.{◌≡◌, ◌-◌, ◌+◌, arith, rules}
+use Rattle.basics.proofs.Basics.{◌≡◌, ◌-◌, ◌+◌, arith}
 use Rattle.dates.specs.Numbers.{day_number}
 use Rattle.dates.proofs.number.day_number.Goals as goal
 

@@ -1,5 +1,5 @@
 -- `number::on_or_last` meets its contract: the smaller day of the month is the definition's.
-use Rattle.basics.proofs.Basics.{arith, rules}
+use Rattle.basics.proofs.Basics.{arith}
 use Rattle.dates.proofs.ThreeMonths.{kept_or_last}
 use Rattle.dates.proofs.number.on_or_last.Goals as goal
 

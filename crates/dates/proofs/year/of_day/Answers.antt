@@ -1,5 +1,5 @@
 -- `year::of_day` meets its contract: the day lies between the first days of two years.
-use Rattle.basics.proofs.Basics.{ap, ◌+◌, ◌<◌, suc, ◌/◌, add-one, arith, rules}
+use Rattle.basics.proofs.Basics.{ap, ◌+◌, ◌<◌, suc, ◌/◌, add-one, arith}
 use Rattle.dates.specs.Numbers.{year_start}
 use Rattle.dates.proofs.Years.{year_is}
 use Rattle.dates.proofs.year.of_day.Goals as goal

@@ -1,5 +1,5 @@
 -- `year::start` meets its contract: its formula is the sum of the years before.
-use Rattle.basics.proofs.Basics.{arith, rules}
+use Rattle.basics.proofs.Basics.{arith}
 use Rattle.dates.proofs.Years.{year_is}
 use Rattle.dates.proofs.year.start.Goals as goal
 

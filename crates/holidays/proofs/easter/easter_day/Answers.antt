@@ -1,5 +1,5 @@
 -- `easter_day` meets its contract: the day of 22 March, where there is one, and the table's entry of days on.
-use Rattle.basics.proofs.Basics.{sym, ◌∙◌, arith, rules}
+use Rattle.basics.proofs.Basics.{sym, ◌∙◌, arith}
 use Rattle.holidays.proofs.EasterTable.{easter_none, easter_years, march_22_in, easter_found}
 use Rattle.holidays.proofs.easter.easter_day.Goals as goal
 

@@ -1,14 +1,8 @@
 -- The lines in turn.
-use Rattle.basics.proofs.Basics.{sym, ◌∙◌, ◌≤◌, ◌-◌, arith, length, drop, length-drop, take_all, rules}
-use Rattle.line_fields.specs.Between.Known.{IsKnown}
+use Rattle.basics.proofs.Basics.{sym, ◌∙◌, ◌-◌, arith, length, drop, length-drop, take_all, rules}
 use Rattle.line_fields.proofs.KnownStays.{first_is_known}
 use Rattle.line_next.proofs.NextLines.{next_right}
-use Rattle.input_lines.specs.Between.Begun.{kept}
-use Rattle.input_desk.specs.Pinned.Desk.{desk}
-use Rattle.input_tables.specs.Between.Tables.{Sized}
-use Rattle.input_quiet.specs.Between.Quiet.{first_due}
-use Rattle.input_pieces.specs.Pinned.Session.{register_in}
-use Rattle.input_pieces.proofs.Turns.{Going, going_start, ends, line_done}
+use Rattle.input_pieces.proofs.Turns.{going_start, ends, line_done}
 use Rattle.input_pieces.proofs.Leaves.{Heard, Next, state, d, said_here, deed_in}
 use Rattle.input_pieces.proofs.Leaves.{heard_as, daily_next, refused_next, whole_next, slot_next, back_next, sign_next}
 use Rattle.input_pieces.proofs.Leaves.{pass_next, fail_next}
@@ -127,7 +121,8 @@ loop-at-preserved c = let x = c.answer_of-said.ensures in
       | goal.then-is_accepted+in-Whole w ↦ rw (w.ready-is, w.set-is, w.day-is, w.contracts-is, w.fields-is, w.counts-is, w.slots-is, w.quiet-is)
           (whole_next z s q n at ha lt p hp told (ok ∙ w.if-is_accepted.true) w.register_of.ensures w.after-next.ensures
           w.tables_of-tables.ensures w.first_due-quiet-in-Whole.ensures)
-      | goal.else-is_accepted w ↦ rw (w.ready-is, w.set-is, w.day-is, w.contracts-is, w.fields-is, w.counts-is, w.slots-is, w.quiet-is) (refused_next z s q n at ha lt p hp told (ok ∙ w.if-is_accepted.false))
+      | goal.else-is_accepted w ↦ rw (w.ready-is, w.set-is, w.day-is, w.contracts-is, w.fields-is, w.counts-is, w.slots-is, w.quiet-is)
+          (refused_next z s q n at ha lt p hp told (ok ∙ w.if-is_accepted.false))
     ]
     in (
       line_done l.invariant.0 read c.if-piece-end.false c.whole_message-whole.ensures next.turned c.put_answer-written-in-loop-at.ensures,

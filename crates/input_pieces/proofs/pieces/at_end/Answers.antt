@@ -1,5 +1,4 @@
 -- What is left is kept.
-use Rattle.basics.proofs.Basics.{rules}
 use Rattle.input_pieces.proofs.pieces.at_end.Goals as goal
 
 pub returns : goal.returns

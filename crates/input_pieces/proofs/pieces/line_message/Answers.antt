@@ -1,4 +1,3 @@
-use Rattle.basics.proofs.Basics.{rules}
 use Rattle.input_pieces.proofs.Capped.{read_whole, read_joined}
 use Rattle.input_pieces.proofs.pieces.line_message.Goals as goal
 

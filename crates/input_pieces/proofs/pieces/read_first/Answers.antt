@@ -1,4 +1,4 @@
-use Rattle.basics.proofs.Basics.{◌≡◌, sym, min, arith, length-take-le, take_all, rules}
+use Rattle.basics.proofs.Basics.{◌≡◌, sym, min, arith, length-take-le, take_all}
 use Rattle.input_lines.specs.Between.Begun.{kept_bytes}
 use Rattle.input_pieces.proofs.pieces.read_first.Goals as goal
 

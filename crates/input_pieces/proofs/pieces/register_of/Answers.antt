@@ -1,5 +1,4 @@
 -- The points of the tables, and the rest as it is.
-use Rattle.basics.proofs.Basics.{rules}
 use Rattle.input_pieces.proofs.pieces.register_of.Goals as goal
 
 pub returns : goal.returns

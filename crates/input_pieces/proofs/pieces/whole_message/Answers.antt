@@ -1,4 +1,3 @@
-use Rattle.basics.proofs.Basics.{rules}
 use Rattle.input_pieces.proofs.Capped.{read_whole}
 use Rattle.input_pieces.proofs.pieces.whole_message.Goals as goal
 

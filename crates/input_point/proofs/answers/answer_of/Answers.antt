@@ -1,6 +1,5 @@
 -- The answer, message by message.
 use Rattle.input_point.specs.Between.Answers.{said_by}
-use Rattle.basics.proofs.Basics.{rules}
 use Rattle.input_point.proofs.answers.answer_of.Goals as goal
 
 pub returns-then-ready : goal.returns-then-ready

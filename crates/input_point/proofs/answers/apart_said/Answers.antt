@@ -1,5 +1,5 @@
 -- A failure, or any other call that names no point.
-use Rattle.basics.proofs.Basics.{sym, ◌∙◌, [], ◌∷◌, rules}
+use Rattle.basics.proofs.Basics.{sym, ◌∙◌}
 use Rattle.input_point.specs.Between.Answers.{apart_said}
 use Rattle.input_point.proofs.Apart.{not_failing}
 use Rattle.input_point.proofs.answers.apart_said.Goals as goal

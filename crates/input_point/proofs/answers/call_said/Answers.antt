@@ -1,5 +1,5 @@
 -- The answer, at a point and apart from all.
-use Rattle.basics.proofs.Basics.{◌∙◌, [], ◌∷◌, rules}
+use Rattle.basics.proofs.Basics.{◌∙◌}
 use Rattle.input_point.specs.Between.Answers.{call_said}
 use Rattle.input_point.proofs.Apart.{not_at}
 use Rattle.input_point.proofs.answers.call_said.Goals as goal

@@ -1,5 +1,5 @@
 -- The points are looked at in turn: what is left to look at decides.
-use Rattle.basics.proofs.Basics.{◌≡◌, refl, sym, ◌∙◌, ap, true, Bool, ◌&&◌, List, ◌≤◌, ℕ, ◌-◌, ◌+◌, arith, rules}
+use Rattle.basics.proofs.Basics.{◌≡◌, refl, sym, ◌∙◌, ap, true, Bool, ◌&&◌, List, ℕ, ◌-◌, ◌+◌, arith, rules}
 use Rattle.rules.specs.declared.{Fields.Fields, Period.Period, Settings.Settings}
 use Rattle.rules.specs.Effects.{failed}
 use Rattle.rules.specs.Rejections.{any_point, shown, touches, is_full}

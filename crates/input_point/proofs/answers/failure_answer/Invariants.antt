@@ -1,10 +1,8 @@
-use Rattle.basics.proofs.Basics.{◌≡◌, refl, sym, ◌∙◌, ap, true, Bool, ◌&&◌, List, ◌≤◌, ℕ, ◌-◌, ◌+◌, arith, rules}
+use Rattle.basics.proofs.Basics.{◌≡◌, Bool, ◌&&◌, List, ◌≤◌, ℕ, ◌-◌, ◌+◌}
 use Rattle.rules.specs.declared.{Fields.Fields, Period.Period, Settings.Settings}
 use Rattle.rules.specs.Effects.{failed}
 use Rattle.rules.specs.Rejections.{any_point, shown, touches, is_full}
-use Rattle.register.proofs.Search.{any_found, any_passed, any_none}
-use Rattle.input_point.specs.Between.Answers.{shows, failure_answer}
-use Rattle.input_point.proofs.Settled.{shown_next}
+use Rattle.input_point.specs.Between.Answers.{shows}
 use Rattle.input_point.proofs.answers.failure_answer.Given as goal
 
 abbrev filled : Settings → ℕ → ℕ → ℕ → List Fields → List ℕ → List Period → ℕ → Bool
@@ -13,7 +11,8 @@ filled S day t s fs ns ss p = touches s (shown (shows S day t fs ns ss) p).field
 
 abbrev pub invariant-loop-i : goal.invariant-loop-i
 invariant-loop-i l = (l.i ≤ 32)
-    × (any_point 1 32 (filled l.set l.day l.today l.s l.fields l.counts l.slots) ≡ any_point (l.i + 1) (32 - l.i) (filled l.set l.day l.today l.s l.fields l.counts l.slots))
+    × (any_point 1 32 (filled l.set l.day l.today l.s l.fields l.counts l.slots) ≡
+    any_point (l.i + 1) (32 - l.i) (filled l.set l.day l.today l.s l.fields l.counts l.slots))
 
 abbrev pub decreases-loop-i : goal.decreases-loop-i
 decreases-loop-i l = 32 - l.i

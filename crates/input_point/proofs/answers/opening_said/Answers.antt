@@ -1,5 +1,4 @@
 -- A later opening is none.
-use Rattle.basics.proofs.Basics.{rules}
 use Rattle.input_point.proofs.answers.opening_said.Goals as goal
 
 pub returns : goal.returns

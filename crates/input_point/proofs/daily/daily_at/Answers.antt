@@ -1,5 +1,4 @@
 -- Only a reading is one.
-use Rattle.basics.proofs.Basics.{[], ◌∷◌, rules}
 use Rattle.input_point.specs.Between.Daily.{daily_at}
 use Rattle.input_point.proofs.DailyRules.{is_reading, is_other, which}
 use Rattle.input_point.proofs.daily.daily_at.Goals as goal

@@ -1,6 +1,5 @@
 -- Only a call at a point, on the register's own day, before anything falls due.
-use Rattle.basics.proofs.Basics.{[], ◌∷◌, ◌<◌, arith, lt-ltb, le-ltb, ne_eqb, eq-eqb, not-true, not-false}
-use Rattle.basics.proofs.Basics.{rules}
+use Rattle.basics.proofs.Basics.{◌<◌, arith, lt-ltb, le-ltb, ne_eqb, eq-eqb}
 use Rattle.input_point.specs.Between.Daily.{daily_of}
 use Rattle.input_point.proofs.Apart.{not_at}
 use Rattle.input_point.proofs.daily.daily_of.Goals as goal

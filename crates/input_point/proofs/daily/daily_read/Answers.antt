@@ -1,5 +1,5 @@
 -- A reading of the register's own day, by its rows and the newest period.
-use Rattle.basics.proofs.Basics.{◌≡◌, refl, sym, ◌∙◌, ap, Bool, List, ℕ, arith, not-true, not-false, rules}
+use Rattle.basics.proofs.Basics.{◌≡◌, refl, sym, ◌∙◌, ap, Bool, List, ℕ, arith}
 use Rattle.rules.specs.declared.{Answer.Answer, Fields.Fields, Period.Period, PointAction.PointAction, Settings.Settings}
 use Rattle.rules.specs.declared.{Span.Span, View.View}
 use Rattle.rules.specs.Answers.{is_accepted}

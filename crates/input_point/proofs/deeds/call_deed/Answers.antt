@@ -1,5 +1,5 @@
 -- The deed, call by call.
-use Rattle.basics.proofs.Basics.{lt-ltb, le-ltb, rules}
+use Rattle.basics.proofs.Basics.{lt-ltb, le-ltb}
 use Rattle.input_point.specs.Between.Deeds.{call_deed}
 use Rattle.input_point.proofs.deeds.call_deed.Goals as goal
 

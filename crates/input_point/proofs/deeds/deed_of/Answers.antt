@@ -1,5 +1,5 @@
 -- The deed, message by message.
-use Rattle.basics.proofs.Basics.{lt-ltb, le-ltb, rules}
+use Rattle.basics.proofs.Basics.{lt-ltb, le-ltb}
 use Rattle.input_point.specs.Between.Deeds.{deed_of}
 use Rattle.input_point.proofs.deeds.deed_of.Goals as goal
 

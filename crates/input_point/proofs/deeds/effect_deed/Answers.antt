@@ -1,6 +1,5 @@
 -- The deed, effect by effect.
 use Rattle.input_point.specs.Between.Deeds.{effect_deed}
-use Rattle.basics.proofs.Basics.{rules}
 use Rattle.input_point.proofs.deeds.effect_deed.Goals as goal
 
 pub returns-in-Keep : goal.returns-in-Keep

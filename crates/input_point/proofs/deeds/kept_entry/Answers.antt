@@ -1,5 +1,4 @@
 -- The newest slot is stored as it is.
-use Rattle.basics.proofs.Basics.{rules}
 use Rattle.input_point.proofs.deeds.kept_entry.Goals as goal
 
 pub returns : goal.returns

@@ -1,5 +1,5 @@
 -- The newest period gets the holder, or a new one, or none where all slots are taken.
-use Rattle.basics.proofs.Basics.{◌≡◌, sym, ◌∙◌, min, arith, lt-ltb, le-ltb, rules}
+use Rattle.basics.proofs.Basics.{◌≡◌, sym, ◌∙◌, min, arith, lt-ltb, le-ltb}
 use Rattle.input_point.specs.Between.Deeds.{naming_deed}
 use Rattle.input_point.proofs.deeds.naming_entry.Goals as goal
 

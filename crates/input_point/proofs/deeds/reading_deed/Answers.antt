@@ -1,5 +1,5 @@
 -- The newest period is booked, or the reading reaches back.
-use Rattle.basics.proofs.Basics.{sym, ◌∙◌, rules}
+use Rattle.basics.proofs.Basics.{sym, ◌∙◌}
 use Rattle.input_point.specs.Between.Deeds.{reading_deed}
 use Rattle.input_point.proofs.deeds.reading_deed.Goals as goal
 

@@ -1,6 +1,5 @@
 -- The deed of a ruling.
 use Rattle.input_point.specs.Between.Deeds.{ruled_deed}
-use Rattle.basics.proofs.Basics.{rules}
 use Rattle.input_point.proofs.deeds.ruled_deed.Goals as goal
 
 pub returns-in-Known : goal.returns-in-Known

@@ -1,5 +1,5 @@
 -- A failure names the last-resort supplier or keeps the slots: it books no reading.
-use Rattle.basics.proofs.Basics.{sym, ◌∙◌, rules}
+use Rattle.basics.proofs.Basics.{sym, ◌∙◌}
 use Rattle.input_point.specs.Between.Deeds.{effect_deed}
 use Rattle.input_point.proofs.FailedSlots.{no_reading}
 use Rattle.input_point.proofs.failures.failed_entry.Goals as goal

@@ -1,10 +1,8 @@
 -- The failure goes over every point in turn.
-use Rattle.basics.proofs.Basics.{◌≡◌, refl, ◌∙◌, [], ◌≤◌, ◌-◌, arith, length, rules}
+use Rattle.basics.proofs.Basics.{refl, ◌∙◌, [], arith, rules}
 use Rattle.rules.specs.Pinned.Register.{no_point}
-use Rattle.input_tables.specs.Between.Tables.{points_of, Sized}
 use Rattle.input_tables.proofs.Points.{points_length}
-use Rattle.register.specs.Between.Calls.{failed_on}
-use Rattle.register.proofs.Sweep.{swept, swept_more, swept_all}
+use Rattle.register.proofs.Sweep.{swept_more, swept_all}
 use Rattle.input_point.proofs.DeedsDone.{slot_within}
 use Rattle.input_point.proofs.Stored.{slot_sized, failed_stored}
 use Rattle.input_point.proofs.failures.failed_tables.Goals as goal

@@ -1,11 +1,7 @@
-use Rattle.basics.proofs.Basics.{◌≡◌, refl, ◌∙◌, [], ◌≤◌, ◌-◌, arith, length, rules}
-use Rattle.rules.specs.Pinned.Register.{no_point}
+use Rattle.basics.proofs.Basics.{◌≡◌, ◌≤◌, ◌-◌, length}
 use Rattle.input_tables.specs.Between.Tables.{points_of, Sized}
-use Rattle.input_tables.proofs.Points.{points_length}
 use Rattle.register.specs.Between.Calls.{failed_on}
-use Rattle.register.proofs.Sweep.{swept, swept_more, swept_all}
-use Rattle.input_point.proofs.DeedsDone.{slot_within}
-use Rattle.input_point.proofs.Stored.{slot_sized, failed_stored}
+use Rattle.register.proofs.Sweep.{swept}
 use Rattle.input_point.proofs.failures.failed_tables.Given as goal
 
 abbrev pub invariant-loop-i : goal.invariant-loop-i

@@ -1,6 +1,5 @@
 -- What is seen after what fell due.
 use Rattle.input_quiet.specs.Between.Quiet.{happened_seen}
-use Rattle.basics.proofs.Basics.{rules}
 use Rattle.input_quiet.proofs.seen.happen_seen.Goals as goal
 
 pub returns-in-Nothing : goal.returns-in-Nothing

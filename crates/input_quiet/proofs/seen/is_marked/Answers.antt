@@ -1,5 +1,5 @@
 -- The newest period starts on the day: none does where there is none.
-use Rattle.basics.proofs.Basics.{arith, lt-ltb, le-ltb, rules}
+use Rattle.basics.proofs.Basics.{arith, lt-ltb, le-ltb}
 use Rattle.input_quiet.proofs.seen.is_marked.Goals as goal
 
 pub returns-then-x-eq0 : goal.returns-then-x-eq0

@@ -1,5 +1,5 @@
 -- A holder named: the newest period's, a new one's, or none where all slots are taken.
-use Rattle.basics.proofs.Basics.{sym, ◌∙◌, lt-ltb, le-ltb, rules}
+use Rattle.basics.proofs.Basics.{sym, ◌∙◌, lt-ltb, le-ltb}
 use Rattle.input_quiet.specs.Between.Quiet.{named_seen}
 use Rattle.input_quiet.proofs.seen.named_seen.Goals as goal
 

@@ -1,6 +1,5 @@
 -- The event that falls due first.
 use Rattle.input_quiet.specs.Between.Quiet.{next_seen}
-use Rattle.basics.proofs.Basics.{rules}
 use Rattle.input_quiet.proofs.seen.next_seen.Goals as goal
 
 pub returns : goal.returns

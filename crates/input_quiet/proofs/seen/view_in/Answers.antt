@@ -1,5 +1,4 @@
 -- What is seen, with today's mark.
-use Rattle.basics.proofs.Basics.{rules}
 use Rattle.input_quiet.proofs.seen.view_in.Goals as goal
 
 pub returns : goal.returns

@@ -1,5 +1,5 @@
 -- Two events at the most, on another day than the register's that lies in the calendar.
-use Rattle.basics.proofs.Basics.{sym, rules}
+use Rattle.basics.proofs.Basics.{sym}
 use Rattle.input_quiet.proofs.SeenOn.{seen_day, seen_late, seen_up}
 use Rattle.input_quiet.proofs.seen.view_on.Goals as goal
 

@@ -1,6 +1,5 @@
 -- `line_text::write::digit_count` meets its contract: the digits counted and those left are the digits in all.
-use Rattle.basics.proofs.Basics.{◌≡◌, [], ◌+◌, ◌<◌, ◌^◌, arith, length, rules}
-use Rattle.line_text.specs.Decimal.{decimal}
+use Rattle.basics.proofs.Basics.{arith}
 use Rattle.line_text.proofs.Spelling.{count_one, count_step, count_some, decimal_length}
 use Rattle.line_text.proofs.write.digit_count.Goals as goal
 

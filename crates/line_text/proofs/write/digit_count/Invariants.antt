@@ -1,6 +1,5 @@
-use Rattle.basics.proofs.Basics.{◌≡◌, [], ◌+◌, ◌<◌, ◌^◌, arith, length, rules}
+use Rattle.basics.proofs.Basics.{◌≡◌, [], ◌+◌, ◌<◌, ◌^◌, length}
 use Rattle.line_text.specs.Decimal.{decimal}
-use Rattle.line_text.proofs.Spelling.{count_one, count_step, count_some, decimal_length}
 use Rattle.line_text.proofs.write.digit_count.Given as goal
 
 abbrev pub invariant-loop-v : goal.invariant-loop-v

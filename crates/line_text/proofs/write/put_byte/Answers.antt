@@ -1,5 +1,5 @@
 -- `line_text::write::put_byte` meets its contract: one store, or none.
-use Rattle.basics.proofs.Basics.{refl, [], ◌∷◌, arith, rules}
+use Rattle.basics.proofs.Basics.{refl, [], ◌∷◌, arith}
 use Rattle.line_text.proofs.Appends.{put_sets, appended, not_appended}
 use Rattle.line_text.proofs.write.put_byte.Goals as goal
 

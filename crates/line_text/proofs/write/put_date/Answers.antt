@@ -1,5 +1,5 @@
 -- `line_text::write::put_date` meets its contract: eight stores, or none.
-use Rattle.basics.proofs.Basics.{[], arith, length-set, rules}
+use Rattle.basics.proofs.Basics.{[], arith, length-set}
 use Rattle.line_text.specs.Days.{date_text}
 use Rattle.line_text.proofs.DayTexts.{date_length}
 use Rattle.line_text.proofs.DigitSteps.{date_put}

@@ -1,5 +1,5 @@
 -- `line_text::write::put_day` meets its contract: the calendar's answer, written.
-use Rattle.basics.proofs.Basics.{sym, ◌∙◌, rules}
+use Rattle.basics.proofs.Basics.{sym, ◌∙◌}
 use Rattle.line_text.specs.Decimal.{fixed}
 use Rattle.line_text.proofs.write.put_day.Goals as goal
 

@@ -1,8 +1,8 @@
 -- `line_text::write::put_number` meets its contract: the digits that stand already, and those left, are the number's.
-use Rattle.basics.proofs.Basics.{refl, ◌∙◌, ap, [], ◌≤◌, ℕ, ◌+◌, ◌<◌, arith, length, length-set, rules}
+use Rattle.basics.proofs.Basics.{refl, ◌∙◌, ap, [], ℕ, ◌+◌, arith, length-set}
 use Rattle.line_text.specs.Decimal.{decimal}
 use Rattle.line_text.proofs.Spelling.{count_some}
-use Rattle.line_text.proofs.DigitSteps.{Left, left_some, left_step, left_done}
+use Rattle.line_text.proofs.DigitSteps.{left_some, left_step, left_done}
 use Rattle.line_text.proofs.Appends.{appended, not_appended}
 use Rattle.line_text.proofs.write.put_number.Goals as goal
 

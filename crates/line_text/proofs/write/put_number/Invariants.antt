@@ -1,8 +1,6 @@
-use Rattle.basics.proofs.Basics.{refl, ◌∙◌, ap, [], ◌≤◌, ℕ, ◌+◌, ◌<◌, arith, length, length-set, rules}
+use Rattle.basics.proofs.Basics.{[], ◌≤◌, ◌+◌, ◌<◌, length}
 use Rattle.line_text.specs.Decimal.{decimal}
-use Rattle.line_text.proofs.Spelling.{count_some}
-use Rattle.line_text.proofs.DigitSteps.{Left, left_some, left_step, left_done}
-use Rattle.line_text.proofs.Appends.{appended, not_appended}
+use Rattle.line_text.proofs.DigitSteps.{Left}
 use Rattle.line_text.proofs.write.put_number.Given as goal
 
 abbrev pub invariant-loop-v : goal.invariant-loop-v

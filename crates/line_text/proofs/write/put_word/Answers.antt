@@ -1,6 +1,6 @@
 -- `line_text::write::put_word` meets its contract: the bytes copied so far stand behind the position.
-use Rattle.basics.proofs.Basics.{◌≡◌, refl, ◌∙◌, ◌≤◌, ◌-◌, ◌+◌, add-one, arith, length, length-set, paste, paste-zero}
-use Rattle.basics.proofs.Basics.{paste-suc, rules}
+use Rattle.basics.proofs.Basics.{refl, ◌∙◌, add-one, arith, length-set, paste-zero}
+use Rattle.basics.proofs.Basics.{paste-suc}
 use Rattle.line_text.proofs.Appends.{appended, not_appended, word_pasted}
 use Rattle.line_text.proofs.write.put_word.Goals as goal
 

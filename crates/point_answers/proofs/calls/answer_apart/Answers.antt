@@ -1,5 +1,5 @@
 -- Call by call.
-use Rattle.basics.proofs.Basics.{sym, ◌∙◌, rules}
+use Rattle.basics.proofs.Basics.{sym, ◌∙◌}
 use Rattle.rules.specs.Rejections.{blank_view}
 use Rattle.point_answers.specs.Between.{answer_apart}
 use Rattle.point_answers.proofs.Failures.{failure_apart}

@@ -1,5 +1,5 @@
 -- The rows of a contract, in order.
-use Rattle.basics.proofs.Basics.{refl, rules}
+use Rattle.basics.proofs.Basics.{refl}
 use Rattle.rules.specs.Rejections.{rows, accepted, answer_to}
 use Rattle.point_answers.proofs.Folded.{through, all_refuse, folded}
 use Rattle.point_answers.proofs.calls.contract_answer.Goals as goal

@@ -1,5 +1,5 @@
 -- The rows of a failure, in order, but for the last.
-use Rattle.basics.proofs.Basics.{refl, rules}
+use Rattle.basics.proofs.Basics.{refl}
 use Rattle.rules.specs.Rejections.{rows}
 use Rattle.point_answers.specs.Between.{failure_rows}
 use Rattle.point_answers.proofs.Folded.{through, all_refuse, folded}

@@ -1,5 +1,5 @@
 -- The rows of an opening, in order.
-use Rattle.basics.proofs.Basics.{refl, rules}
+use Rattle.basics.proofs.Basics.{refl}
 use Rattle.rules.specs.Rejections.{opening_answer}
 use Rattle.point_answers.proofs.Folded.{through, all_refuse, folded}
 use Rattle.point_answers.proofs.calls.opening_answer.Goals as goal

@@ -1,6 +1,5 @@
 -- The rows of a reading behind 22, 20 and 21, in order: what they look at is in the fields.
 use Rattle.rules.specs.Rejections.{first_of, rows_at}
-use Rattle.basics.proofs.Basics.{rules}
 use Rattle.point_answers.proofs.rows.dated_reading.Goals as goal
 
 pub returns-then-not_enrolled : goal.returns-then-not_enrolled

@@ -1,6 +1,5 @@
 -- Number 26, counted where the answer is still open.
 use Rattle.point_answers.specs.Between.{after}
-use Rattle.basics.proofs.Basics.{rules}
 use Rattle.point_answers.proofs.rows.late_row.Goals as goal
 
 pub returns-then-is_accepted : goal.returns-then-is_accepted

@@ -1,6 +1,5 @@
 -- Number 8, kind by kind.
 use Rattle.point_answers.proofs.Folded.{passed_by}
-use Rattle.basics.proofs.Basics.{rules}
 use Rattle.point_answers.proofs.rows.near_row.Goals as goal
 
 pub returns-in-None : goal.returns-in-None

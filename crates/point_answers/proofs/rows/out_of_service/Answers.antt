@@ -1,5 +1,5 @@
 -- The rows of a point going out of service, in order.
-use Rattle.basics.proofs.Basics.{refl, rules}
+use Rattle.basics.proofs.Basics.{refl}
 use Rattle.rules.specs.Effects.{effect_of}
 use Rattle.rules.specs.Rejections.{rows_at}
 use Rattle.point_answers.specs.Between.{answer_at}

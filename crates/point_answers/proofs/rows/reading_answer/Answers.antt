@@ -1,5 +1,5 @@
 -- The rows of a reading, in order: 22, 20 and 21, then the others.
-use Rattle.basics.proofs.Basics.{◌≡◌, sym, ◌∙◌, true, lt-ltb, le-ltb, rules}
+use Rattle.basics.proofs.Basics.{◌≡◌, sym, ◌∙◌, true, lt-ltb, le-ltb}
 use Rattle.rules.specs.Effects.{effect_of}
 use Rattle.rules.specs.Rejections.{not_mark, is_past, first_of, rows_at}
 use Rattle.point_answers.specs.Between.{answer_at}

@@ -1,5 +1,4 @@
 -- The first refusal stays.
-use Rattle.basics.proofs.Basics.{rules}
 use Rattle.point_answers.specs.Between.{after}
 use Rattle.point_answers.proofs.Folded.{passed_by}
 use Rattle.point_answers.proofs.rows.refuse.Goals as goal

@@ -1,5 +1,5 @@
 -- The rows of a request, in order; row 3 sees to it that the day that the answer carries is e.
-use Rattle.basics.proofs.Basics.{refl, ◌∙◌, true, [], ◌∷◌, rules}
+use Rattle.basics.proofs.Basics.{refl, ◌∙◌, true, [], ◌∷◌}
 use Rattle.rules.specs.Effects.{effect_of}
 use Rattle.rules.specs.Rejections.{◌⇒◌, bad_day, rows_at}
 use Rattle.point_answers.specs.Between.{answer_at}

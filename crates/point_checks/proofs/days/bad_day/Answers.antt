@@ -1,5 +1,5 @@
 -- Number 3: the definition's three tests, one after the other.
-use Rattle.basics.proofs.Basics.{◌≤◌, lt-ltb, le-ltb, rules}
+use Rattle.basics.proofs.Basics.{◌≤◌, lt-ltb, le-ltb}
 use Rattle.point_checks.proofs.Tests.{past_capped}
 use Rattle.point_checks.proofs.days.bad_day.Goals as goal
 

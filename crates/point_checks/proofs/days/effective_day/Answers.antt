@@ -1,5 +1,5 @@
 -- e, the larger of the two days, as long as it lies in the calendar.
-use Rattle.basics.proofs.Basics.{arith, rules}
+use Rattle.basics.proofs.Basics.{arith}
 use Rattle.rules.specs.Effects.{effective_day}
 use Rattle.point_checks.proofs.days.effective_day.Goals as goal
 

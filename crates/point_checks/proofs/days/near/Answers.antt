@@ -1,5 +1,5 @@
 -- Number 8: the deadline is at most the notice away.
-use Rattle.basics.proofs.Basics.{◌+◌, arith, le-leb, rules}
+use Rattle.basics.proofs.Basics.{◌+◌, arith, le-leb}
 use Rattle.point_checks.proofs.Tests.{near_less}
 use Rattle.point_checks.proofs.days.near.Goals as goal
 

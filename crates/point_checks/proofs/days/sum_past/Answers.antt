@@ -1,5 +1,5 @@
 -- A sum past the calendar's end, without adding.
-use Rattle.basics.proofs.Basics.{lt-ltb, le-ltb, rules}
+use Rattle.basics.proofs.Basics.{lt-ltb, le-ltb}
 use Rattle.point_checks.proofs.Tests.{past_sum}
 use Rattle.point_checks.proofs.days.sum_past.Goals as goal
 

@@ -1,5 +1,5 @@
 -- Number 26: the working days between today and e, counted.
-use Rattle.basics.proofs.Basics.{ap, ℕ, ltb, rules}
+use Rattle.basics.proofs.Basics.{ap, ℕ, ltb}
 use Rattle.point_checks.proofs.days.too_late.Goals as goal
 
 pub returns : goal.returns

@@ -1,5 +1,5 @@
 -- Number 30: a holder named marks a cell more, unless today's has one.
-use Rattle.basics.proofs.Basics.{add-zero, rules}
+use Rattle.basics.proofs.Basics.{add-zero}
 use Rattle.point_checks.proofs.Tests.{kept_room, named_room}
 use Rattle.point_checks.proofs.marks.is_full.Goals as goal
 

@@ -1,5 +1,5 @@
 -- `kind_due` meets its contract, kind by kind.
-use Rattle.basics.proofs.Basics.{refl, arith, rules}
+use Rattle.basics.proofs.Basics.{refl, arith}
 use Rattle.point_checks.proofs.marks.kind_due.Goals as goal
 
 pub returns-in-None : goal.returns-in-None

@@ -1,5 +1,5 @@
 -- What the checks see: no cell is marked where no slot is in use.
-use Rattle.basics.proofs.Basics.{arith, lt-ltb, rules}
+use Rattle.basics.proofs.Basics.{arith, lt-ltb}
 use Rattle.rules.specs.Pinned.Register.{starts_on}
 use Rattle.point_checks.proofs.marks.view_of.Goals as goal
 

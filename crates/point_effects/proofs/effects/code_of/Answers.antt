@@ -1,5 +1,5 @@
 -- What a meter counts, by its code.
-use Rattle.basics.proofs.Basics.{eq-eqb, ne_eqb, rules}
+use Rattle.basics.proofs.Basics.{eq-eqb, ne_eqb}
 use Rattle.point_effects.proofs.effects.code_of.Goals as goal
 
 pub returns-then-code-eq1 : goal.returns-then-code-eq1

@@ -1,5 +1,5 @@
 -- The request that is left.
-use Rattle.basics.proofs.Basics.{ne_eqb, eq-eqb, rules}
+use Rattle.basics.proofs.Basics.{ne_eqb, eq-eqb}
 use Rattle.point_effects.proofs.effects.dropped.Goals as goal
 
 pub returns-then-by-s : goal.returns-then-by-s

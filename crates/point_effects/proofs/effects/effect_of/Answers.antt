@@ -1,5 +1,5 @@
 -- What an accepted call does, call by call.
-use Rattle.basics.proofs.Basics.{arith, rules}
+use Rattle.basics.proofs.Basics.{arith}
 use Rattle.rules.specs.Effects.{effect_of}
 use Rattle.point_effects.proofs.Accepted.{today_fits, enrol_fits, service_fits, default_fits, request_fits}
 use Rattle.point_effects.proofs.Accepted.{reading_fits, change_fits, suspend_fits}

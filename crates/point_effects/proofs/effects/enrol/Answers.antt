@@ -1,5 +1,4 @@
 -- A point with its first meter, and nothing else.
-use Rattle.basics.proofs.Basics.{rules}
 use Rattle.point_effects.proofs.effects.enrol.Goals as goal
 
 pub returns : goal.returns

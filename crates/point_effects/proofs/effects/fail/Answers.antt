@@ -1,5 +1,5 @@
 -- A failure at one point: last resort where the supplier holds it, and its request dropped.
-use Rattle.basics.proofs.Basics.{le-leb, lt-leb, ne_eqb, eq-eqb, rules}
+use Rattle.basics.proofs.Basics.{le-leb, lt-leb, ne_eqb, eq-eqb}
 use Rattle.rules.specs.Effects.{failed}
 use Rattle.point_effects.specs.Between.{failed_by}
 use Rattle.point_effects.proofs.effects.fail.Goals as goal

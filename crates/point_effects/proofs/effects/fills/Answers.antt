@@ -1,5 +1,5 @@
 -- Number 30 of a failure at one point: where the supplier holds it, where it has a request there, and elsewhere.
-use Rattle.basics.proofs.Basics.{ne_eqb, eq-eqb, rules}
+use Rattle.basics.proofs.Basics.{ne_eqb, eq-eqb}
 use Rattle.rules.specs.Effects.{failed}
 use Rattle.point_effects.proofs.effects.fills.Goals as goal
 

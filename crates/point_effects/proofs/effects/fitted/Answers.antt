@@ -1,5 +1,4 @@
 -- The meter that a call brings, field by field.
-use Rattle.basics.proofs.Basics.{rules}
 use Rattle.point_effects.proofs.effects.fitted.Goals as goal
 
 pub returns : goal.returns

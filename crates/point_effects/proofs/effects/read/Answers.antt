@@ -1,6 +1,5 @@
 -- A reading becomes the last one, and what it advances is booked.
 use Rattle.point_volumes.proofs.Readings.{read_span}
-use Rattle.basics.proofs.Basics.{rules}
 use Rattle.point_effects.proofs.effects.read.Goals as goal
 
 pub returns : goal.returns

@@ -1,5 +1,5 @@
 -- A request waits for e.
-use Rattle.basics.proofs.Basics.{◌≡◌, ◌∙◌, arith, rules}
+use Rattle.basics.proofs.Basics.{◌≡◌, ◌∙◌, arith}
 use Rattle.rules.specs.Effects.{effective_day}
 use Rattle.point_effects.proofs.effects.request.Goals as goal
 

@@ -1,6 +1,5 @@
 -- Catching up: two events.
 use Rattle.point_effects.specs.Between.{caught_up}
-use Rattle.basics.proofs.Basics.{rules}
 use Rattle.point_effects.proofs.events.catch_up.Goals as goal
 
 pub returns : goal.returns

@@ -1,5 +1,5 @@
 -- What falls due first: the request, unless it lies ahead or the deadline comes before it.
-use Rattle.basics.proofs.Basics.{le-leb, lt-leb, rules}
+use Rattle.basics.proofs.Basics.{le-leb, lt-leb}
 use Rattle.rules.specs.Pinned.Register.{due_by}
 use Rattle.point_effects.specs.Between.{due_in}
 use Rattle.point_effects.proofs.events.due_by.Goals as goal

@@ -1,6 +1,5 @@
 -- A supply kind ends before a day, kind by kind.
 use Rattle.rules.specs.Pinned.Register.{ends_before}
-use Rattle.basics.proofs.Basics.{rules}
 use Rattle.point_effects.proofs.events.ends_before.Goals as goal
 
 pub returns-in-None : goal.returns-in-None

@@ -1,5 +1,5 @@
 -- What ends a supply kind by a day, kind by kind.
-use Rattle.basics.proofs.Basics.{le-leb, lt-leb, rules}
+use Rattle.basics.proofs.Basics.{le-leb, lt-leb}
 use Rattle.rules.specs.Pinned.Register.{expiry_by}
 use Rattle.point_effects.proofs.events.expiry_by.Goals as goal
 

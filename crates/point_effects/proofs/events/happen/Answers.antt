@@ -1,5 +1,5 @@
 -- The point after what fell due.
-use Rattle.basics.proofs.Basics.{◌∙◌, rules}
+use Rattle.basics.proofs.Basics.{◌∙◌}
 use Rattle.rules.specs.Pinned.Register.{happened}
 use Rattle.point_effects.proofs.events.happen.Goals as goal
 

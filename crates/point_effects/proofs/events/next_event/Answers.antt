@@ -1,6 +1,5 @@
 -- The next event is what is due first, happened.
 use Rattle.point_effects.specs.Between.{next_in}
-use Rattle.basics.proofs.Basics.{rules}
 use Rattle.point_effects.proofs.events.next_event.Goals as goal
 
 pub returns : goal.returns

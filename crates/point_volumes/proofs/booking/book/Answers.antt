@@ -1,5 +1,5 @@
 -- A fair reading is booked over the slots in use; another changes nothing.
-use Rattle.basics.proofs.Basics.{sym, ◌∙◌, arith, not-true, not-false, rules}
+use Rattle.basics.proofs.Basics.{sym, ◌∙◌, arith}
 use Rattle.rules.specs.Pinned.Register.{booked}
 use Rattle.point_volumes.specs.Between.{booked_if_fair}
 use Rattle.point_volumes.proofs.Fairness.{fair}

@@ -1,5 +1,5 @@
 -- All of a fair reading goes to the newest period; another changes nothing.
-use Rattle.basics.proofs.Basics.{sym, ◌∙◌, not-true, not-false, rules}
+use Rattle.basics.proofs.Basics.{sym, ◌∙◌}
 use Rattle.point_volumes.specs.Between.{booked_newest}
 use Rattle.point_volumes.proofs.Fairness.{fair}
 use Rattle.point_volumes.proofs.booking.book_newest.Goals as goal

@@ -1,5 +1,5 @@
 -- The loop over the slots: what is left to book from here is what was to be booked from the start.
-use Rattle.basics.proofs.Basics.{◌≡◌, refl, sym, ◌∙◌, ap, ◌≤◌, ℕ, arith, rules}
+use Rattle.basics.proofs.Basics.{◌≡◌, refl, sym, ◌∙◌, ap, ℕ, arith, rules}
 use Rattle.rules.specs.Pinned.Register.{booked_slots}
 use Rattle.point_volumes.proofs.Slots.{slots_last, slots_on, slots_none}
 use Rattle.point_volumes.proofs.booking.book_slots.Goals as goal

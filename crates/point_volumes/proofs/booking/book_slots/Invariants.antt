@@ -1,6 +1,5 @@
-use Rattle.basics.proofs.Basics.{◌≡◌, refl, sym, ◌∙◌, ap, ◌≤◌, ℕ, arith, rules}
+use Rattle.basics.proofs.Basics.{◌≡◌, ◌≤◌}
 use Rattle.rules.specs.Pinned.Register.{booked_slots}
-use Rattle.point_volumes.proofs.Slots.{slots_last, slots_on, slots_none}
 use Rattle.point_volumes.proofs.booking.book_slots.Given as goal
 
 abbrev pub invariant-loop-i : goal.invariant-loop-i

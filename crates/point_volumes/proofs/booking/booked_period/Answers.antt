@@ -1,7 +1,7 @@
 -- A period gets the difference of what was given, of either volume, with a sum that wraps as the definition's does.
-use Rattle.basics.proofs.Basics.{◌∙◌, ap, ap₂, ℕ, ◌+◌, ◌-◌, ◌*◌, ◌/◌, ◌%◌, ◌^◌, rules}
+use Rattle.basics.proofs.Basics.{◌∙◌, ap, ap₂, ℕ, ◌+◌, ◌-◌, ◌*◌, ◌/◌, ◌%◌, ◌^◌}
 use Rattle.rules.specs.Volumes.{normal_given}
-use Rattle.rules.specs.Pinned.Register.{period, grown, booked_period}
+use Rattle.rules.specs.Pinned.Register.{period, booked_period}
 use Rattle.point_volumes.proofs.booking.booked_period.Goals as goal
 
 pub converted-normal_at-requires : goal.converted-normal_at-requires

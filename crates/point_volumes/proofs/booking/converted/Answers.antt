@@ -1,5 +1,5 @@
 -- A volume of two full turns times the largest factor fits; the rest is the definition.
-use Rattle.basics.proofs.Basics.{mul-le-mul, arith, rules}
+use Rattle.basics.proofs.Basics.{mul-le-mul, arith}
 use Rattle.point_volumes.proofs.booking.converted.Goals as goal
 
 pub overflow_mul-result : goal.overflow_mul-result

@@ -1,5 +1,5 @@
 -- What a reading has given before a day: nothing up to its first, all from its last on, else the floor.
-use Rattle.basics.proofs.Basics.{sym, arith, rules}
+use Rattle.basics.proofs.Basics.{sym, arith}
 use Rattle.point_volumes.proofs.Given.{given_none, given_all, given_part, part_most, product_small}
 use Rattle.point_volumes.proofs.booking.given.Goals as goal
 

@@ -17,10 +17,22 @@ returns-then-s-gt99999 c = let s = c.args.s in
     rw (lt-ltb _ _ c.if-s.false, le-leb _ _ c.if-s-gt-LAST_DAY.false, le-leb _ _ unit, lt-leb _ _ c.if-s-gt99999.true)
 
 pub returns-then-s-gt200000000000 : goal.returns-then-s-gt200000000000
-returns-then-s-gt200000000000 c = rw (lt-ltb _ _ c.if-s.false, le-leb _ _ c.if-s-gt-LAST_DAY.false, le-leb _ _ c.if-s-gt1000.false, le-leb _ _ c.if-s-gt99999.false, lt-leb _ _ c.if-s-gt200000000000.true)
+returns-then-s-gt200000000000 c = rw (
+  lt-ltb _ _ c.if-s.false,
+  le-leb _ _ c.if-s-gt-LAST_DAY.false,
+  le-leb _ _ c.if-s-gt1000.false,
+  le-leb _ _ c.if-s-gt99999.false,
+  lt-leb _ _ c.if-s-gt200000000000.true,
+)
 
 pub overflow_mul-result : goal.overflow_mul-result
 overflow_mul-result c = record { fits = omega (arith, mul-le-mul c.if-s-gt200000000000.false c.if-s-gt1000.false) }
 
 pub returns : goal.returns
-returns c = rw (lt-ltb _ _ c.if-s.false, le-leb _ _ c.if-s-gt-LAST_DAY.false, le-leb _ _ c.if-s-gt1000.false, le-leb _ _ c.if-s-gt99999.false, le-leb _ _ c.if-s-gt200000000000.false)
+returns c = rw (
+  lt-ltb _ _ c.if-s.false,
+  le-leb _ _ c.if-s-gt-LAST_DAY.false,
+  le-leb _ _ c.if-s-gt1000.false,
+  le-leb _ _ c.if-s-gt99999.false,
+  le-leb _ _ c.if-s-gt200000000000.false,
+)

@@ -1,5 +1,5 @@
 -- 10^w, with at most 8 and 3 wheels.
-use Rattle.basics.proofs.Basics.{◌≡◌, min, rules}
+use Rattle.basics.proofs.Basics.{◌≡◌, min}
 use Rattle.rules.specs.Volumes.{full_turn}
 use Rattle.point_volumes.proofs.meter.full_turn.Goals as goal
 

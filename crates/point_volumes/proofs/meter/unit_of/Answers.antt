@@ -1,5 +1,5 @@
 -- 10^(3 - wheels after the comma).
-use Rattle.basics.proofs.Basics.{◌≡◌, ap, ℕ, ◌-◌, ◌^◌, arith, rules}
+use Rattle.basics.proofs.Basics.{◌≡◌, ap, ℕ, ◌-◌, ◌^◌, arith}
 use Rattle.rules.specs.Volumes.{unit_of}
 use Rattle.point_volumes.proofs.meter.unit_of.Goals as goal
 

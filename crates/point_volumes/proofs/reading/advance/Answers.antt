@@ -1,5 +1,5 @@
 -- V: the mark adds a full turn at the most, so that neither the product nor the sum overflows; the rest is the definition.
-use Rattle.basics.proofs.Basics.{mul-le-mul_right, arith, rules}
+use Rattle.basics.proofs.Basics.{mul-le-mul_right, arith}
 use Rattle.rules.specs.Volumes.{advance_of}
 use Rattle.point_volumes.proofs.reading.advance.Goals as goal
 

@@ -1,5 +1,5 @@
 -- V where the wheels have the index, else nothing.
-use Rattle.basics.proofs.Basics.{lt-ltb, le-leb, le-ltb, lt-leb, rules}
+use Rattle.basics.proofs.Basics.{lt-ltb, le-leb, le-ltb, lt-leb}
 use Rattle.point_volumes.proofs.reading.advance_read.Goals as goal
 
 pub returns-then-z-le1 : goal.returns-then-z-le1

@@ -1,7 +1,6 @@
 -- A reading's span, field by field.
 use Rattle.point_volumes.specs.Between.{span_read}
 use Rattle.rules.proofs.Meters.{turn_most}
-use Rattle.basics.proofs.Basics.{rules}
 use Rattle.point_volumes.proofs.reading.span_to.Goals as goal
 
 pub advance_read-requires : goal.advance_read-requires

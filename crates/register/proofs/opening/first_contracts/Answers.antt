@@ -1,6 +1,5 @@
 -- The two suppliers of the opening are under contract.
 use Rattle.rules.specs.Opening.{first_contracts}
-use Rattle.basics.proofs.Basics.{rules}
 use Rattle.register.proofs.opening.first_contracts.Goals as goal
 
 pub returns : goal.returns

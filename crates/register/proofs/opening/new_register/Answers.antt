@@ -1,5 +1,4 @@
 -- A newly opened register, field by field.
-use Rattle.basics.proofs.Basics.{rules}
 use Rattle.register.proofs.opening.new_register.Goals as goal
 
 pub returns : goal.returns

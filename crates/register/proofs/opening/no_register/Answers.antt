@@ -1,6 +1,5 @@
 -- What stands where no register is open, field by field.
 use Rattle.register.specs.Pinned.Opens.{no_register}
-use Rattle.basics.proofs.Basics.{rules}
 use Rattle.register.proofs.opening.no_register.Goals as goal
 
 pub returns : goal.returns

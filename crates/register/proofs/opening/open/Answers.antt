@@ -1,5 +1,5 @@
 -- An opening: the numbers of an accepted one fit; a refused one leaves the register as it came.
-use Rattle.basics.proofs.Basics.{sym, ◌∙◌, ap, arith, rules}
+use Rattle.basics.proofs.Basics.{sym, ◌∙◌, ap, arith}
 use Rattle.rules.specs.Answers.{is_accepted}
 use Rattle.rules.specs.Pinned.Register.{opened}
 use Rattle.register.specs.Pinned.Opens.{opened_over}

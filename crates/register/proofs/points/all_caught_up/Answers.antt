@@ -1,7 +1,6 @@
 -- Every point is caught up in turn.
-use Rattle.basics.proofs.Basics.{◌≡◌, refl, ◌∙◌, ◌≤◌, ◌-◌, rules}
-use Rattle.point_effects.specs.Between.{caught_up}
-use Rattle.register.proofs.Sweep.{swept, swept_more, swept_all}
+use Rattle.basics.proofs.Basics.{refl, ◌∙◌, rules}
+use Rattle.register.proofs.Sweep.{swept_more, swept_all}
 use Rattle.register.proofs.points.all_caught_up.Goals as goal
 
 pub loop-i-init : goal.loop-i-init

@@ -1,6 +1,6 @@
-use Rattle.basics.proofs.Basics.{◌≡◌, refl, ◌∙◌, ◌≤◌, ◌-◌, rules}
+use Rattle.basics.proofs.Basics.{◌≡◌, ◌≤◌, ◌-◌}
 use Rattle.point_effects.specs.Between.{caught_up}
-use Rattle.register.proofs.Sweep.{swept, swept_more, swept_all}
+use Rattle.register.proofs.Sweep.{swept}
 use Rattle.register.proofs.points.all_caught_up.Given as goal
 
 abbrev pub invariant-loop-i : goal.invariant-loop-i

@@ -1,7 +1,7 @@
 -- The failure goes over every point in turn.
-use Rattle.basics.proofs.Basics.{◌≡◌, refl, ◌∙◌, ◌≤◌, ◌-◌, rules}
+use Rattle.basics.proofs.Basics.{refl, ◌∙◌, rules}
 use Rattle.register.specs.Between.Calls.{failed_on}
-use Rattle.register.proofs.Sweep.{swept, swept_more, swept_all}
+use Rattle.register.proofs.Sweep.{swept_more, swept_all}
 use Rattle.register.proofs.points.all_failed.Goals as goal
 
 pub loop-n-init : goal.loop-n-init

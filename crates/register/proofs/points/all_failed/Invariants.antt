@@ -1,6 +1,6 @@
-use Rattle.basics.proofs.Basics.{◌≡◌, refl, ◌∙◌, ◌≤◌, ◌-◌, rules}
+use Rattle.basics.proofs.Basics.{◌≡◌, ◌≤◌, ◌-◌}
 use Rattle.register.specs.Between.Calls.{failed_on}
-use Rattle.register.proofs.Sweep.{swept, swept_more, swept_all}
+use Rattle.register.proofs.Sweep.{swept}
 use Rattle.register.proofs.points.all_failed.Given as goal
 
 abbrev pub invariant-loop-n : goal.invariant-loop-n

@@ -1,6 +1,5 @@
 -- The points are looked at in turn: what is left to look at decides.
-use Rattle.basics.proofs.Basics.{◌≡◌, refl, sym, ◌∙◌, ap, Bool, ◌≤◌, ℕ, ◌-◌, ◌+◌, arith, rules}
-use Rattle.rules.specs.declared.{Settings.Settings}
+use Rattle.basics.proofs.Basics.{◌≡◌, refl, sym, ◌∙◌, ap, Bool, ℕ, ◌-◌, ◌+◌, arith, rules}
 use Rattle.rules.specs.Rejections.{any_point}
 use Rattle.rules.specs.Pinned.Register.{point_at}
 use Rattle.register.specs.Between.Calls.{failure_fills}

@@ -1,9 +1,8 @@
-use Rattle.basics.proofs.Basics.{◌≡◌, refl, sym, ◌∙◌, ap, Bool, ◌≤◌, ℕ, ◌-◌, ◌+◌, arith, rules}
+use Rattle.basics.proofs.Basics.{◌≡◌, ◌≤◌, ◌-◌, ◌+◌}
 use Rattle.rules.specs.declared.{Settings.Settings}
 use Rattle.rules.specs.Rejections.{any_point}
 use Rattle.rules.specs.Pinned.Register.{point_at}
 use Rattle.register.specs.Between.Calls.{failure_fills}
-use Rattle.register.proofs.Search.{point_next, any_found, any_passed, any_none}
 use Rattle.register.proofs.points.any_filled.Given as goal
 
 abbrev pub invariant-loop-k : goal.invariant-loop-k

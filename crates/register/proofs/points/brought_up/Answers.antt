@@ -1,5 +1,5 @@
 -- The register brought up to a day: as it is past the calendar or where the day is not new, else every point caught up.
-use Rattle.basics.proofs.Basics.{sym, arith, rules}
+use Rattle.basics.proofs.Basics.{sym, arith}
 use Rattle.register.proofs.Advanced.{advanced_off, advanced_same, advanced_new}
 use Rattle.register.proofs.points.brought_up.Goals as goal
 

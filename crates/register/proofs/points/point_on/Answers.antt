@@ -1,5 +1,5 @@
 -- Point p as a call finds it: blank off 1 to 32, else caught up where the day is new.
-use Rattle.basics.proofs.Basics.{arith, lt-ltb, le-ltb, rules}
+use Rattle.basics.proofs.Basics.{arith, lt-ltb, le-ltb}
 use Rattle.register.specs.Between.Calls.{point_on}
 use Rattle.register.proofs.Advanced.{advanced_off, advanced_same, advanced_new, point_caught_up}
 use Rattle.register.proofs.points.point_on.Goals as goal

@@ -1,10 +1,22 @@
 -- Positions that callees answer stay within what they were given.
-use Rattle.basics.proofs.Basics.{◌≡◌, List, ◌≤◌, ℕ, ◌-◌, ◌+◌, ◌<◌, ◌/◌, arith, length}
-use Rattle.basics.proofs.Basics.{drop, take, length-drop, length-take}
+use Rattle.basics.proofs.Basics.{◌≡◌, refl, true, false, Bool, List, ◌≤◌, ℕ, ◌-◌, ◌+◌, ◌<◌, ◌/◌, arith, leb, length}
+use Rattle.basics.proofs.Basics.{drop, take, length-drop, length-take, leb-true, leb-false}
+use Rattle.line_text.specs.Between.Appending.{Appended}
+use Rattle.line_text.proofs.Appends.{room_put, no_room, appended_length}
 use Rattle.input_lines.specs.Between.Feeds.{until_feed}
 use Rattle.input_lines.proofs.Feeds.{until_le, fitting_le}
 use Rattle.input_pieces.specs.declared.{Session.Session, Fed.Fed}
 use Rattle.input_pieces.specs.Pinned.Session.{FedBy}
+
+-- a writer that begins within its buffer ends within it
+pub appended_within : (at : ℕ) (t o o' : List ℕ) (r : ℕ) → Appended at t o o' r → at ≤ length o → r ≤ length o'
+appended_within at t o o' r w h = go (leb (at + length t) (length o)) refl
+  where
+    go : (b : Bool) → leb (at + length t) (length o) ≡ b → r ≤ length o'
+    go true e = let fits : at + length t ≤ length o = leb-true _ _ e in
+        omega (arith, (room_put at t o o' r w fits).1, appended_length at t o o' r w)
+    go false e = let over : length o < at + length t = leb-false _ _ e in
+        omega (arith, (no_room at t o o' r w over).1, appended_length at t o o' r w)
 
 -- a line that begins within a text ends within it
 pub line_within : (l : List ℕ) (at end : ℕ) → end ≡ at + until_feed (drop at l) → at < length l → end ≤ length l

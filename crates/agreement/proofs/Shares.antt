@@ -2,9 +2,9 @@
 -- last day on. One argument over the factor: the wheels' own volume is that by 10,000. And how the volumes of a list of
 -- readings add up.
 --
--- by        what a reading has given before a day, converted by a factor
--- givenOn   the same on one of the two sides; `day_on`: what it gives a day, `whole_on`: in all
--- daysOn, wholesOn   these two by all readings of a list
+-- by                  what a reading has given before a day, converted by a factor
+-- given_on            the same on one of the two sides; `day_on`: what it gives a day, `whole_on`: in all
+-- days_on, wholes_on  these two by all readings of a list
 use Rattle.basics.proofs.Basics.{◌≡◌, refl, sym, ◌∙◌, List, [], ◌∷◌, ◌++◌, ◌≤◌, ℕ, ◌-◌, ◌+◌, ◌<◌, suc, ◌*◌, min, ◌/◌}
 use Rattle.basics.proofs.Basics.{le_trans, mul-le-mul_right, mul-le-mul_left, mul-div_left, mul_comm, mul-zero, zero-mul}
 use Rattle.basics.proofs.Basics.{zero-div, le-div_iff_mul-le, div-mul-le_self, mul-sub, dec_le, dec_lt, arith, lt-ltb}

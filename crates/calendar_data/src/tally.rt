@@ -1,4 +1,5 @@
 // What comparing came to, counted and printed.
+
 // What comparing one item came to; one that is no case of what is compared counts as nothing.
 #[derive(Clone, Copy)]
 pub(crate) enum Outcome {

@@ -51,7 +51,7 @@ take_min n l = elim (dec_le n (length l)) [
   | no h ↦ (let e : min (length l) n ≡ length l = omega arith in rw (e, take_all n l (omega arith), take_all (length l) l (omega arith)))
 ]
 
--- a front of at most keptBytes bytes and what still fits
+-- a front of at most kept_bytes bytes and what still fits
 pub capped_append : (x more : List ℕ) → length x ≤ kept_bytes → capped (x ++ more) ≡ x ++ take (min (length more) (kept_bytes - length x)) more
 unfolding capped
 capped_append x more h = let s : kept_bytes ≡ length x + (kept_bytes - length x) = omega arith in

@@ -32,7 +32,7 @@ module _ {S : Type 0} (next : S → List ℕ → S) (say : S → List ℕ → Li
   run_none s part (b ∷ l) hp h = cases (eqb b 10) (λ e. absurd (not-suc-le-zero (rw e at h)))
       (λ e. rw e (rw (capped_more part b l) at (run_none s (capped (part ++ (b ∷ []))) l (capped_le _) (le_of_suc-le-suc (rw e at h)))))
 
-  -- what is kept is never longer than keptBytes
+  -- what is kept is never longer than kept_bytes
   pub run_part_le : (s : S) (part l : List ℕ) → length part ≤ kept_bytes → length (run next say s part l).part ≤ kept_bytes
   unfolding run
   run_part_le s part [] hp = hp

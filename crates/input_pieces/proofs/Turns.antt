@@ -40,7 +40,7 @@ pub going_start : (piece out : List ℕ) (d : Desk) (part : Begun) → longest_a
     Going piece out d (kept part) out part d 0 0
 going_start piece out d part hr = record { here = omega arith; room = omega (arith, hr); size = refl; tail = refl; does = refl }
 
--- the answer to a line has at most longestAnswer bytes
+-- the answer to a line has at most longest_answer bytes
 said_short : (d : Desk) (m : Message) → length (answer_line (kind_of m) (answer_of d m)) ≤ longest_answer
 said_short d m = let n = tabled_small (answer_of d m) (every_answer_tabled d m) in
     let e : length (answer_line (kind_of m) (answer_of d m)) ≤ 21 + 2 = answer_short (kind_of m) (answer_of d m) 2 (omega arith) n in

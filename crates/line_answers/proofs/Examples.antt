@@ -4,7 +4,7 @@ use Rattle.dates.specs.Dates.{leap_row, month_length, next, date_of}
 use Rattle.dates.specs.Numbers.{date_answer}
 use Rattle.line_text.specs.Decimal.{spell, fixed}
 use Rattle.line_answers.specs.Answers.{answer_line, period_line, total_line}
-use Rattle.line_answers.specs.Examples.{AnswerExamples}
+use Rattle.line_answers.proofs.StatedExamples.{AnswerExamples}
 
 pub answer_examples : AnswerExamples
 unfolding leap_row month_length next date_of date_answer spell fixed answer_line period_line total_line

@@ -1,2 +1,3 @@
 pub mod LineTexts
+pub mod StatedExamples
 pub mod Examples

@@ -1,10 +1,10 @@
 -- 01, "Volumes": the questions by the day book and the list alone, as functions of the opening and the calls; none
 -- where a question is off its range or on a point not enrolled. Nothing here looks at the register. Definitions only.
 --
--- bookPeriods   the periods of a point: its marked cells, each with the sums of its days' volumes
--- bookHolder, bookPeriod, bookAdvance   what the three questions tell
--- bookProbes    how many periods the holder question reports
--- askedNumber   the number that goes with it
+-- book_periods                            the periods of a point: its marked cells, each with the sums of its days' volumes
+-- book_holder, book_period, book_advance  what the three questions tell
+-- book_probes                             how many periods the holder question reports
+-- asked_number                            the number that goes with it
 use Rattle.std.specs.Prelude.{ℕ, zero, suc, ◌-◌, true, false, cond, ◌&&◌, ◌||◌, List, [], ◌∷◌, ◌==◌, nat_le}
 use Rattle.std.proofs.Math.Option.{Option, none, some}
 use Rattle.rules.specs.declared.{Period.Period, Opening.Opening, Call.Call}

@@ -2,8 +2,8 @@
 -- the statement.
 --
 -- walked      the holder that a walk over all periods finds
--- laterThan   how many starts lie after a day
--- probesFor   the number that is reported
+-- later_than  how many starts lie after a day
+-- probes_for  the number that is reported
 use Rattle.std.specs.Prelude.{◌≡◌, ℕ, suc, ◌+◌, ◌<◌, ◌≤◌, true, cond, List, [], ◌∷◌, map, length, take, nat_le, nat_lt, slice_index_or}
 use Rattle.std.proofs.Math.Option.{Option, none, some}
 use Rattle.rules.specs.declared.{Period.Period, History.History, Opening.Opening, Call.Call}

@@ -1,9 +1,9 @@
 -- 02, F-6: each supplier its own view, by the day book and the list alone, as functions of the opening and the calls.
 -- Nothing here looks at the register. Definitions only.
 --
--- ownMarked      of a point's marked cells those of one supplier
--- bookOwn        all that this supplier may see of this point
--- bookOwnPeriod  the n-th of them; `perimeter_number`: the number that goes with it
+-- own_marked       of a point's marked cells those of one supplier
+-- book_own         all that this supplier may see of this point
+-- book_own_period  the n-th of them; `perimeter_number`: the number that goes with it
 use Rattle.std.specs.Prelude.{true, false, cond, ◌||◌, List, [], ◌∷◌, ℕ, suc, ◌-◌, eqb}
 use Rattle.std.proofs.Math.Option.{Option, none, some}
 use Rattle.rules.specs.declared.{Opening.Opening, Call.Call}

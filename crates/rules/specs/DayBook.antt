@@ -1,12 +1,12 @@
 -- Document 01, "The day book": the reference machine. Definitions only.
 --
--- Cell     a point's gas day: its holder and its start mark
--- Page     a point: its fields, and its cells, today's first and the first day's last
--- Book     the register's day, who is under contract, and the page of each point
--- newDay   one point on a new gas day; `go_on`: all points, n days one at a time
--- says     the answer to a call; `next`: the book after it
--- answers  the answers to a list of calls; `after`: the book after it
--- readings, enrolments   what the list's accepted calls say of a point, worked out from the list
+-- Cell                  a point's gas day: its holder and its start mark
+-- Page                  a point: its fields, and its cells, today's first and the first day's last
+-- Book                  the register's day, who is under contract, and the page of each point
+-- new_day               one point on a new gas day; `go_on`: all points, n days one at a time
+-- says                  the answer to a call; `next`: the book after it
+-- answers               the answers to a list of calls; `after`: the book after it
+-- readings, enrolments  what the list's accepted calls say of a point, worked out from the list
 use Rattle.std.specs.Prelude.{Bool, true, false, cond, List, [], ◌∷◌, ◌++◌, ℕ, zero, suc, ◌-◌}
 use Rattle.rules.specs.declared.{Fields.Fields, Settings.Settings, Span.Span, Opening.Opening, Call.Call}
 use Rattle.rules.specs.declared.{Answer.Answer, Effect.Effect, View.View}

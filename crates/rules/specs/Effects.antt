@@ -1,13 +1,13 @@
 -- Document 01, "The day book": what an event of a gas day and an accepted call do to a point. Definitions only.
 --
--- fields_of   the fields after an effect
--- names      whether it names a holder, which is the fields' holder
--- spansIn    the readings that it books: none or one; `enrols`: whether it enrols the point
--- acceptedBy the answer to an accepted call that has this effect
--- event      the event of a gas day, if one falls on it
--- effect_of   what an accepted call does to the point that it names; `failed`: what a failure does to any point
--- effect     what an accepted call does to point p; `signed`: to who is under contract
--- atPoint    by the point that a call names; `failing`: by the supplier that fails
+-- fields_of    the fields after an effect
+-- names        whether it names a holder, which is the fields' holder
+-- spans_in     the readings that it books: none or one; `enrols`: whether it enrols the point
+-- accepted_by  the answer to an accepted call that has this effect
+-- event        the event of a gas day, if one falls on it
+-- effect_of    what an accepted call does to the point that it names; `failed`: what a failure does to any point
+-- effect       what an accepted call does to point p; `signed`: to who is under contract
+-- at_point     by the point that a call names; `failing`: by the supplier that fails
 use Rattle.std.specs.Prelude.{Bool, true, false, cond, List, [], ◌∷◌, ℕ, ◌+◌, max, eqb, set}
 use Rattle.rules.specs.declared.{Effect.Effect, Fields.Fields, Settings.Settings, SupplyKind.SupplyKind}
 use Rattle.rules.specs.declared.{Pending.Pending, Span.Span, Action.Action, PointAction.PointAction}

@@ -1,12 +1,12 @@
 -- Document 01, "The register's periods are the marked cells": a point's periods, and what the day book's cells and
 -- the list say of them. Definitions only.
 --
--- periodsOf    a point's periods, oldest first; `volumes_of`, `normals_of`: their two volumes
--- markedDays   the days of the marked cells, oldest first
--- holderOn     the day book's holder on a day: the cell's; none where the day has no cell
--- covering     the periods that a day lies in
--- dailySums    for each period the sum of its days' volumes
--- book, register   the two machines after a list of calls, from a newly opened register on
+-- periods_of      a point's periods, oldest first; `volumes_of`, `normals_of`: their two volumes
+-- marked_days     the days of the marked cells, oldest first
+-- holder_on       the day book's holder on a day: the cell's; none where the day has no cell
+-- covering        the periods that a day lies in
+-- daily_sums      for each period the sum of its days' volumes
+-- book, register  the two machines after a list of calls, from a newly opened register on
 use Rattle.std.specs.Prelude.{Bool, true, false, cond, ◌&&◌, List, [], ◌∷◌, map, ℕ, zero, suc, ◌+◌, ◌-◌, eqb, leb, ltb, take}
 use Rattle.std.proofs.Math.Option.{Option, none, some}
 use Rattle.rules.specs.declared.{Period.Period, Point.Point, Register.Register, Opening.Opening, Call.Call}

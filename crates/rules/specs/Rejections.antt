@@ -1,12 +1,12 @@
 -- Document 01, "Rejection codes": for each call the rows of the table that it has, and the answer that they give.
 -- Definitions only.
 --
--- View      what the checks may look at of a point: its fields, its marks, whether today's cell is marked
--- _⇒_       a row: where the condition holds, the number is given
--- first_of   the first row that applies
--- rows      the rows of a call, in the order of the numbers
--- answerTo  the answer to a call, by the register's day, who is under contract, and the points brought up to today
--- openingAnswer   the answer to an opening
+-- View            what the checks may look at of a point: its fields, its marks, whether today's cell is marked
+-- ◌⇒◌             a row: where the condition holds, the number is given
+-- first_of        the first row that applies
+-- rows            the rows of a call, in the order of the numbers
+-- answer_to       the answer to a call, by the register's day, who is under contract, and the points brought up to today
+-- opening_answer  the answer to an opening
 use Rattle.std.specs.Prelude.{Bool, true, false, cond, not, ◌&&◌, ◌||◌, List, [], ◌∷◌, ℕ, zero, suc, ◌+◌, eqb, leb, ltb, get_or}
 use Rattle.dates.specs.Dates.{last_day}
 use Rattle.dates.specs.Months.{three_months_after}

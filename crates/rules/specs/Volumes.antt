@@ -2,11 +2,11 @@
 -- list of readings gives: as the wheels count (OBIS 7-1:3.0.0 for cubic metres), and in normal cubic metres (OBIS
 -- 7-1:13.2.0). Definitions only.
 --
--- Span        a reading from the day of the last one to its own: V and U with the two days, and the factor
--- given       what a reading has given before a day; `normal_given`: the same in normal cubic metres
--- dayVolume   the volume of one gas day by one reading; `volume`: by all readings of a list
--- dayNormal, normal   the same in normal cubic metres
--- registered  the registered advance: the sum of V × U; `registered_normal`: in normal cubic metres
+-- Span                a reading from the day of the last one to its own: V and U with the two days, and the factor
+-- given               what a reading has given before a day; `normal_given`: the same in normal cubic metres
+-- day_volume          the volume of one gas day by one reading; `volume`: by all readings of a list
+-- day_normal, normal  the same in normal cubic metres
+-- registered          the registered advance: the sum of V × U; `registered_normal`: in normal cubic metres
 use Rattle.std.specs.Prelude.{cond, ◌&&◌, List, [], ◌∷◌, ℕ, suc, ◌+◌, ◌-◌, ◌*◌, ◌/◌, ◌^◌, min, leb, ltb}
 use Rattle.rules.specs.declared.{Code.Code, Fields.Fields, Meter.Meter, Span.Span}
 

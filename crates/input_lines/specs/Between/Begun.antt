@@ -10,7 +10,7 @@ kept_bytes = longest_line + 1
 unfoldable pub capped : List ℕ → List ℕ
 capped l = take kept_bytes l
 
--- The bytes that the start of a line holds; a length past keptBytes counts as keptBytes.
+-- The bytes that the start of a line holds; a length past kept_bytes counts as kept_bytes.
 abbrev pub kept : Begun → List ℕ
 kept p = take (min p.len kept_bytes) p.bytes
 

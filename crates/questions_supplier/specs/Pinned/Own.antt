@@ -1,9 +1,9 @@
 -- 02, F-6: each supplier its own view, by the register. Definitions only.
 --
 -- own          a period as its supplier is told it
--- ownIn        of a point's periods those of one supplier, the oldest first
--- ownPeriods   the same of a register: all that this supplier may see of this point
--- ownAnswer    what the question answers; `own_number`, `own_told`: its number, and what is told
+-- own_in       of a point's periods those of one supplier, the oldest first
+-- own_periods  the same of a register: all that this supplier may see of this point
+-- own_answer   what the question answers; `own_number`, `own_told`: its number, and what is told
 use Rattle.std.specs.Prelude.{cond, List, [], ◌∷◌, ℕ, ◌-◌, eqb}
 use Rattle.std.proofs.Math.Option.{Option, none, some}
 use Rattle.rules.specs.declared.{Period.Period, Register.Register}

@@ -4,7 +4,7 @@
 -- only.
 --
 -- named     a holder is named on a day: a new period, or the newest replaced where it starts on that day
--- catchUp   a point brought up to a day by the events that fell due
+-- catch_up  a point brought up to a day by the events that fell due
 -- booked    a reading booked over the periods
 -- view      what the checks see
 -- applied   a call: its answer and the whole register after it

@@ -1,6 +1,7 @@
 -- Answer lines and closing lines of document 01, and one of each sort beside them.
--- Definitions only: `answer_examples` of proofs/ proves them.
-use Rattle.std.specs.Prelude.{ℕ, ◌≡◌, List, [], ◌∷◌, ◌++◌}
+-- Statements only: `answer_examples` proves them. They stand here and not in specs/, so that a must-fail edit of
+-- `total_line` is read and then refused.
+use Rattle.std.proofs.Common.{ℕ, ◌≡◌, List, [], ◌∷◌, ◌++◌}
 use Rattle.rules.specs.declared.{Answer.Answer}
 use Rattle.rules.specs.Pinned.Register.{period}
 use Rattle.line_text.specs.Ascii.{ascii}

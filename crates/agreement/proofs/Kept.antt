@@ -10,7 +10,7 @@ use Rattle.rules.specs.Fields.{supply, fitted, reading, fields, with_supply, wit
 use Rattle.rules.specs.Effects.{fields_of, names, spans_in, enrols, notice, effective_day, effect_of, failed, effect, dropped}
 use Rattle.rules.specs.Volumes.{turn_of, unit_of, advance_of, span_to, summed}
 use Rattle.rules.specs.Answers.{is_accepted}
-use Rattle.rules.specs.declared.{View.View}
+use Rattle.rules.specs.declared.{Rejection.Rejection, View.View}
 use Rattle.rules.specs.Rejections.{Row, first_of, due, pending_due, marks_after, is_full, is_by, touches, any_point}
 use Rattle.rules.specs.Rejections.{not_point, not_mark, not_meter, bad_factor, not_enrolled, out_of_time}
 use Rattle.rules.specs.Rejections.{index_disagrees, last_resort_near, rows_at, rows, shown, answer_to, accepted}
@@ -29,7 +29,7 @@ pass_near S t SupplyKind.None rs a h = h
 pass_near S t SupplyKind.Contract rs a h = h
 pass_near S t (SupplyKind.Default d) rs a h = go (leb d (t + notice S t)) h
   where
-    go : (b : Bool) → is_accepted (cond b (Answer.RefusedUntil d) (first_of rs a)) ≡ true → is_accepted (first_of rs a) ≡ true
+    go : (b : Bool) → is_accepted (cond b (Answer.Refused (Rejection.LastResortUnderWay d)) (first_of rs a)) ≡ true → is_accepted (first_of rs a) ≡ true
     go true z = absurd (false≢true z)
     go false z = z
 pass_near S t (SupplyKind.LastResort d) rs a h = h

@@ -6,227 +6,121 @@ use crate::write_out;
 use ask_lines::put_reply;
 use ask_words::Question;
 use line_text::write::{put_byte, put_number, put_word};
-use questions::{PeriodAnswer, period_of};
-use questions_supplier::{OwnAnswer, own_period_of};
+use questions::period_of;
+use questions_supplier::own_period_of;
 use rules::Register;
+use standard_input::InputError;
 
 // The most bytes that a line takes.
 const ROOM: usize = 128;
 
-// How many bytes of the buffer wait to be written; nothing more is written once that has failed.
+// The register that is asked, and the text of which the first len bytes wait to be written.
 #[derive(Clone, Copy)]
-pub(crate) struct Waiting {
-    pub len: usize,
-    pub failed: bool,
+struct Interview {
+    r: Register,
+    text: [u8; 65536],
+    len: usize,
+    ghost within: { len ≤ length text },
 }
 
-pub(crate) fn answer_all(rt: &(impl Print + Eprint), r: Register) {
-    let mut out = [0u8; 65536];
-    let mut w = Waiting {
-        len: 0,
-        failed: false,
-    };
-    let mut p: u64 = 0;
-    while p < 34 {
-        w = of_point(rt, &mut out, w, r, p);
-        p += 1;
+pub(crate) fn answer_all(rt: &impl Print, r: Register) -> Result<(), InputError> {
+    let text = [0u8; 65536];
+    let mut all = Interview { r, text, len: 0 };
+    for p in 0..34 {
+        all.ask_point(rt, p)?;
     }
-    flushed(rt, &out, w);
+    all.flush(rt)
 }
 
-// The advance; of an enrolled point period n for n from 0 to one past its count, then the holder on each day from the day
-// before its first period to the day after the register's, and then the suppliers' views.
-fn of_point(rt: &(impl Print + Eprint), out: &mut [u8], w: Waiting, r: Register, p: u64) -> Waiting
-    requires { w.len ≤ length out.old }
-    ensures { result.len ≤ length out.new }
-{
-    let advance = asked(rt, out, w, r, Question::Advance { point: p });
-    let PeriodAnswer::Of(first) = period_of(r, p, 1) else {
-        return of_other_point(rt, out, advance, r, p);
-    };
-    let periods = of_periods(rt, out, advance, r, p);
-    let days = of_days(rt, out, periods, r, p, first.start);
-    of_suppliers(rt, out, days, r, p)
-}
+impl Interview {
+    // The advance; of an enrolled point period n for n from 0 to one past its count, then the holder on each day from the
+    // day before its first period to the day after the register's, and then the suppliers' views.
+    fn ask_point(&mut self, rt: &impl Print, p: u64) -> Result<(), InputError> {
+        self.ask(rt, Question::Advance { point: p })?;
+        let Some(first) = period_of(self.r, p, 1) else {
+            return self.ask_other_point(rt, p);
+        };
+        self.ask_periods(rt, p)?;
+        self.ask_days(rt, p, first.start as u64)?;
+        for s in 0..101 {
+            self.ask_views(rt, s, p)?;
+        }
+        Ok(())
+    }
 
-// Of any other point the holder on the register's day, period 1, and the views of the suppliers 0 and 1.
-fn of_other_point(
-    rt: &(impl Print + Eprint),
-    out: &mut [u8],
-    w: Waiting,
-    r: Register,
-    p: u64,
-) -> Waiting
-    requires { w.len ≤ length out.old }
-    ensures { result.len ≤ length out.new }
-{
-    let day = r.day as u64;
-    let holder = asked(rt, out, w, r, Question::Holder { point: p, day });
-    let period = asked(
-        rt,
-        out,
-        holder,
-        r,
-        Question::Period {
-            point: p,
-            number: 1,
-        },
-    );
-    let view = viewed(rt, out, period, r, 0, p, 1);
-    viewed(rt, out, view, r, 1, p, 1)
-}
-
-fn of_periods(
-    rt: &(impl Print + Eprint),
-    out: &mut [u8],
-    w: Waiting,
-    r: Register,
-    p: u64,
-) -> Waiting
-    requires { w.len ≤ length out.old }
-    ensures { result.len ≤ length out.new }
-{
-    let mut after = w;
-    let mut n: u64 = 0;
-    let mut is_last = false;
-    while n < 26 && !is_last {
-        after = asked(
+    // Of any other point the holder on the register's day, period 1, and the views of the suppliers 0 and 1.
+    fn ask_other_point(&mut self, rt: &impl Print, p: u64) -> Result<(), InputError> {
+        let day = self.r.day as u64;
+        self.ask(rt, Question::Holder { point: p, day })?;
+        self.ask(
             rt,
-            out,
-            after,
-            r,
             Question::Period {
                 point: p,
-                number: n,
+                number: 1,
             },
-        );
-        if let PeriodAnswer::OffRange = period_of(r, p, n) {
-            is_last = n > 0;
+        )?;
+        self.ask(rt, view(0, p, 1))?;
+        self.ask(rt, view(1, p, 1))
+    }
+
+    fn ask_periods(&mut self, rt: &impl Print, p: u64) -> Result<(), InputError> {
+        for n in 0..26 {
+            self.ask(
+                rt,
+                Question::Period {
+                    point: p,
+                    number: n,
+                },
+            )?;
+            if n > 0 && period_of(self.r, p, n).is_none() {
+                break;
+            }
         }
-        n += 1;
+        Ok(())
     }
-    after
-}
 
-fn of_days(
-    rt: &(impl Print + Eprint),
-    out: &mut [u8],
-    w: Waiting,
-    r: Register,
-    p: u64,
-    first: u32,
-) -> Waiting
-    requires { w.len ≤ length out.old }
-    ensures { result.len ≤ length out.new }
-{
-    let mut after = w;
-    let mut day = first as u64;
-    if day > 0 {
-        day -= 1;
-    }
-    let end = r.day as u64 + 2;
-    while day < end {
-        after = asked(rt, out, after, r, Question::Holder { point: p, day });
-        day += 1;
-    }
-    after
-}
-
-// The views of the suppliers 0 to 100.
-fn of_suppliers(
-    rt: &(impl Print + Eprint),
-    out: &mut [u8],
-    w: Waiting,
-    r: Register,
-    p: u64,
-) -> Waiting
-    requires { w.len ≤ length out.old }
-    ensures { result.len ≤ length out.new }
-{
-    let mut after = w;
-    let mut s: u64 = 0;
-    while s < 101 {
-        after = of_views(rt, out, after, r, s, p);
-        s += 1;
-    }
-    after
-}
-
-// A supplier's view n for n from 0 to one past the count of its periods.
-fn of_views(
-    rt: &(impl Print + Eprint),
-    out: &mut [u8],
-    w: Waiting,
-    r: Register,
-    s: u64,
-    p: u64,
-) -> Waiting
-    requires { w.len ≤ length out.old }
-    ensures { result.len ≤ length out.new }
-{
-    let mut after = w;
-    let mut n: u64 = 0;
-    let mut is_last = false;
-    while n < 26 && !is_last {
-        after = viewed(rt, out, after, r, s, p, n);
-        is_last = n > 0;
-        if let OwnAnswer::Of(_) = own_period_of(r, s, p, n) {
-            is_last = false;
+    fn ask_days(&mut self, rt: &impl Print, p: u64, first: u64) -> Result<(), InputError> {
+        for day in first.saturating_sub(1)..self.r.day as u64 + 2 {
+            self.ask(rt, Question::Holder { point: p, day })?;
         }
-        n += 1;
+        Ok(())
     }
-    after
+
+    // A supplier's view n for n from 0 to one past the count of its periods.
+    fn ask_views(&mut self, rt: &impl Print, s: u64, p: u64) -> Result<(), InputError> {
+        for n in 0..26 {
+            self.ask(rt, view(s, p, n))?;
+            if n > 0 && own_period_of(self.r, s, p, n).is_err() {
+                break;
+            }
+        }
+        Ok(())
+    }
+
+    // One question more; what waits is written where another line may find no room.
+    fn ask(&mut self, rt: &impl Print, q: Question) -> Result<(), InputError> {
+        let at = put_question(&mut self.text, self.len, q);
+        self.len = put_reply(&mut self.text, at, self.r, q);
+        if self.text.len() - self.len < ROOM {
+            return self.flush(rt);
+        }
+        Ok(())
+    }
+
+    // Nothing waits any more.
+    fn flush(&mut self, rt: &impl Print) -> Result<(), InputError> {
+        write_out(rt, &self.text[..self.len])?;
+        self.len = 0;
+        Ok(())
+    }
 }
 
-fn viewed(
-    rt: &(impl Print + Eprint),
-    out: &mut [u8],
-    w: Waiting,
-    r: Register,
-    s: u64,
-    p: u64,
-    n: u64,
-) -> Waiting
-    requires { w.len ≤ length out.old }
-    ensures { result.len ≤ length out.new }
-{
-    asked(
-        rt,
-        out,
-        w,
-        r,
-        Question::View {
-            supplier: s,
-            point: p,
-            number: n,
-        },
-    )
-}
-
-// One question more; what waits is written where another line may find no room.
-fn asked(
-    rt: &(impl Print + Eprint),
-    out: &mut [u8],
-    w: Waiting,
-    r: Register,
-    q: Question,
-) -> Waiting
-    requires { w.len ≤ length out.old }
-    ensures { result.len ≤ length out.new }
-{
-    if w.failed {
-        return w;
+fn view(supplier: u64, point: u64, number: u64) -> Question {
+    Question::View {
+        supplier,
+        point,
+        number,
     }
-    let at = put_question(out, w.len, q);
-    let next = put_reply(out, at, r, q);
-    let after = Waiting {
-        len: next,
-        failed: false,
-    };
-    if out.len() - next < ROOM {
-        return flushed(rt, out, after);
-    }
-    after
 }
 
 // `holder;P;DAY;`, `period;P;N;`, `advance;P;`, `view;S;P;N;`, the day by its number.
@@ -235,56 +129,26 @@ fn put_question(out: &mut [u8], at: usize, q: Question) -> usize
     ensures { result ≤ length out.new }
 {
     match q {
-        Question::Holder { point, day } => put_two(out, at, b"holder;", point, day),
-        Question::Period { point, number } => put_two(out, at, b"period;", point, number),
-        Question::Advance { point } => put_one(out, at, b"advance;", point),
+        Question::Holder { point, day } => put_values(out, at, b"holder;", &[point, day]),
+        Question::Period { point, number } => put_values(out, at, b"period;", &[point, number]),
+        Question::Advance { point } => put_values(out, at, b"advance;", &[point]),
         Question::View {
             supplier,
             point,
             number,
-        } => {
-            let next = put_two(out, at, b"view;", supplier, point);
-            put_field(out, next, number)
-        }
+        } => put_values(out, at, b"view;", &[supplier, point, number]),
     }
 }
 
-fn put_two(out: &mut [u8], at: usize, word: &[u8], a: u64, b: u64) -> usize
+// A word, and numbers each with `;` behind it.
+fn put_values(out: &mut [u8], at: usize, word: &[u8], values: &[u64]) -> usize
     requires { at ≤ length out.old }
     ensures { result ≤ length out.new }
 {
-    let next = put_one(out, at, word, a);
-    put_field(out, next, b)
-}
-
-fn put_one(out: &mut [u8], at: usize, word: &[u8], v: u64) -> usize
-    requires { at ≤ length out.old }
-    ensures { result ≤ length out.new }
-{
-    let next = put_word(out, at, word);
-    put_field(out, next, v)
-}
-
-fn put_field(out: &mut [u8], at: usize, v: u64) -> usize
-    requires { at ≤ length out.old }
-    ensures { result ≤ length out.new }
-{
-    let end = put_number(out, at, v);
-    put_byte(out, end, b';')
-}
-
-// Nothing waits any more, unless writing has failed.
-fn flushed(rt: &(impl Print + Eprint), out: &[u8], w: Waiting) -> Waiting
-    requires { w.len ≤ length out.now }
-    ensures { result.len ≤ length out.now }
-{
-    let n = w.len;
-    if w.failed {
-        return w;
+    let mut end = put_word(out, at, word);
+    for v in values {
+        end = put_number(out, end, *v);
+        end = put_byte(out, end, b';');
     }
-    let is_written = write_out(rt, &out[..n]);
-    Waiting {
-        len: 0,
-        failed: !is_written,
-    }
+    end
 }

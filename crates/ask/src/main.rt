@@ -6,35 +6,30 @@
 
 mod every;
 
-ghost use Rattle.std.specs.Prelude.{◌≤◌, length};
-
 use ask_lines::{put_reply, put_working};
 use ask_words::{Asked, Question, asked_by, put_unopened, put_usage};
-use input_desk::Desk;
 use input_pieces::desk_of;
 use rules::Register;
-use standard_input::{End, read_all};
+use standard_input::{InputError, read_all};
 use std::env::FillError;
-use std::io;
 use std::io::Input;
 use std::rt::Env;
 
-// What failed, and why, on standard error.
-fn fail(rt: &impl Eprint, what: &str, error: io::Error) {
-    let _ = eprintln!(rt; "{what}: {error}");
+// What failed, on standard error. No Display of InputError: `registre` says it in words of its own, which may not change.
+fn tell(rt: &impl Eprint, error: InputError) {
+    let _ = match error {
+        InputError::Unread(e) => eprintln!(rt; "ask: reading the input: {e}"),
+        InputError::Unwritten(e) => eprintln!(rt; "ask: writing the answer: {e}"),
+        InputError::Untaken => eprintln!(rt; "ask: the input was not taken to its end"),
+    };
 }
 
-pub(crate) fn write_out(rt: &(impl Print + Eprint), text: &[u8]) -> bool {
-    match rt.write_all(text) {
-        Ok(()) => true,
-        Err(e) => {
-            fail(rt, "ask: writing the answer", e);
-            false
-        }
-    }
+// `registre` has the same: shared, it would be a public function, and no clause can say what is written.
+pub(crate) fn write_out(rt: &impl Print, text: &[u8]) -> Result<(), InputError> {
+    rt.write_all(text).map_err(InputError::Unwritten)
 }
 
-// How many words the program was started with, its own name among them.
+// How many words the program was started with, its own name among them: `env::args` would take the heap.
 fn arg_count(rt: &impl Env) -> usize {
     for i in 0..usize::MAX {
         if let Err(FillError::NotPresent) = rt.arg(i, &mut []) {
@@ -44,78 +39,60 @@ fn arg_count(rt: &impl Env) -> usize {
     usize::MAX
 }
 
-// Puts word i at the start of a buffer and tells its length; 0 where it is missing or longer than the buffer.
-fn arg(rt: &impl Env, i: usize, buffer: &mut [u8]) -> usize
-    ensures { result ≤ length buffer.new }
-{
-    match rt.arg(i, buffer) {
-        Ok(n) => n,
-        Err(_) => 0,
-    }
-}
-
-// What the words behind the program's name ask for. A word of more than 16 bytes is none that there is.
-fn asked(rt: &impl Env) -> Asked {
+// What the words behind the program's name ask for. A word that is missing is read as one of no bytes, and so is one of
+// more than 16: it is none that there is.
+fn asked(rt: &impl Env) -> Option<Asked> {
     let mut word = [0u8; 16];
     let mut first = [0u8; 16];
     let mut second = [0u8; 16];
     let mut third = [0u8; 16];
-    let count = arg_count(rt);
-    if count == 0 {
-        return Asked::Unknown;
-    }
-    let a = arg(rt, 1, &mut word);
-    let b = arg(rt, 2, &mut first);
-    let c = arg(rt, 3, &mut second);
-    let d = arg(rt, 4, &mut third);
-    asked_by(
-        count - 1,
-        &word[..a],
-        &first[..b],
-        &second[..c],
-        &third[..d],
-    )
+    let count = arg_count(rt).checked_sub(1)?;
+    let a = rt.arg(1, &mut word).unwrap_or(0);
+    let b = rt.arg(2, &mut first).unwrap_or(0);
+    let c = rt.arg(3, &mut second).unwrap_or(0);
+    let d = rt.arg(4, &mut third).unwrap_or(0);
+    asked_by(count, &word[..a], &first[..b], &second[..c], &third[..d])
 }
 
-fn answer_one(rt: &(impl Print + Eprint), r: Register, q: Question) {
+fn answer_one(rt: &impl Print, r: Register, q: Question) -> Result<(), InputError> {
     let mut out = [0u8; 128];
     let n = put_reply(&mut out, 0, r, q);
-    write_out(rt, &out[..n]);
+    write_out(rt, &out[..n])
 }
 
-fn answer_working(rt: &(impl Print + Eprint), first: u64, second: u64) {
+fn answer_working(rt: &impl Print, first: u64, second: u64) -> Result<(), InputError> {
     let mut out = [0u8; 128];
     let n = put_working(&mut out, 0, first, second);
-    write_out(rt, &out[..n]);
+    write_out(rt, &out[..n])
 }
 
-fn answer(rt: &(impl Print + Eprint), d: Desk, asked: Asked) {
+// Where no register is open.
+fn tell_unopened(rt: &impl Print) -> Result<(), InputError> {
     let mut out = [0u8; 128];
-    if !d.ready {
-        let n = put_unopened(&mut out, 0);
-        write_out(rt, &out[..n]);
-        return;
-    }
-    let r = d.register;
-    match asked {
-        Asked::One(q) => answer_one(rt, r, q),
-        Asked::All => every::answer_all(rt, r),
-        Asked::Working { .. } => {}
-        Asked::Unknown => {}
-    }
+    let n = put_unopened(&mut out, 0);
+    write_out(rt, &out[..n])
 }
 
-fn answer_after_input(rt: &(impl Input + Print + Eprint), asked: Asked) {
-    let came = read_all(rt, false);
-    let end = came.end;
-    let s = came.session;
-    match end {
-        End::Whole => answer(rt, desk_of(s), asked),
-        End::Unread(e) => fail(rt, "ask: reading the input", e),
-        End::Unwritten(e) => fail(rt, "ask: writing the answer", e),
-        End::Untaken => {
-            let _ = rt.eprint("ask: the input was not taken to its end\n");
-        }
+// The register that the input comes to; none where none is open.
+fn register_read(rt: &(impl Input + Print)) -> Result<Option<Register>, InputError> {
+    let d = desk_of(read_all(rt, false)?);
+    if !d.ready {
+        return Ok(None);
+    }
+    Ok(Some(d.register))
+}
+
+fn answer(rt: &(impl Input + Print), asked: Asked) -> Result<(), InputError> {
+    match asked {
+        Asked::Working { first, second } => answer_working(rt, first, second),
+        Asked::One(q) => match register_read(rt)? {
+            Some(r) => answer_one(rt, r, q),
+            None => tell_unopened(rt),
+        },
+        Asked::All => match register_read(rt)? {
+            Some(r) => every::answer_all(rt, r),
+            None => tell_unopened(rt),
+        },
     }
 }
 
@@ -127,10 +104,11 @@ fn tell_usage(to: &impl Print) {
 }
 
 fn main(rt: HostRuntime) {
-    let question = asked(&rt);
-    match question {
-        Asked::Unknown => tell_usage(&rt.stderr()),
-        Asked::Working { first, second } => answer_working(&rt, first, second),
-        _ => answer_after_input(&rt, question),
+    let Some(question) = asked(&rt) else {
+        tell_usage(&rt.stderr());
+        return;
+    };
+    if let Err(error) = answer(&rt, question) {
+        tell(&rt, error);
     }
 }

@@ -1,17 +1,12 @@
 -- The lines that answer questions, each with its line feed: `ok;` and the values, or `refused;` and the number.
 -- Definitions only.
-use Rattle.std.specs.Prelude.{ℕ, List, [], ◌∷◌, ◌++◌}
-use Rattle.rules.specs.declared.{NormalVolume.NormalVolume, Register.Register, Volume.Volume}
-use Rattle.questions.specs.declared.{Held.Held, HolderAnswer.HolderAnswer, PeriodAnswer.PeriodAnswer}
-use Rattle.questions.specs.declared.{AdvanceAnswer.AdvanceAnswer}
-use Rattle.questions.specs.declared.PeriodAnswer.TheVariants as period
-use Rattle.questions.specs.declared.AdvanceAnswer.TheVariants as advance
+use Rattle.std.specs.Prelude.{ℕ, List, [], ◌∷◌, ◌++◌, Option, Some, None, Result, Ok, Err}
+use Rattle.rules.specs.declared.{NormalVolume.NormalVolume, Period.Period, Register.Register, Volume.Volume}
+use Rattle.questions.specs.declared.{HolderAnswer.HolderAnswer, Advance.Advance}
 use Rattle.questions.specs.Pinned.Questions.{holder_answer, period_answer, advance_answer}
 use Rattle.questions.specs.Pinned.Questions.{held_number, period_number, advance_number}
-use Rattle.questions_supplier.specs.declared.{PeriodEnd.PeriodEnd, OwnPeriod.OwnPeriod, OwnAnswer.OwnAnswer}
-use Rattle.questions_supplier.specs.Pinned.Own.{own_answer, own_number}
-use Rattle.working_count.specs.declared.{WorkingAnswer.WorkingAnswer}
-use Rattle.working_count.specs.declared.WorkingAnswer.TheVariants as working
+use Rattle.questions_supplier.specs.declared.{OwnPeriod.OwnPeriod, ViewRefusal.ViewRefusal}
+use Rattle.questions_supplier.specs.Pinned.Own.{own_answer, refusal_number}
 use Rattle.working_count.specs.Question.{working_number}
 use Rattle.line_text.specs.Ascii.{ascii}
 use Rattle.line_text.specs.Decimal.{decimal}
@@ -28,9 +23,9 @@ abbrev pub date_field : ℕ → ℕ → List ℕ
 date_field d end = day_text d (end ∷ [])
 
 -- Where a period ends, `-` where it has no end, and the byte behind it.
-abbrev pub end_field : PeriodEnd → ℕ → List ℕ
-end_field PeriodEnd.Open end = ascii "-" ++ (end ∷ [])
-end_field (PeriodEnd.At d) end = date_field d end
+abbrev pub end_field : Option ℕ → ℕ → List ℕ
+end_field None end = ascii "-" ++ (end ∷ [])
+end_field (Some d) end = date_field d end
 
 abbrev pub one : List ℕ → ℕ → ℕ → List ℕ
 one w v end = w ++ field v end
@@ -60,31 +55,30 @@ refusal n = one (ascii "refused;") n 10
 
 -- 01: "A question off its range, or on a point not enrolled, gives 22." The number is that of the answer.
 -- 02, F-1: the holder question "shall .. report how many periods it looked at ..; a refusal reports 0".
-abbrev pub held_reply : Held → ℕ → List ℕ
-held_reply (Held.Holder s) n = two (ascii "ok;") s n
-held_reply Held.OffRange n = two (ascii "refused;") (held_number Held.OffRange) n
+abbrev pub held_reply : Option ℕ → ℕ → List ℕ
+held_reply (Some s) n = two (ascii "ok;") s n
+held_reply None n = two (ascii "refused;") (held_number None) n
 
 unfoldable pub holder_reply : HolderAnswer → List ℕ
 holder_reply a = held_reply a.held a.probes
 
-unfoldable pub period_reply : PeriodAnswer → List ℕ
-period_reply (period.Of q) = ok_period q.start q.holder q.volume q.normal
-period_reply period.OffRange = refusal (period_number period.OffRange)
+unfoldable pub period_reply : Option Period → List ℕ
+period_reply (Some q) = ok_period q.start q.holder q.volume q.normal
+period_reply None = refusal (period_number None)
 
-unfoldable pub advance_reply : AdvanceAnswer → List ℕ
-advance_reply (advance.Of a) = ok_advance a.volume a.normal
-advance_reply advance.OffRange = refusal (advance_number advance.OffRange)
+unfoldable pub advance_reply : Option Advance → List ℕ
+advance_reply (Some a) = ok_advance a.volume a.normal
+advance_reply None = refusal (advance_number None)
 
 -- 02, F-6: "A supplier off 1 to 99 gives 22. New numbers: 41, not in this supplier's perimeter".
-unfoldable pub view_reply : OwnAnswer → List ℕ
-view_reply (OwnAnswer.Of q) = ok_view q
-view_reply OwnAnswer.OffRange = refusal (own_number OwnAnswer.OffRange)
-view_reply OwnAnswer.OutOfPerimeter = refusal (own_number OwnAnswer.OutOfPerimeter)
+unfoldable pub view_reply : Result OwnPeriod ViewRefusal → List ℕ
+view_reply (Ok q) = ok_view q
+view_reply (Err e) = refusal (refusal_number e)
 
 -- 02, F-5: the count of working days strictly between two days; "days off the calendar or out of order give 22."
-unfoldable pub working_reply : WorkingAnswer → List ℕ
-working_reply (working.Days n) = one (ascii "ok;") n 10
-working_reply working.OffRange = refusal (working_number working.OffRange)
+unfoldable pub working_reply : Option ℕ → List ℕ
+working_reply (Some n) = one (ascii "ok;") n 10
+working_reply None = refusal (working_number None)
 
 -- The line that answers a question to the register.
 unfoldable pub reply : Register → Question → List ℕ

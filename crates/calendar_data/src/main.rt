@@ -5,8 +5,6 @@
 // each a date aaaammjj to a line. Every difference is a line of its own, before the count of what was compared.
 #![tactic(auto)]
 
-ghost use Rattle.std.specs.Prelude.{◌≤◌, length};
-
 mod compare;
 mod counts;
 mod tally;
@@ -14,26 +12,28 @@ mod text;
 mod walk;
 
 use std::fs;
-use std::io::Read;
 use std::rt::Files;
+use stored_files::read_full;
+use tally::Tally;
 
 fn main(rt: HostRuntime) {
     easter_sundays(&rt);
     holidays(&rt);
-    let days = walk::days(&rt);
-    tally::report(&rt, "days to dates and back: ", days);
-    let dates = walk::dates(&rt);
-    tally::report(&rt, "dates to days and back: ", dates);
+    report(&rt, "days to dates and back: ", walk::days(&rt));
+    report(&rt, "dates to days and back: ", walk::dates(&rt));
     working_days(&rt);
 }
 
 fn working_days(rt: &impl Print) {
     let from_first = counts::from_the_first_day(rt);
-    tally::report(rt, "working days from the first day on: ", from_first);
-    let cancel = counts::of_21_days(rt);
-    tally::report(rt, "working days within 21 days: ", cancel);
+    report(rt, "working days from the first day on: ", from_first);
+    report(rt, "working days within 21 days: ", counts::of_21_days(rt));
     let years = counts::of_up_to_three_years(rt);
-    tally::report(rt, "working days within up to three years: ", years);
+    report(rt, "working days within up to three years: ", years);
+}
+
+fn report(rt: &impl Print, label: &str, t: Tally) {
+    let _ = println!(rt; "{label}{t}");
 }
 
 // A file to be read; one that cannot be is named on standard error.
@@ -47,28 +47,17 @@ fn opened<R: Files + Eprint>(rt: &R, path: &str) -> Option<R::File> {
     }
 }
 
-// Reads until the buffer is full, the file ends or a read fails, and tells how many bytes stand at the buffer's start.
-fn read_full(file: &mut impl Read, buffer: &mut [u8]) -> usize
-    ensures { result ≤ length buffer.new }
-{
-    let mut done: usize = 0;
-    while done < buffer.len() {
-        match file.read(&mut buffer[done..]) {
-            Ok(0) | Err(_) => break,
-            Ok(n) => done += n,
-        }
-    }
-    done
-}
-
 fn easter_sundays(rt: &(impl Files + Print + Eprint)) {
     let Some(mut file) = opened(rt, "easter.txt") else {
         return;
     };
     let mut list = [0u8; 65536];
     let n = read_full(&mut file, &mut list);
-    let t = compare::easter_sundays(rt, &list[..n]);
-    tally::report(rt, "Easter Sundays: ", t);
+    report(
+        rt,
+        "Easter Sundays: ",
+        compare::easter_sundays(rt, &list[..n]),
+    );
 }
 
 fn holidays(rt: &(impl Files + Print + Eprint)) {
@@ -78,7 +67,7 @@ fn holidays(rt: &(impl Files + Print + Eprint)) {
     let mut list = [0u8; 65536];
     let n = read_full(&mut file, &mut list);
     let listed = compare::holidays_of_the_file(rt, &list[..n]);
-    tally::report(rt, "holidays of the file: ", listed);
+    report(rt, "holidays of the file: ", listed);
     let found = compare::holidays_of_the_code(rt, &list[..n]);
-    tally::report(rt, "holidays of the code: ", found);
+    report(rt, "holidays of the code: ", found);
 }

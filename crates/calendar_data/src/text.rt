@@ -1,49 +1,29 @@
 // Lines of eight digits.
 use dates::Date;
 
-// The number of line k of a text, counted from 0; 0 where the line is not eight digits and a line feed.
-pub(crate) fn number_of_line(text: &[u8], k: usize) -> u64 {
-    if text.len() / 9 <= k {
-        return 0;
-    }
-    let at = 9 * k;
-    let line = &text[at..at + 9];
-    if line[8] != b'\n' {
-        return 0;
-    }
+// The bytes of a line: eight digits and a line feed.
+pub(crate) const LINE: usize = 9;
+
+// The number of a line, if it is eight digits and a line feed.
+pub(crate) fn number_of_line(line: &[u8]) -> Option<u64> {
+    let digits = line.strip_suffix(b"\n")?;
     let mut n: u64 = 0;
-    let mut i: usize = 0;
-    while i < 8 {
-        let c = line[i];
-        if c < b'0' {
-            return 0;
+    for c in digits {
+        if !c.is_ascii_digit() {
+            return None;
         }
-        if b'9' < c {
-            return 0;
-        }
-        if 99_999_999 < n {
-            return 0;
-        }
-        n = 10 * n + (c - b'0') as u64;
-        i += 1;
+        n = n.wrapping_mul(10).wrapping_add(u64::from(*c - b'0'));
     }
-    n
+    Some(n)
 }
 
 // Whether a line of the text has a number.
 pub(crate) fn has_line(text: &[u8], n: u64) -> bool {
-    let lines = text.len() / 9;
-    let mut k: usize = 0;
-    while k < lines {
-        if number_of_line(text, k) == n {
-            return true;
-        }
-        k += 1;
-    }
-    false
+    text.chunks_exact(LINE)
+        .any(|line| number_of_line(line) == Some(n))
 }
 
-// A date as aaaammjj.
+// A date as aaaammjj. No `From`: neither a date nor a number is of this crate.
 pub(crate) fn number_of(x: Date) -> u64 {
-    10_000 * x.year as u64 + 100 * x.month as u64 + x.day as u64
+    10_000 * u64::from(x.year) + 100 * u64::from(x.month) + u64::from(x.day)
 }

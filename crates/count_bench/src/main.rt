@@ -3,52 +3,37 @@
 // bench/working times it.
 #![tactic(auto)]
 
-ghost use Rattle.std.specs.Prelude.{◌<◌, ◌≤◌, length};
+ghost use Rattle.std.specs.Prelude.{◌<◌, ◌≤◌};
 
 use dates::LAST_DAY;
 use holidays::working_days;
-use line_values::{Found, number_at, same};
+use line_values::number_at;
 use std::rt::Env;
 use working_count::working_between;
 
 fn main(rt: HostRuntime) {
-    let mut way = [0u8; 8];
-    let len = arg(&rt, 1, &mut way);
+    let mut word = [0u8; 8];
+    let len = rt.arg(1, &mut word).unwrap_or(0);
+    let way = &word[..len];
     let days = number(&rt, 2);
     let times = number(&rt, 3);
-    if days < 1 {
+    if !(1..=u64::from(LAST_DAY)).contains(&days) {
         return tell_usage(&rt);
     }
-    if (LAST_DAY as u64) < days {
-        return tell_usage(&rt);
-    }
-    if same(&way[..len], b"words") {
-        return tell(&rt, total(true, days, times));
-    }
-    if same(&way[..len], b"walk") {
-        return tell(&rt, total(false, days, times));
-    }
-    tell_usage(&rt);
-}
-
-// Puts word i at the start of a buffer and tells its length; 0 where it is missing or longer than the buffer.
-fn arg(rt: &impl Env, i: usize, buffer: &mut [u8]) -> usize
-    ensures { result ≤ length buffer.new }
-{
-    match rt.arg(i, buffer) {
-        Ok(n) => n,
-        Err(_) => 0,
+    if way == b"words".as_slice() {
+        tell(&rt, total(working_between, days, times));
+    } else if way == b"walk".as_slice() {
+        tell(&rt, total(by_walk, days, times));
+    } else {
+        tell_usage(&rt);
     }
 }
 
-// The number that a word is; 0 where it is none.
+// The number that a word is; 0 where it is none, where the word is missing or longer than the room for it.
 fn number(rt: &impl Env, i: usize) -> u64 {
     let mut word = [0u8; 16];
-    let len = arg(rt, i, &mut word);
-    match number_at(&word[..len], 0) {
-        Found::Value(n, _) => n,
-        Found::Bad => 0,
-    }
+    let len = rt.arg(i, &mut word).unwrap_or(0);
+    number_at(&word[..len], 0).map_or(0, |found| found.0)
 }
 
 fn tell(rt: &impl Print, sum: u64) {
@@ -59,28 +44,22 @@ fn tell_usage(rt: &impl Eprint) {
     let _ = rt.eprintln("usage: count_bench words DAYS TIMES | count_bench walk DAYS TIMES");
 }
 
-// So many counts, added up: they begin on all days in turn.
-fn total(by_words: bool, days: u64, times: u64) -> u64
-    requires { (1 ≤ days) × (days ≤ 73048) }
+// So many counts, added up: they begin on all days in turn. Each counts the working days strictly between two days.
+fn total<F: Fn(u64, u64) -> u32>(count: F, days: u64, times: u64) -> u64
+    requires days { (1 ≤ days) × (days ≤ 73048) }
+    requires counts { (a b : _) → a < b → F.pre count a b }
 {
     let first_days = LAST_DAY as u64 + 1 - days;
     let mut sum: u64 = 0;
-    let mut i: u64 = 0;
-    while i < times {
+    for i in 0..times {
         let a = i % first_days;
-        let n = counted(by_words, a, a + days);
-        sum = std::num::wrapping_add_u64(sum, n as u64);
-        i += 1;
+        sum = sum.wrapping_add(u64::from(count(a, a + days)));
     }
     sum
 }
 
-// The working days strictly between two days.
-fn counted(by_words: bool, a: u64, b: u64) -> u32
+fn by_walk(a: u64, b: u64) -> u32
     requires { a < b }
 {
-    if by_words {
-        return working_between(a, b);
-    }
     working_days(a + 1, b - 1)
 }

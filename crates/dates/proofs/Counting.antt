@@ -104,13 +104,19 @@ split n h = let (k, year, from, to) = year_of n h in split_in n k year from to
 
 -- A number n whose year k begins at s and whose month m begins t days later, as the code finds them: what is left is
 -- the day of the month, and the three are the date of n.
-module _ (n k s row m t : ℕ) (row_of : row ≡ leap_row (2000 + k)) (year_at : s ≡ year_start k)
-    (month_at : t ≡ month_start row m) (year_from : year_start k ≤ n) (month : InMonth row (n - s) m) where
-  pub placed_day : n - s - t < month_length row m
+module _ (n k s y m t : ℕ) (year_at : s ≡ year_start k) (same : y ≡ k) (month_at : t ≡ month_start (leap_row (2000 + y)) m)
+    (year_from : year_start k ≤ n) (month : m < 12) (from : month_start (leap_row (2000 + k)) m ≤ n - s)
+    (to : n - s < month_start (leap_row (2000 + k)) (suc m)) where
+  begins : t ≡ month_start (leap_row (2000 + k)) m
+  begins = rw same at month_at
+
+  placed_day : n - s - t < length_in k m
   unfolding month_start
-  placed_day = omega arith
+  placed_day = let b = begins in omega arith
+
+  pub placed_short : n - s - t < 31
+  placed_short = let g = placed_day in omega (arith, length_bounds (leap_row (2000 + k)) m (row_is (2000 + k)) month)
 
   pub placed : date (2000 + k) (m + 1) (n - s - t + 1) ≡ date_of n
-  placed = let g : n - s - t < length_in k m = rw (← row_of) placed_day in
-      let e : number_from0 k m (n - s - t) ≡ n = rw (← row_of) (omega arith) in
-      rw (add-one, add-one) (sym (counted k m (n - s - t) month.0 g) ∙ ap date_of e)
+  placed = let b = begins in let e : number_from0 k m (n - s - t) ≡ n = omega arith in
+      rw (add-one, add-one) (sym (counted k m (n - s - t) month placed_day) ∙ ap date_of e)

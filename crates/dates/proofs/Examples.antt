@@ -1,6 +1,6 @@
 -- The dated examples of days and dates, computed from the definitions.
+use Rattle.std.specs.Prelude.{Some}
 use Rattle.basics.proofs.Basics.{◌≡◌, refl, ℕ, min, le-leb}
-use Rattle.dates.specs.declared.{DayAnswer.DayAnswer}
 use Rattle.dates.specs.Dates.{last_day, weekday, leap_row, month_length, date, next, date_of}
 use Rattle.dates.specs.Numbers.{month_start, year_start, day_number, is_real, day_answer, date_answer}
 use Rattle.dates.specs.Months.{on_or_last, three_months_on, three_months_after}
@@ -9,7 +9,7 @@ use Rattle.dates.proofs.OneToOne.{one_to_one}
 
 -- three months after a real date, from the date: no counting up to it
 pub three_months_from :
-    (y m d n : ℕ) → day_answer y m d ≡ DayAnswer.Day n → three_months_after n ≡ min last_day (three_months_on (date y m d))
+    (y m d n : ℕ) → day_answer y m d ≡ Some n → three_months_after n ≡ min last_day (three_months_on (date y m d))
 unfolding three_months_after
 three_months_from y m d n e = let h = one_to_one.day_has_date y m d n e in rw (le-leb _ _ h.0, h.1)
 

@@ -1,6 +1,6 @@
 -- Days and dates are one to one over the whole calendar: the statement `OneToOne`, proved.
+use Rattle.std.specs.Prelude.{Some}
 use Rattle.basics.proofs.Basics.{◌≡◌, sym, ◌∙◌, ap, true, ◌≤◌, ℕ, ◌-◌, ◌+◌, ◌<◌, suc, arith, le-leb, lt-leb}
-use Rattle.dates.specs.declared.{DayAnswer.DayAnswer}
 use Rattle.dates.specs.Dates.{last_day, leap_row, date, date_of}
 use Rattle.dates.specs.Numbers.{is_real, day_number, day_answer, date_answer}
 use Rattle.dates.specs.OneToOne.{OneToOne}
@@ -45,8 +45,8 @@ module _ (n : ℕ) (h : n ≤ last_day) where
   its_date_is_real : is_real (date_of n).year (date_of n).month (date_of n).day ≡ true
   its_date_is_real = rw date_split (is_real_lem _ _ _ split_real)
 
-  its_date_has_it : day_answer (date_of n).year (date_of n).month (date_of n).day ≡ DayAnswer.Day n
-  its_date_has_it = rw date_split (real_day _ _ _ split_real ∙ ap DayAnswer.Day split_number)
+  its_date_has_it : day_answer (date_of n).year (date_of n).month (date_of n).day ≡ Some n
+  its_date_has_it = rw date_split (real_day _ _ _ split_real ∙ ap Some split_number)
 
 -- a real date, counted from 0
 module _ (y m d : ℕ) (r : Real y m d) where
@@ -67,7 +67,7 @@ module _ (y m d : ℕ) (r : Real y m d) where
   real_counted = let month_back : suc (m - 1) ≡ m = omega arith in let day_back : suc (d - 1) ≡ d = omega arith in
       rw real_number (counted (y - 2000) (m - 1) (d - 1) (omega arith) real_length ∙ rw (year_back, month_back, day_back))
 
-has_date : (y m d n : ℕ) → day_answer y m d ≡ DayAnswer.Day n → (n ≤ last_day) × (date_of n ≡ date y m d)
+has_date : (y m d n : ℕ) → day_answer y m d ≡ Some n → (n ≤ last_day) × (date_of n ≡ date y m d)
 has_date y m d n e = let r = day_real y m d n e in let same : day_number y m d ≡ n = cc (real_day y m d r) in
     rw (← same) (real_in y m d r, real_counted y m d r)
 

@@ -17,17 +17,17 @@ module _ (n : ℕ) (x : Date) (h : n ≤ last_day) (e : x ≡ date_of n) (r : In
   day_back = omega arith
 
   pub in_the_year :
-      x.month ≤ 9 →
-      min last_day (on_or_last (2000 + (x.year - 2000)) (x.month + 2 + 1) (x.day - 1 + 1)) ≡ three_months_after n
+      x.month - 1 < 9 →
+      min last_day (on_or_last (2000 + (x.year - 2000)) (x.month - 1 + 3 + 1) (x.day - 1 + 1)) ≡ three_months_after n
   unfolding three_months_after three_months_on
   in_the_year a = let year : 2000 + (x.year - 2000) ≡ x.year = omega arith in
-      let month : x.month + 2 + 1 ≡ x.month + 3 = omega arith in
-      rw (year, month, day_back, le-leb _ _ h, ← e, le-leb _ _ a)
+      let month : x.month - 1 + 3 + 1 ≡ x.month + 3 = omega arith in
+      let early : x.month ≤ 9 = omega arith in rw (year, month, day_back, le-leb _ _ h, ← e, le-leb _ _ early)
 
   pub in_the_next :
-      9 < x.month →
-      min last_day (on_or_last (2000 + (x.year - 2000 + 1)) (x.month - 10 + 1) (x.day - 1 + 1)) ≡ three_months_after n
+      9 ≤ x.month - 1 →
+      min last_day (on_or_last (2000 + (x.year - 2000 + 1)) (x.month - 1 - 9 + 1) (x.day - 1 + 1)) ≡ three_months_after n
   unfolding three_months_after three_months_on
   in_the_next a = let year : 2000 + (x.year - 2000 + 1) ≡ x.year + 1 = omega arith in
-      let month : x.month - 10 + 1 ≡ x.month - 9 = omega arith in
-      rw (year, month, day_back, le-leb _ _ h, ← e, lt-leb _ _ a)
+      let month : x.month - 1 - 9 + 1 ≡ x.month - 9 = omega arith in
+      let late : 9 < x.month = omega arith in rw (year, month, day_back, le-leb _ _ h, ← e, lt-leb _ _ late)

@@ -1,8 +1,8 @@
 -- 01, The calendar: the number of a date, by sums of month lengths, which dates are real, and the two answers.
 -- Definitions only.
-use Rattle.std.specs.Prelude.{ℕ, zero, suc, ◌+◌, ◌-◌, Bool, cond, ◌&&◌, leb}
+use Rattle.std.specs.Prelude.{ℕ, zero, suc, ◌+◌, ◌-◌, Bool, cond, ◌&&◌, leb, Option, Some, None}
+use Rattle.dates.specs.declared.{Date.Date}
 use Rattle.dates.specs.Dates.{last_day, leap_row, month_length, date_of}
-use Rattle.dates.specs.declared.{DayAnswer.DayAnswer, DateAnswer.DateAnswer}
 
 -- The days of a year before its month m, counted from 0; at 12, all its days.
 unfoldable pub month_start : ℕ → ℕ → ℕ
@@ -24,9 +24,9 @@ is_real y m d =
     leb 2000 y && leb y 2199 && leb 1 m && leb m 12 && leb 1 d && leb d (month_length (leap_row y) (m - 1))
 
 -- The answer to: which day has this date?
-unfoldable pub day_answer : ℕ → ℕ → ℕ → DayAnswer
-day_answer y m d = cond (is_real y m d) (DayAnswer.Day (day_number y m d)) DayAnswer.NoDate
+unfoldable pub day_answer : ℕ → ℕ → ℕ → Option ℕ
+day_answer y m d = cond (is_real y m d) (Some (day_number y m d)) None
 
 -- The answer to: which date has this day?
-unfoldable pub date_answer : ℕ → DateAnswer
-date_answer n = cond (leb n last_day) (DateAnswer.On (date_of n)) DateAnswer.OffCalendar
+unfoldable pub date_answer : ℕ → Option Date
+date_answer n = cond (leb n last_day) (Some (date_of n)) None

@@ -11,29 +11,17 @@ ghost use Rattle.dates.specs.Numbers.{day_answer, date_answer};
 ghost use Rattle.dates.specs.Months.{three_months_after};
 ghost use Rattle.dates.specs.Between.Years.{year_answer};
 
+use month::Month;
+
 // The last day of the calendar.
 pub const LAST_DAY: u32 = 73048;
 
 // A date: month 1 to 12, day of the month from 1.
-#[derive(Clone, Copy)]
+#[derive(Clone, Copy, PartialEq, Eq)]
 pub struct Date {
     pub year: u16,
     pub month: u8,
     pub day: u8,
-}
-
-// The day of a date.
-#[derive(Clone, Copy)]
-pub enum DayAnswer {
-    Day(u32),
-    NoDate,
-}
-
-// The date of a day.
-#[derive(Clone, Copy)]
-pub enum DateAnswer {
-    On(Date),
-    OffCalendar,
 }
 
 // A year, counted from 2000: its first day, and the first day after it.
@@ -44,66 +32,52 @@ pub struct CalendarYear {
     pub end: u32,
 }
 
-// The year of a day.
-#[derive(Clone, Copy)]
-pub enum YearAnswer {
-    In(CalendarYear),
-    OffCalendar,
-}
-
 // The day of a date; only real dates of the calendar have one.
-pub fn day_of(year: u64, month: u64, day: u64) -> DayAnswer
+pub fn day_of(year: u64, month: u64, day: u64) -> Option<u32>
     ensures { result ≡ day_answer year month day }
 {
-    if year < 2000 {
-        return DayAnswer::NoDate;
+    if !(2000..=2199).contains(&year) || !(1..=12).contains(&month) {
+        return None;
     }
-    if 2199 < year {
-        return DayAnswer::NoDate;
+    let m = Month {
+        year: (year - 2000) as u32,
+        index: (month - 1) as usize,
+    };
+    if !(1..=u64::from(m.length())).contains(&day) {
+        return None;
     }
-    if month < 1 {
-        return DayAnswer::NoDate;
-    }
-    if 12 < month {
-        return DayAnswer::NoDate;
-    }
-    if day < 1 {
-        return DayAnswer::NoDate;
-    }
-    let m = (month - 1) as usize;
-    let row = year::leap_row(year);
-    if (month::length(row, m) as u64) < day {
-        return DayAnswer::NoDate;
-    }
-    DayAnswer::Day(number::day_number((year - 2000) as u32, m, (day - 1) as u32))
+    Some(m.day_number((day - 1) as u32))
 }
 
 // The date of a day; only days of the calendar have one.
-pub fn date_of(n: u64) -> DateAnswer
+#[tactic(auto, unfolding(crate::specs::Numbers::date_answer))]
+pub fn date_of(n: u64) -> Option<Date>
     ensures { result ≡ date_answer n }
 {
-    if n > LAST_DAY as u64 {
-        return DateAnswer::OffCalendar;
+    if n > u64::from(LAST_DAY) {
+        return None;
     }
-    DateAnswer::On(number::date_on(n as u32))
+    Some(number::date_on(n as u32))
 }
 
 // The year of a day; only days of the calendar have one.
-pub fn year_of(n: u64) -> YearAnswer
+#[tactic(auto, using(crate::proofs::InYear::year_told), unfolding(crate::specs::Between::Years::year_answer))]
+pub fn year_of(n: u64) -> Option<CalendarYear>
     ensures { result ≡ year_answer n }
 {
-    if n > LAST_DAY as u64 {
-        return YearAnswer::OffCalendar;
+    if n > u64::from(LAST_DAY) {
+        return None;
     }
     let k = year::of_day(n as u32);
-    YearAnswer::In(CalendarYear {
+    Some(CalendarYear {
         index: k,
         start: year::start(k),
         end: year::start(k + 1),
     })
 }
 
-// The day of the week of a day: 0 is Monday, 6 is Sunday.
+// The day of the week of a day: 0 is Monday, 6 is Sunday. A number and no enum: its clause says `weekday` of specs/Dates.
+#[tactic(auto, unfolding(crate::specs::Dates::weekday))]
 pub fn weekday(n: u64) -> u8
     ensures { result ≡ dates_weekday n }
 {
@@ -111,18 +85,27 @@ pub fn weekday(n: u64) -> u8
 }
 
 // The same day of the month three months on, or that month's last day; no day is later than the calendar's last.
+#[tactic(auto, using(crate::proofs::ThreeMonths::in_the_year, crate::proofs::ThreeMonths::in_the_next), unfolding(crate::specs::Months::three_months_after))]
 pub fn three_months_after(n: u64) -> u32
     ensures { result ≡ three_months_after n }
 {
-    if n > LAST_DAY as u64 {
+    if n > u64::from(LAST_DAY) {
         return LAST_DAY;
     }
     let x = number::date_on(n as u32);
-    let k = x.year as u32 - 2000;
-    let m = x.month as usize;
-    let d = x.day as u32 - 1;
-    if m <= 9 {
-        return number::on_or_last(k, m + 2, d);
+    let year = u32::from(x.year) - 2000;
+    let index = usize::from(x.month) - 1;
+    let d = u32::from(x.day) - 1;
+    if index < 9 {
+        let m = Month {
+            year,
+            index: index + 3,
+        };
+        return m.on_or_last(d);
     }
-    number::on_or_last(k + 1, m - 10, d)
+    let m = Month {
+        year: year + 1,
+        index: index - 9,
+    };
+    m.on_or_last(d)
 }

@@ -3,23 +3,16 @@ ghost use Rattle.std.specs.Prelude.{◌≡◌, suc, ◌≤◌, ◌<◌};
 ghost use Rattle.dates.specs.Dates.{leap_row};
 ghost use Rattle.dates.specs.Numbers.{year_start};
 
-// The row of the month table: 1 in a leap year, else 0.
+// The row of the month table: 1 in a leap year, else 0. A number and no flag: it is the index of that row.
+#[tactic(auto, unfolding(crate::specs::Dates::leap_row))]
 pub(crate) fn leap_row(year: u64) -> usize
     ensures { (result ≡ leap_row year) × (result < 2) }
 {
-    if year % 400 == 0 {
-        return 1;
-    }
-    if year % 100 == 0 {
-        return 0;
-    }
-    if year % 4 == 0 {
-        return 1;
-    }
-    0
+    usize::from(year % 400 == 0 || (year % 100 != 0 && year % 4 == 0))
 }
 
 // The day of 1 January 2000 + k: a leap day for each fourth year before it, and none for 2100.
+#[tactic(auto, using(crate::proofs::Years::year_is))]
 pub(crate) fn start(k: u32) -> u32
     requires { k ≤ 200 }
     ensures { (result ≡ year_start k) × (result ≤ 73049) }
@@ -32,6 +25,7 @@ pub(crate) fn start(k: u32) -> u32
 }
 
 // The year of a day, counted from 2000: a 366th of it, or the year after.
+#[tactic(auto, using(crate::proofs::Years::year_is))]
 pub(crate) fn of_day(n: u32) -> u32
     requires { n ≤ 73048 }
     ensures { (result < 200) × (year_start result ≤ n) × (n < year_start (suc result)) }

@@ -1,8 +1,8 @@
 -- The table of Easter Sundays follows the Gregorian computus in every year: one test that antt computes over the whole
 -- table, and one law that makes it the rule. Then the code's Easter Sunday from 22 March, and that it is a Sunday.
+use Rattle.std.specs.Prelude.{Some, None}
 use Rattle.basics.proofs.Basics.{◌≡◌, refl, sym, true, Bool, ◌&&◌, List, [], ◌∷◌, ◌≤◌, ℕ, ◌-◌, ◌+◌, ◌<◌, add_assoc}
 use Rattle.basics.proofs.Basics.{arith, eqb, ltb, get_or, eqb-true, ltb-true, rules}
-use Rattle.dates.specs.declared.{DayAnswer.DayAnswer}
 use Rattle.dates.specs.Dates.{leap_row, month_length, weekday, last_day}
 use Rattle.dates.specs.Numbers.{month_start, is_real, day_number, day_answer}
 use Rattle.dates.proofs.Every.{every, every_below, and_left, and_right}
@@ -67,14 +67,14 @@ march_22_real y a b = let long = length_bounds (leap_row y) 2 (row_is y) (omega 
 
 module _ (y : ℕ) where
   -- a year without a 22 March has no Easter
-  pub easter_none : day_answer y 3 22 ≡ DayAnswer.NoDate → DayAnswer.NoDate ≡ easter_day y
+  pub easter_none : day_answer y 3 22 ≡ None → None ≡ easter_day y
   unfolding easter_day
   easter_none e = sym (no_date y (month y) (day y) never) where
     never : Real y (month y) (day y) → ⊥
     never r = let found = real_day y 3 22 (march_22_real y r.from_2000 r.to_2199) in
         let z : ◌≡◌ {A = ℕ} 0 1 = cc in omega arith
 
-  module _ (n : ℕ) (e : day_answer y 3 22 ≡ DayAnswer.Day n) where
+  module _ (n : ℕ) (e : day_answer y 3 22 ≡ Some n) where
     pub easter_years : (2000 ≤ y) × (y ≤ 2199)
     easter_years = let r = day_real y 3 22 n e in (r.from_2000, r.to_2199)
 
@@ -82,7 +82,7 @@ module _ (y : ℕ) where
     march_22_in = (one_to_one.day_has_date y 3 22 n e).0
 
     -- Easter Sunday is the table's entry of days after 22 March
-    pub easter_found : (x : ℕ) → IsOffset (2000 + (y - 2000)) x → DayAnswer.Day (n + x) ≡ easter_day y
+    pub easter_found : (x : ℕ) → IsOffset (2000 + (y - 2000)) x → Some (n + x) ≡ easter_day y
     unfolding easter_day
     easter_found x o = let back : 2000 + (y - 2000) ≡ y = omega (arith, easter_years) in let o' = rw back at o in
         let r = real_is y (month y) (day y) o'.is_real in

@@ -1,6 +1,6 @@
 -- The dated examples of Easter, holidays and working days, computed from the definitions.
+use Rattle.std.specs.Prelude.{Some}
 use Rattle.basics.proofs.Basics.{◌≡◌, refl, ap, Bool, false, ◌&&◌, ◌||◌, not, ◌≤◌, ℕ, arith, ltb, le-leb, lt-leb}
-use Rattle.dates.specs.declared.{DayAnswer.DayAnswer}
 use Rattle.dates.specs.Dates.{last_day, weekday, leap_row, month_length, date, next, date_of}
 use Rattle.dates.specs.Numbers.{month_start, year_start, day_number, is_real, day_answer}
 use Rattle.dates.proofs.OneToOne.{one_to_one}
@@ -11,7 +11,7 @@ use Rattle.holidays.specs.Examples.{Examples}
 use Rattle.holidays.proofs.Counting.{past_none}
 
 -- a real date's day, from the date: no counting up to it
-module _ (y m d : ℕ) (e : day_answer y m d ≡ DayAnswer.Day (day_number y m d)) where
+module _ (y m d : ℕ) (e : day_answer y m d ≡ Some (day_number y m d)) where
   holiday_on : is_holiday (day_number y m d) ≡ is_holiday_on (day_number y m d) (date y m d)
   unfolding is_holiday
   holiday_on = let h = one_to_one.day_has_date y m d (day_number y m d) e in rw (le-leb _ _ h.0, h.1)

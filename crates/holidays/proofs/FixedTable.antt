@@ -1,12 +1,10 @@
--- A walk over a table of fixed holidays: what one more row says of a date.
-use Rattle.basics.proofs.Basics.{◌≡◌, true, false, List, ℕ, ◌+◌, ◌<◌, add-one, length, drop, get_or, drop-cons}
+-- Whether a row of a table of fixed holidays falls on a date, as the library has it and as the definition has it.
+use Rattle.std.specs.List.{list_any}
+use Rattle.basics.proofs.Basics.{◌≡◌, refl, ap, Bool, ◌||◌, List, [], ◌∷◌}
 use Rattle.dates.specs.declared.{Date.Date}
 use Rattle.holidays.specs.declared.{FixedHoliday.FixedHoliday}
 use Rattle.holidays.specs.Holidays.{falls_on, any_falls_on}
 
-module _ (l : List FixedHoliday) (i : ℕ) (f : FixedHoliday) (x : Date) (h : i < length l) where
-  pub row_passed : falls_on (get_or l i f) x ≡ false → any_falls_on (drop i l) x ≡ any_falls_on (drop (i + 1) l) x
-  row_passed e = rw (drop-cons l i f h, e, add-one i)
-
-  pub row_met : falls_on (get_or l i f) x ≡ true → any_falls_on (drop i l) x ≡ true
-  row_met e = rw (drop-cons l i f h, e)
+pub any_row : (l : List FixedHoliday) (x : Date) → list_any (λ f. falls_on f x) l ≡ any_falls_on l x
+any_row [] x = refl
+any_row (f ∷ fs) x = ap (λ (b : Bool). falls_on f x || b) (any_row fs x)

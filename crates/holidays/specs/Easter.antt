@@ -1,7 +1,6 @@
 -- 01, The calendar: Easter Sunday, by the Gregorian computus.
 -- Definitions only.
-use Rattle.std.specs.Prelude.{ℕ, ◌+◌, ◌-◌, ◌*◌, ◌/◌, ◌%◌, ◌<◌, ◌≡◌, true}
-use Rattle.dates.specs.declared.{DayAnswer.DayAnswer}
+use Rattle.std.specs.Prelude.{ℕ, ◌+◌, ◌-◌, ◌*◌, ◌/◌, ◌%◌, ◌<◌, ◌≡◌, true, Option, Some}
 use Rattle.dates.specs.Dates.{weekday}
 use Rattle.dates.specs.Numbers.{is_real, day_number, day_answer}
 
@@ -64,7 +63,7 @@ easter_sunday y = month_day (n y) (p y + 1)
 
 -- 01: "Easter is kept as a table of the 200 years, shown to follow the Gregorian computus."
 -- The day of Easter Sunday; years off the calendar have none.
-unfoldable pub easter_day : ℕ → DayAnswer
+unfoldable pub easter_day : ℕ → Option ℕ
 easter_day y = day_answer y (easter_sunday y).month (easter_sunday y).day
 
 -- An entry r of the table of year y: 22 March and r days on is Easter Sunday, a real date.
@@ -75,4 +74,4 @@ pub record IsOffset (y r : ℕ) : Type 0 where
 
 -- Easter Sunday is a Sunday in all 200 years: a check of the computus, the weekdays and the month lengths at once.
 abbrev pub EasterIsSunday : Type 0
-EasterIsSunday = (y n : ℕ) → easter_day y ≡ DayAnswer.Day n → weekday n ≡ 6
+EasterIsSunday = (y n : ℕ) → easter_day y ≡ Some n → weekday n ≡ 6

@@ -1,7 +1,6 @@
 -- 01, Dated examples: those of Easter, holidays and working days, each with neighbours on the other side of its rule.
 -- Definitions only: `examples` of proofs/ proves them.
-use Rattle.std.specs.Prelude.{ℕ, ◌≤◌, ◌<◌, ◌≡◌, Bool, true, false}
-use Rattle.dates.specs.declared.{DayAnswer.DayAnswer}
+use Rattle.std.specs.Prelude.{ℕ, ◌≤◌, ◌<◌, ◌≡◌, Bool, true, false, Some, None}
 use Rattle.dates.specs.Dates.{last_day, date}
 use Rattle.dates.specs.Numbers.{day_number, day_answer}
 use Rattle.holidays.specs.Easter.{month_day, easter_sunday, easter_day}
@@ -18,16 +17,16 @@ worked_on y m d = is_working (day_number y m d)
 pub record Examples : Type 0 where
   -- "Easter 2021 is 4 April, day 7,764."
   pub easter_2021 : easter_sunday 2021 ≡ month_day 4 4
-  pub easter_day_2021 : easter_day 2021 ≡ DayAnswer.Day 7764
-  pub its_date : day_answer 2021 4 4 ≡ DayAnswer.Day 7764
+  pub easter_day_2021 : easter_day 2021 ≡ Some 7764
+  pub its_date : day_answer 2021 4 4 ≡ Some 7764
   pub easter_2022 : easter_sunday 2022 ≡ month_day 4 17
   pub easter_2008_early : easter_sunday 2008 ≡ month_day 3 23
   pub easter_2038_late : easter_sunday 2038 ≡ month_day 4 25
-  pub no_easter_1999 : easter_day 1999 ≡ DayAnswer.NoDate
-  pub no_easter_2200 : easter_day 2200 ≡ DayAnswer.NoDate
+  pub no_easter_1999 : easter_day 1999 ≡ None
+  pub no_easter_2200 : easter_day 2200 ≡ None
   -- "In 2008 Ascension is 1 May": 39 days after day 3,004. "Two holidays on one day count once."
-  pub easter_day_2008 : easter_day 2008 ≡ DayAnswer.Day 3004
-  pub ascension_2008 : day_answer 2008 5 1 ≡ DayAnswer.Day 3043
+  pub easter_day_2008 : easter_day 2008 ≡ Some 3004
+  pub ascension_2008 : day_answer 2008 5 1 ≡ Some 3043
   pub ascension_2008_is_one : holiday_on 2008 5 1 ≡ true
   pub day_after_ascension_2008 : holiday_on 2008 5 2 ≡ false
   pub ascension_2009 : holiday_on 2009 5 21 ≡ true

@@ -1,7 +1,7 @@
 -- 01, The calendar: legal holidays.
 -- Definitions only.
-use Rattle.std.specs.Prelude.{ℕ, ◌+◌, Bool, false, ◌&&◌, ◌||◌, List, [], ◌∷◌, leb, eqb}
-use Rattle.dates.specs.declared.{Date.Date, DayAnswer.DayAnswer}
+use Rattle.std.specs.Prelude.{ℕ, ◌+◌, Bool, false, ◌&&◌, ◌||◌, List, [], ◌∷◌, leb, eqb, Option, Some, None}
+use Rattle.dates.specs.declared.{Date.Date}
 use Rattle.dates.specs.Dates.{last_day, date_of}
 use Rattle.holidays.specs.declared.{FixedHoliday.FixedHoliday}
 use Rattle.holidays.specs.Easter.{easter_day}
@@ -29,9 +29,9 @@ unfoldable pub is_fixed_holiday : Date → Bool
 is_fixed_holiday x = any_falls_on fixed_holidays x
 
 -- 01: "and 1, 39 and 50 days after Easter Sunday": Easter Monday, Ascension, Whit Monday.
-unfoldable pub is_after_easter : ℕ → DayAnswer → Bool
-is_after_easter n (DayAnswer.Day e) = eqb n (e + 1) || (eqb n (e + 39) || eqb n (e + 50))
-is_after_easter n DayAnswer.NoDate = false
+unfoldable pub is_after_easter : ℕ → Option ℕ → Bool
+is_after_easter n (Some e) = eqb n (e + 1) || (eqb n (e + 39) || eqb n (e + 50))
+is_after_easter n None = false
 
 -- A day with a date. 01: "Two holidays on one day count once": a day is a holiday or it is none.
 unfoldable pub is_holiday_on : ℕ → Date → Bool

@@ -2,8 +2,6 @@
 ghost use Rattle.std.specs.Prelude.{◌≡◌, ◌+◌, ◌<◌};
 ghost use Rattle.holidays.specs.Easter.{easter_day, IsOffset};
 
-use dates::DayAnswer;
-
 // The days from 22 March, the earliest date that Easter can have, to Easter Sunday, year by year from 2000 on.
 const EASTER: [u8; 200] = [
     32, // 2000
@@ -209,14 +207,12 @@ const EASTER: [u8; 200] = [
 ];
 
 // The day of Easter Sunday; years off the calendar have none.
-pub fn easter_day(year: u64) -> DayAnswer
+#[tactic(auto, using(crate::proofs::EasterTable::easter_none, crate::proofs::EasterTable::easter_years, crate::proofs::EasterTable::march_22_in))]
+pub fn easter_day(year: u64) -> Option<u32>
     ensures { result ≡ easter_day year }
 {
-    let march_22 = dates::day_of(year, 3, 22);
-    let DayAnswer::Day(d) = march_22 else {
-        return DayAnswer::NoDate;
-    };
-    DayAnswer::Day(d + offset((year - 2000) as usize) as u32)
+    let march_22 = dates::day_of(year, 3, 22)?;
+    Some(march_22 + u32::from(offset((year - 2000) as usize)))
 }
 
 // The table's entry of 2000 + k.

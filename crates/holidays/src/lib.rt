@@ -8,8 +8,11 @@ ghost use Rattle.holidays.specs.Easter.{easter_day};
 ghost use Rattle.holidays.specs.Holidays.{falls_on, is_fixed_holiday, is_after_easter, is_holiday};
 ghost use Rattle.holidays.specs.Working.{is_working, working_days};
 
-use dates::{Date, DateAnswer, DayAnswer};
+use dates::{Date, LAST_DAY};
 pub use easter::easter_day;
+
+// The day of the week after the last that is worked, as `dates::weekday` counts them.
+const SATURDAY: u8 = 5;
 
 // A holiday with a fixed date: month and day, and the first year in which it is one.
 #[derive(Clone, Copy)]
@@ -17,6 +20,16 @@ pub struct FixedHoliday {
     pub month: u8,
     pub day: u8,
     pub since: u16,
+}
+
+impl FixedHoliday {
+    // Whether it falls on a date.
+    #[tactic(auto, unfolding(crate::specs::Holidays::falls_on))]
+    fn falls_on(&self, x: Date) -> bool
+        ensures { result ≡ falls_on self.now x }
+    {
+        self.month == x.month && self.day == x.day && self.since <= x.year
+    }
 }
 
 // The holidays with a fixed date: 9 May since 2019, all others since the calendar's first year.
@@ -64,103 +77,47 @@ const FIXED: [FixedHoliday; 8] = [
 ];
 
 // Whether a day is a legal holiday; no number past the calendar's end is one.
+#[tactic(auto, using(dates::proofs::Answers::answer_on, dates::proofs::Answers::answer_off), unfolding(crate::specs::Holidays::is_holiday, crate::specs::Holidays::is_holiday_on))]
 pub fn is_holiday(n: u64) -> bool
     ensures { result ≡ is_holiday n }
 {
-    let answer = dates::date_of(n);
-    let DateAnswer::On(x) = answer else {
+    let Some(x) = dates::date_of(n) else {
         return false;
     };
-    if is_fixed_holiday(x) {
-        return true;
-    }
-    is_after_easter(n, x.year as u64)
+    is_fixed_holiday(x) || is_after_easter(n, u64::from(x.year))
 }
 
 // Whether a day is Monday to Friday and no legal holiday; no number past the calendar's end is one.
+#[tactic(auto, unfolding(crate::specs::Working::is_working))]
 pub fn is_working(n: u64) -> bool
     ensures { result ≡ is_working n }
 {
-    if n > dates::LAST_DAY as u64 {
-        return false;
-    }
-    if dates::weekday(n) >= 5 {
-        return false;
-    }
-    !is_holiday(n)
+    n <= u64::from(LAST_DAY) && dates::weekday(n) < SATURDAY && !is_holiday(n)
 }
 
 // The working days from a first to a last day, both counted.
 pub fn working_days(first: u64, last: u64) -> u32
     ensures { result ≡ working_days first last }
 {
-    if first > dates::LAST_DAY as u64 {
-        return 0;
-    }
-    if last > dates::LAST_DAY as u64 {
-        return count_working(first, dates::LAST_DAY as u64);
-    }
-    count_working(first, last)
-}
-
-// The same by a walk day by day, for days of the calendar.
-fn count_working(first: u64, last: u64) -> u32
-    requires { (first ≤ 73048) × (last ≤ 73048) }
-    ensures { result ≡ working_days first last }
-{
-    let mut count: u32 = 0;
-    let mut d = first;
-    while d <= last {
-        if is_working(d) {
-            count += 1;
-        }
-        d += 1;
-    }
-    count
-}
-
-// Whether a row of the table falls on a date.
-fn falls_on(f: FixedHoliday, x: Date) -> bool
-    ensures { result ≡ falls_on f x }
-{
-    if f.month != x.month {
-        return false;
-    }
-    if f.day != x.day {
-        return false;
-    }
-    f.since <= x.year
+    let end = last.min(u64::from(LAST_DAY)) + 1;
+    (first..end).filter(|d| is_working(*d)).count() as u32
 }
 
 // Whether a row of the table of fixed holidays falls on a date.
 fn is_fixed_holiday(x: Date) -> bool
     ensures { result ≡ is_fixed_holiday x }
 {
-    let mut i: usize = 0;
-    while i < 8 {
-        let f = FIXED[i];
-        if falls_on(f, x) {
-            return true;
-        }
-        i += 1;
-    }
-    false
+    FIXED.iter().any(|f| f.falls_on(x))
 }
 
 // Whether a day is 1, 39 or 50 days after Easter Sunday of a year.
+#[tactic(auto, unfolding(crate::specs::Holidays::is_after_easter))]
 fn is_after_easter(n: u64, year: u64) -> bool
     ensures { result ≡ is_after_easter n (easter_day year) }
 {
-    let answer = easter_day(year);
-    let DayAnswer::Day(e) = answer else {
+    let Some(e) = easter_day(year) else {
         return false;
     };
-    let easter = e as u64;
-    if n == easter + 1 {
-        return true;
-    }
-    if n == easter + 39 {
-        return true;
-    }
-    n == easter + 50
+    let easter = u64::from(e);
+    n == easter + 1 || n == easter + 39 || n == easter + 50
 }

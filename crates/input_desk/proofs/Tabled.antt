@@ -1,9 +1,10 @@
 -- Every answer is one of document 01's table.
+use Rattle.rules.specs.declared.{Rejection.Rejection}
 use Rattle.basics.proofs.Basics.{◌≡◌, refl, true, false, Bool, cond, ◌&&◌, false≢true, ◌||◌, List, [], ◌∷◌, ℕ, ◌<◌}
 use Rattle.basics.proofs.Basics.{arith, eqb, leb, leb-true, eqb-true}
 use Rattle.rules.specs.declared.{Settings.Settings, SupplyKind.SupplyKind, Opening.Opening, Register.Register}
 use Rattle.rules.specs.declared.{Call.Call, View.View, Action.Action, PointAction.PointAction, Answer.Answer}
-use Rattle.rules.specs.Answers.{number}
+use Rattle.rules.specs.Answers.{number, number_of}
 use Rattle.rules.specs.Rejections.{
   Row,
   ◌⇒◌,
@@ -23,7 +24,7 @@ use Rattle.input_desk.specs.Pinned.Desk.{unreadable, answer_of}
 use Rattle.input_desk.specs.Table.{is_number, is_tabled, EveryAnswerTabled}
 
 -- a row more
-row : (b : Bool) (n : ℕ) (rs : List Row) (a : Answer) → is_tabled (Answer.Refused n) ≡ true → is_tabled (first_of rs a) ≡ true →
+row : (b : Bool) (n : Rejection) (rs : List Row) (a : Answer) → is_tabled (Answer.Refused n) ≡ true → is_tabled (first_of rs a) ≡ true →
     is_tabled (first_of ((b ⇒ n) ∷ rs) a) ≡ true
 unfolding first_of
 row true n rs a h k = h
@@ -38,19 +39,19 @@ row_8 S t SupplyKind.Contract rs a k = k
 row_8 S t (SupplyKind.LastResort d) rs a k = k
 row_8 S t (SupplyKind.Default d) rs a k = go (last_resort_near S t (SupplyKind.Default d)).applies
   where
-    go : (b : Bool) → is_tabled (cond b (Answer.RefusedUntil d) (first_of rs a)) ≡ true
+    go : (b : Bool) → is_tabled (cond b (Answer.Refused (Rejection.LastResortUnderWay d)) (first_of rs a)) ≡ true
     go true = refl
     go false = k
 
 -- 22, 20 and 21
 dated : (a b c : Bool) (rs : List Row) (x : Answer) → is_tabled (first_of rs x) ≡ true →
-    is_tabled (first_of ((a ⇒ 22) ∷ (b ⇒ 20) ∷ (c ⇒ 21) ∷ rs) x) ≡ true
-dated a b c rs x h = row a 22 _ x refl (row b 20 _ x refl (row c 21 rs x refl h))
+    is_tabled (first_of ((a ⇒ Rejection.FieldOutOfRange) ∷ (b ⇒ Rejection.OffTheCalendar) ∷ (c ⇒ Rejection.DayRunsBack) ∷ rs) x) ≡ true
+dated a b c rs x h = row a _ _ x refl (row b _ _ x refl (row c _ rs x refl h))
 
 -- 40 between them, where a meter is brought
 fitting : (a f b c : Bool) (rs : List Row) (x : Answer) → is_tabled (first_of rs x) ≡ true →
-    is_tabled (first_of ((a ⇒ 22) ∷ (f ⇒ 40) ∷ (b ⇒ 20) ∷ (c ⇒ 21) ∷ rs) x) ≡ true
-fitting a f b c rs x h = row a 22 _ x refl (row f 40 _ x refl (row b 20 _ x refl (row c 21 rs x refl h)))
+    is_tabled (first_of ((a ⇒ Rejection.FieldOutOfRange) ∷ (f ⇒ Rejection.FactorOutOfRange) ∷ (b ⇒ Rejection.OffTheCalendar) ∷ (c ⇒ Rejection.DayRunsBack) ∷ rs) x) ≡ true
+fitting a f b c rs x h = row a _ _ x refl (row f _ _ x refl (row b _ _ x refl (row c _ rs x refl h)))
 
 last : (a : Answer) → is_tabled a ≡ true → is_tabled (first_of [] a) ≡ true
 unfolding first_of
@@ -59,26 +60,26 @@ last a h = h
 module _ (S : Settings) (day : ℕ) (u : List Bool) (t : ℕ) where
   rows_at_lem : (p : ℕ) (a : PointAction) (v : View) → is_tabled (first_of (rows_at S day u t p a v) (accepted_by (effect_of S t a v.fields))) ≡ true
   unfolding rows_at effect_of
-  rows_at_lem p (PointAction.Enrol m) v = fitting _ _ _ _ _ _ (row _ 2 _ _ refl (row _ 23 _ _ refl (row _ 28 _ _ refl (last _ refl))))
+  rows_at_lem p (PointAction.Enrol m) v = fitting _ _ _ _ _ _ (row _ _ _ _ refl (row _ _ _ _ refl (row _ _ _ _ refl (last _ refl))))
   rows_at_lem p (PointAction.IntoService s k) v =
-      dated _ _ _ _ _ (row _ 1 _ _ refl (row _ 2 _ _ refl (row _ 24 _ _ refl (row _ 30 _ _ refl (last _ refl)))))
-  rows_at_lem p (PointAction.DefaultSupply k) v = dated _ _ _ _ _ (row _ 2 _ _ refl (row _ 24 _ _ refl (row _ 30 _ _ refl (last _ refl))))
-  rows_at_lem p (PointAction.Request s k r) v = dated _ _ _ _ _ (row _ 1 _ _ refl (row _ 2 _ _ refl (row _ 3 _ _ refl
-      (row _ 4 _ _ refl (row _ 5 _ _ refl (row _ 6 _ _ refl
-      (row _ 7 _ _ refl (row_8 S t v.fields.supply.kind _ _ (row _ 30 _ _ refl (last _ refl))))))))))
-  rows_at_lem p (PointAction.Cancel s) v = dated _ _ _ _ _ (row _ 2 _ _ refl (row _ 25 _ _ refl (row _ 26 _ _ refl (last _ refl))))
-  rows_at_lem p (PointAction.Reading d x z) v = dated _ _ _ _ _ (row _ 2 _ _ refl (row _ 27 _ _ refl (row _ 28 _ _ refl (last _ refl))))
-  rows_at_lem p (PointAction.MeterChange x z m) v = fitting _ _ _ _ _ _ (row _ 2 _ _ refl (row _ 27 _ _ refl (row _ 28 _ _ refl (last _ refl))))
+      dated _ _ _ _ _ (row _ _ _ _ refl (row _ _ _ _ refl (row _ _ _ _ refl (row _ _ _ _ refl (last _ refl)))))
+  rows_at_lem p (PointAction.DefaultSupply k) v = dated _ _ _ _ _ (row _ _ _ _ refl (row _ _ _ _ refl (row _ _ _ _ refl (last _ refl))))
+  rows_at_lem p (PointAction.Request s k r) v = dated _ _ _ _ _ (row _ _ _ _ refl (row _ _ _ _ refl (row _ _ _ _ refl
+      (row _ _ _ _ refl (row _ _ _ _ refl (row _ _ _ _ refl
+      (row _ _ _ _ refl (row_8 S t v.fields.supply.kind _ _ (row _ _ _ _ refl (last _ refl))))))))))
+  rows_at_lem p (PointAction.Cancel s) v = dated _ _ _ _ _ (row _ _ _ _ refl (row _ _ _ _ refl (row _ _ _ _ refl (last _ refl))))
+  rows_at_lem p (PointAction.Reading d x z) v = dated _ _ _ _ _ (row _ _ _ _ refl (row _ _ _ _ refl (row _ _ _ _ refl (last _ refl))))
+  rows_at_lem p (PointAction.MeterChange x z m) v = fitting _ _ _ _ _ _ (row _ _ _ _ refl (row _ _ _ _ refl (row _ _ _ _ refl (last _ refl))))
   rows_at_lem p PointAction.OutOfService v =
-      row _ 20 _ _ refl (row _ 21 _ _ refl (row _ 2 _ _ refl (row _ 6 _ _ refl (row _ 30 _ _ refl (last _ refl)))))
-  rows_at_lem p (PointAction.Suspend m) v = dated _ _ _ _ _ (row _ 2 _ _ refl (last _ refl))
+      row _ _ _ _ refl (row _ _ _ _ refl (row _ _ _ _ refl (row _ _ _ _ refl (row _ _ _ _ refl (last _ refl)))))
+  rows_at_lem p (PointAction.Suspend m) v = dated _ _ _ _ _ (row _ _ _ _ refl (last _ refl))
 
   rows_of : (a : Action) (v : ℕ → View) → is_tabled (first_of (rows S day u t a v) (accepted S t a v)) ≡ true
   unfolding rows accepted
   rows_of (Action.Contract s) v = dated _ _ _ _ _ (last _ refl)
-  rows_of (Action.Failure s) v = dated _ _ _ _ _ (row _ 1 _ _ refl (row _ 29 _ _ refl (row _ 30 _ _ refl (last _ refl))))
+  rows_of (Action.Failure s) v = dated _ _ _ _ _ (row _ _ _ _ refl (row _ _ _ _ refl (row _ _ _ _ refl (last _ refl))))
   rows_of (Action.At p a) v = rows_at_lem p a (v p)
-  rows_of Action.Day v = row _ 20 _ _ refl (row _ 21 _ _ refl (last _ refl))
+  rows_of Action.Day v = row _ _ _ _ refl (row _ _ _ _ refl (last _ refl))
 
 call_tabled : (r : Register) (c : Call) → is_tabled (says r c) ≡ true
 unfolding says answer answer_to
@@ -86,8 +87,8 @@ call_tabled r c = rows_of r.settings r.day r.contracts c.today c.action _
 
 opening_tabled : (o : Opening) → is_tabled (opening_answer o) ≡ true
 unfolding opening_answer
-opening_tabled o = row _ 22 _ _ refl (row _ 22 _ _ refl (row _ 22 _ _ refl
-    (row _ 22 _ _ refl (row _ 22 _ _ refl (row _ 22 _ _ refl (row _ 20 _ _ refl (last _ refl)))))))
+opening_tabled o = row _ _ _ _ refl (row _ _ _ _ refl (row _ _ _ _ refl
+    (row _ _ _ _ refl (row _ _ _ _ refl (row _ _ _ _ refl (row _ _ _ _ refl (last _ refl)))))))
 
 pub every_answer_tabled : EveryAnswerTabled
 unfolding answer_of applied
@@ -125,5 +126,4 @@ number_small n h = either _ (eqb n 40) (either (leb 1 n && leb n 8) (leb 20 n &&
 pub tabled_small : (a : Answer) → is_tabled a ≡ true → number a < 100
 tabled_small Answer.Accepted h = omega arith
 tabled_small (Answer.AcceptedOn e) h = omega arith
-tabled_small (Answer.RefusedUntil d) h = omega arith
-tabled_small (Answer.Refused n) h = number_small n (and_left (is_number n) _ h)
+tabled_small (Answer.Refused r) h = number_small (number_of r) (and_left (is_number (number_of r)) _ h)

@@ -9,7 +9,8 @@ use point_checks::is_accepted;
 use register::{apply, open};
 use rules::Register;
 
-// The register, once a set has opened it; before that the register is not looked at.
+// The register, once a set has opened it; before that the register is not looked at. A flag and not an Option, since
+// `start_desk` and `desk_after`, under the theorem `every_desk` (input_whole), say the register of an unopened one too.
 #[derive(Clone, Copy)]
 pub struct Desk {
     pub ready: bool,
@@ -20,31 +21,26 @@ pub struct Desk {
 pub fn after(d: Desk, m: Message) -> Desk
     ensures { result ≡ desk_after d m }
 {
-    let r = d.register;
     match m {
         Message::Open(o) => {
             if d.ready {
                 return d;
             }
-            let x = open(r, o);
-            let answer = x.answer;
-            let next = x.register;
-            let opened = is_accepted(answer);
+            let x = open(d.register, o);
+            let opened = is_accepted(x.answer);
             Desk {
                 ready: opened,
-                register: next,
+                register: x.register,
             }
         }
         Message::Ask(c) => {
-            if d.ready {
-                let x = apply(r, c);
-                let next = x.register;
-                return Desk {
-                    ready: true,
-                    register: next,
-                };
+            if !d.ready {
+                return d;
             }
-            d
+            Desk {
+                ready: true,
+                register: apply(d.register, c).register,
+            }
         }
         Message::Unreadable => d,
     }

@@ -1,7 +1,13 @@
 -- Laws of line feeds: where the first one stands, how many there are, and how many bytes have no more than n of them.
-use Rattle.basics.proofs.Basics.{◌≡◌, refl, ◌∙◌, ap, true, false, cond, ◌&&◌, and-false, List, [], ◌∷◌, ◌≤◌, ℕ, ◌-◌}
+use Rattle.basics.proofs.Basics.{◌≡◌, refl, List, [], ◌∷◌, ◌≤◌, ℕ, ◌-◌}
 use Rattle.basics.proofs.Basics.{◌<◌, suc, zero, not-suc-le-zero, le_of_suc-le-suc, arith, eqb, length, drop, take}
 use Rattle.basics.proofs.Basics.{get_or, drop-cons, ne_eqb, eq-eqb, cases}
+use Rattle.basics.proofs.Basics.{ltb, ltb-false}
+use Rattle.std.proofs.Math.Numerals.{one-add}
+use Rattle.std.specs.Prelude.{position, ◌==◌}
+use Rattle.std.specs.List.{position_or_len}
+use Rattle.std.specs.Option.{unwrap_or}
+use Rattle.std.proofs.lemmas.List.Recursion.{is_position_or_len}
 use Rattle.input_lines.specs.Between.Feeds.{until_feed, fitting}
 use Rattle.input_lines.specs.Lines.{feeds}
 
@@ -19,6 +25,13 @@ pub until_le : (l : List ℕ) → until_feed l ≤ length l
 unfolding until_feed
 until_le [] = omega arith
 until_le (b ∷ l) = let rest = until_le l in cases (eqb b 10) (λ e. rw e (omega arith)) (λ e. rw e (omega arith))
+
+-- the place of the first one, or the end
+pub until_place : (l : List ℕ) → unwrap_or (position (λ b. b == 10) l) (length l) ≡ until_feed l
+unfolding until_feed
+until_place l = let e : until_feed l ≡ position_or_len (λ b. b == 10) l =
+    is_position_or_len until_feed (λ b. b == 10) refl (λ x xs. rw (one-add (until_feed xs))) l in
+    cases (ltb (until_feed l) (length l)) (λ t. rw (← e, t)) (λ f. rw (← e, f) (omega (arith, until_le l, ltb-false (until_feed l) (length l) f)))
 
 -- ---- how many there are
 
@@ -51,23 +64,23 @@ fitting_all zero (b ∷ l) h = absurd (not-suc-le-zero h)
 fitting_all (suc n) (b ∷ l) h = cases (eqb b 10) (λ e. rw (e, fitting_all n l (le_of_suc-le-suc h)))
     (λ e. rw (e, fitting_all (suc n) l (omega arith)))
 
--- one byte on: a line feed where none is left stops it
-fitting_cons : (n b : ℕ) (l : List ℕ) → fitting n (b ∷ l) ≡ cond (eqb b 10 && eqb n 0) 0 (suc (fitting (cond (eqb b 10) (n - 1) n) l))
+-- where a line feed is found and none is left, it stops there
+pub fitting_over : (l : List ℕ) (i : ℕ) → i < length l → get_or l i 0 ≡ 10 → fitting 0 (drop i l) ≡ 0
 unfolding fitting
-fitting_cons zero b l = cases (eqb b 10) (λ e. rw e) (λ e. rw e)
-fitting_cons (suc n) b l = let e : suc n - 1 ≡ n = omega arith in
-    rw (e, ne_eqb (suc n) 0 (λ h. not-suc-le-zero {n = n} (omega arith)), and-false (eqb b 10))
+fitting_over l i h e = rw (drop-cons l i 0 h, eq-eqb _ _ e)
 
-fitting_here : (n : ℕ) (l : List ℕ) (i : ℕ) → i < length l →
-    fitting n (drop i l) ≡ cond (eqb (get_or l i 0) 10 && eqb n 0) 0 (suc (fitting (cond (eqb (get_or l i 0) 10) (n - 1) n) (drop (suc i) l)))
-fitting_here n l i h = ap (fitting n) (drop-cons l i 0 h) ∙ fitting_cons n (get_or l i 0) (drop (suc i) l)
+-- any other byte is taken, and a line feed leaves one fewer
+pub fitting_feed : (n : ℕ) (l : List ℕ) (i : ℕ) → i < length l → get_or l i 0 ≡ 10 → 0 < n →
+    fitting n (drop i l) ≡ suc (fitting (n - 1) (drop (suc i) l))
+unfolding fitting
+fitting_feed zero l i h e k = absurd (not-suc-le-zero k)
+fitting_feed (suc n) l i h e k = let z : suc n - 1 ≡ n = omega arith in rw (drop-cons l i 0 h, eq-eqb _ _ e, z)
 
-pub fitting_over : (n : ℕ) (l : List ℕ) (i : ℕ) → i < length l → (eqb (get_or l i 0) 10 && eqb n 0) ≡ true → fitting n (drop i l) ≡ 0
-fitting_over n l i h e = rw (fitting_here n l i h, e)
-
-pub fitting_next : (n : ℕ) (l : List ℕ) (i : ℕ) → i < length l → (eqb (get_or l i 0) 10 && eqb n 0) ≡ false →
-    fitting n (drop i l) ≡ suc (fitting (cond (eqb (get_or l i 0) 10) (n - 1) n) (drop (suc i) l))
-fitting_next n l i h e = rw (fitting_here n l i h, e)
+pub fitting_other : (n : ℕ) (l : List ℕ) (i : ℕ) → i < length l → (get_or l i 0 ≡ 10 → ⊥) →
+    fitting n (drop i l) ≡ suc (fitting n (drop (suc i) l))
+unfolding fitting
+fitting_other zero l i h e = rw (drop-cons l i 0 h, ne_eqb _ _ e)
+fitting_other (suc n) l i h e = rw (drop-cons l i 0 h, ne_eqb _ _ e)
 
 -- with room for one line feed some of the bytes fit
 pub fitting_some : (n : ℕ) (l : List ℕ) → 0 < n → 0 < length l → 0 < fitting n l

@@ -59,16 +59,12 @@ capped_append x more h = let s : kept_bytes ≡ length x + (kept_bytes - length 
     ap (λ (l : List ℕ). x ++ l) (take_min (kept_bytes - length x) more)
 
 -- the bytes held and as many of the new ones as fit
-pub begun_appended : (bytes more : List ℕ) (len held added : ℕ) (o₁ o₂ : List ℕ) (a b : ℕ) → length bytes ≡ kept_bytes →
-    held ≡ min len kept_bytes → added ≡ min (length more) (kept_bytes - held) →
-    Appended 0 (take held bytes) (replicate kept_bytes 0) o₁ a → Appended a (take added more) o₁ o₂ b →
-    record { len = b; bytes = o₂ } ≡ begun_of (capped (take (min len kept_bytes) bytes ++ more))
+pub begun_appended : (held more : List ℕ) (added : ℕ) (o₁ o₂ : List ℕ) (a b : ℕ) → length held ≤ kept_bytes →
+    added ≡ min (length more) (kept_bytes - length held) → Appended 0 held (replicate kept_bytes 0) o₁ a →
+    Appended a (take added more) o₁ o₂ b → record { len = b; bytes = o₂ } ≡ begun_of (capped (held ++ more))
 unfolding begun_of
-begun_appended bytes more len held added o₁ o₂ a b n hh ha w v =
-    let hl : length (take held bytes) ≡ held = length-take-le held bytes (omega arith) in
+begun_appended held more added o₁ o₂ a b h ha w v =
     let al : length (take added more) ≡ added = length-take-le added more (omega arith) in
-    let all : capped (take held bytes ++ more) ≡ take held bytes ++ take added more =
-    rw (hl, ← ha) at (capped_append (take held bytes) more (omega arith))
-    in
-    let q = zeros_put kept_bytes (take held bytes) (take added more) o₁ o₂ a b (omega (arith, length-append (take held bytes) (take added more))) w v in
-    rw (q.0, q.1, ← hh, all)
+    let all : capped (held ++ more) ≡ held ++ take added more = rw (← ha) at (capped_append held more h) in
+    let q = zeros_put kept_bytes held (take added more) o₁ o₂ a b (omega (arith, length-append held (take added more))) w v in
+    rw (q.0, q.1, all)

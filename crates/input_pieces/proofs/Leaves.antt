@@ -1,10 +1,9 @@
 -- What a line leaves behind: refused, stored in the tables, or done on the whole register.
 use Rattle.basics.proofs.Basics.{◌≡◌, refl, sym, ◌∙◌, ap, true, false, Bool, List, map, ◌≤◌, ℕ, ◌-◌, ◌+◌, ◌<◌, ◌*◌, min}
 use Rattle.basics.proofs.Basics.{le_trans, arith, get_or, set, set-get_or}
-use Rattle.rules.specs.declared.{Answer.Answer, Fields.Fields, Period.Period, Register.Register, Settings.Settings, Span.Span}
+use Rattle.rules.specs.declared.{Answer.Answer, Fields.Fields, Period.Period, Settings.Settings, Span.Span}
 use Rattle.rules.specs.Answers.{is_accepted}
 use Rattle.rules.specs.Fields.{blank}
-use Rattle.rules.specs.declared.{NormalVolume.NormalVolume, Reading.Reading, Volume.Volume}
 use Rattle.rules.specs.Pinned.Register.{period, no_period}
 use Rattle.line_messages.specs.declared.{Message.Message}
 use Rattle.input_tables.specs.declared.{Tables.Tables}
@@ -15,10 +14,13 @@ use Rattle.input_desk.specs.Pinned.Desk.{desk, answer_of, desk_after}
 use Rattle.input_desk.proofs.Openings.{refused_after}
 use Rattle.input_quiet.specs.Between.Quiet.{due_day, first_due}
 use Rattle.input_quiet.proofs.Dues.{first_at, first_set}
-use Rattle.input_point.specs.declared.{answers.Said.Said, daily.Daily.Daily, deeds.Deed.Deed, deeds.Entry.Entry}
+use Rattle.input_point.specs.declared.{answers.Said.Said, daily.DailyReading.DailyReading, deeds.Deed.Deed, deeds.Entry.Entry}
 use Rattle.input_point.specs.Between.Answers.{place_of, said_by, newest_start, failure_answer, settled}
 use Rattle.input_point.proofs.Settled.{answer_settled}
-use Rattle.input_pieces.specs.Pinned.Session.{register_in}
+use Rattle.std.specs.Prelude.{Some}
+use Rattle.input_pieces.specs.declared.{Session.Session}
+use Rattle.input_pieces.specs.Between.Pieces.{Told}
+use Rattle.input_pieces.specs.Pinned.Session.{register_in, desk_of}
 use Rattle.input_pieces.proofs.Turns.{Turned}
 use Rattle.input_point.specs.Between.Deeds.{deed_of}
 use Rattle.input_point.specs.Between.Daily.{daily_of}
@@ -53,9 +55,17 @@ pub record State : Type 0 where
   pub slots : List Period
   pub quiet : ℕ
 
-abbrev pub state : Bool → Settings → ℕ → List Bool → List Fields → List ℕ → List Period → ℕ → State
-state b S day u fs ns ss q =
-    record { ready = b; set = S; day = day; contracts = u; fields = fs; counts = ns; slots = ss; quiet = q }
+abbrev pub state_of : Session → ℕ → State
+state_of s quiet = record {
+  ready = s.ready;
+  set = s.settings;
+  day = s.day;
+  contracts = s.contracts;
+  fields = s.tables.fields;
+  counts = s.tables.counts;
+  slots = s.tables.slots;
+  quiet = quiet;
+}
 
 module _ (z : State) where
   abbrev fs : List Fields
@@ -84,8 +94,8 @@ module _ (z : State) where
         let e : x ≡ said_by z.set z.day z.contracts z.ready m (get_or fs i blank) (get_or ns i 0) (newest_start i (get_or ns i 0) ss) = rw hk at h in
         answer_settled z.set z.day z.contracts fs ns ss sized z.ready m i hi ∙ ap (settled fails) (sym e)
 
-    pub heard_as : {x y v : Said} {a : Answer} → x ≡ said_here m i k → x ≡ v → y ≡ v → a ≡ settled fails v → Heard d (said_here m i k) m y a
-    heard_as {x} h e v w = record { said = v ∙ sym e ∙ h; answer = w ∙ sym (answer_is x h ∙ ap (settled fails) e) }
+    pub heard : {y : Said} {a : Answer} → y ≡ said_here m i k → a ≡ settled fails y → Heard d (said_here m i k) m y a
+    heard {y} h w = record { said = h; answer = w ∙ sym (answer_is y h) }
 
     module _ {y : Said} {a : Answer} (told : Heard d (said_here m i k) m y a) where
       pub refused_next : is_accepted a ≡ false → Next d m a z.ready z.set z.day z.contracts fs ns ss z.quiet
@@ -93,14 +103,6 @@ module _ (z : State) where
           record { turned = record { answer = told.answer; after = sym (refused_after d m (rw told.answer at h)) }; sized = sized; calm = calm }
 
       module _ (ok : is_accepted a ≡ true) where
-        -- the whole register, taken apart again
-        pub whole_next : {R : Register} → R ≡ register_in z.set z.day z.contracts fs ns ss → {nd : Desk} →
-            nd ≡ desk_after (desk z.ready R) m → {t : Tables} → Apart nd.register.points t →
-            {quiet' : ℕ} → quiet' ≡ first_due t.fields →
-            Next d m a nd.ready nd.register.settings nd.register.day nd.register.contracts t.fields t.counts t.slots quiet'
-        whole_next hR does apart hq =
-            record { turned = record { answer = told.answer; after = rw apart.points (rw hR at does) }; sized = apart.sized; calm = omega (arith, hq) }
-
         module _ {x : Deed} (hx : x ≡ deed_of z.quiet m y (get_or ns i 0) (get_or ss (24 * i + k) no_period)) where
           stored : is_whole x ≡ false → desk z.ready (stored_in z.set z.day z.contracts fs ns ss i x) ≡ desk_after d m
           stored w =
@@ -147,19 +149,25 @@ module _ (z : State) where
               }
 
     -- a daily reading, stored by itself
-    pub daily_next : {t : ℕ} {now : Reading} {v : Volume} {n : NormalVolume}
-        → Daily.Read t now v n ≡ daily_of z.ready z.day z.quiet m (get_or ns i 0) (get_or fs i blank) (get_or ss (24 * i + k) no_period)
-        → Next d m Answer.Accepted z.ready z.set t z.contracts (set fs i (read (get_or fs i blank) now)) ns
-        (set ss (24 * i + k) (period (get_or ss (24 * i + k) no_period).start (get_or ss (24 * i + k) no_period).holder v.0 n.0)) z.quiet
-    daily_next {t} {now} {v} {n} e =
-        let h : Stores z.ready z.day z.quiet m (get_or ns i 0) (get_or fs i blank) (get_or ss (24 * i + k) no_period) t now v n =
+    pub daily_next : {x : DailyReading}
+        → Some x ≡ daily_of z.ready z.day z.quiet m (get_or ns i 0) (get_or fs i blank) (get_or ss (24 * i + k) no_period)
+        → Next d m Answer.Accepted z.ready z.set x.today z.contracts (set fs i (read (get_or fs i blank) x.reading)) ns
+        (set ss (24 * i + k) (period (get_or ss (24 * i + k) no_period).start (get_or ss (24 * i + k) no_period).holder x.volume.0 x.normal.0)) z.quiet
+    daily_next {x} e =
+        let h : Stores z.ready z.day z.quiet m (get_or ns i 0) (get_or fs i blank) (get_or ss (24 * i + k) no_period) x.today x.reading x.volume x.normal =
         rw (← e) at (daily_stores z.day z.quiet (get_or ns i 0) (get_or fs i blank) (get_or ss (24 * i + k) no_period) z.ready m) in
-        let y : Said = Said.Ruled (reads h.span (read (get_or fs i blank) now)) in
+        let y : Said = Said.Ruled (reads h.span (read (get_or fs i blank) x.reading)) in
         let hy : y ≡ said_here m i k = sym (h.said z.set z.contracts) in
         let due : ℕ = due_day (get_or fs i blank).supply in
         let w = slot_next (record { said = hy; answer = sym (answer_is y hy) }) refl (sym h.deed) refl {due = due} refl refl in
         record {
           turned = rw (← hk, set-get_or ns i 0) at w.turned;
           sized = rw (← hk, set-get_or ns i 0) at w.sized;
-          calm = first_set fs i (read (get_or fs i blank) now) z.quiet calm (le_trans calm (first_at fs i (omega (arith, lt, sized.fields))));
+          calm = first_set fs i (read (get_or fs i blank) x.reading) z.quiet calm (le_trans calm (first_at fs i (omega (arith, lt, sized.fields))));
         }
+
+-- The same of a session.
+pub told_by : {s s' : Session} {m : Message} {a : Answer} {quiet : ℕ} →
+    Next (desk_of s) m a s'.ready s'.settings s'.day s'.contracts s'.tables.fields s'.tables.counts s'.tables.slots quiet →
+    s'.part ≡ s.part → Told s m a s' quiet
+told_by n p = record { answer = n.turned.answer; after = n.turned.after; part = p; calm = record { sized = n.sized; due = n.calm } }

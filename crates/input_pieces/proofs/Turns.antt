@@ -1,8 +1,8 @@
 -- A line of a piece answered, on plain values: what is written so far, then the run from here, is the whole run.
-use Rattle.basics.proofs.Basics.{◌≡◌, refl, sym, ◌∙◌, ap, Bool, List, [], ◌++◌, append_assoc, append-nil, ◌≤◌, ℕ, ◌-◌}
+use Rattle.basics.proofs.Basics.{◌≡◌, refl, sym, ◌∙◌, ap, List, [], ◌++◌, append_assoc, append-nil, ◌≤◌, ℕ, ◌-◌}
 use Rattle.basics.proofs.Basics.{◌+◌, ◌<◌, suc, ◌*◌, ◌/◌, zero-add, arith, length, drop, take, length-drop}
 use Rattle.basics.proofs.Basics.{take-append-drop, length-take-le, drop-drop}
-use Rattle.rules.specs.declared.{Answer.Answer, Fields.Fields, Period.Period, Settings.Settings}
+use Rattle.rules.specs.declared.{Answer.Answer}
 use Rattle.line_text.specs.Between.Appending.{put, Appended}
 use Rattle.line_text.proofs.Appends.{room_put, put_drop, appended_take, appended_length}
 use Rattle.line_messages.specs.declared.{Message.Message, LineMessage.LineMessage}
@@ -22,11 +22,10 @@ use Rattle.input_lines.proofs.Feeds.{feeds_behind, fitting_feeds}
 use Rattle.input_lines.proofs.KeptBytes.{kept_le}
 use Rattle.input_lines.proofs.Runs.{run_found, run_none}
 use Rattle.input_desk.specs.declared.{Desk.Desk}
-use Rattle.input_desk.specs.Pinned.Desk.{desk, answer_of, desk_after}
+use Rattle.input_desk.specs.Pinned.Desk.{answer_of, desk_after}
 use Rattle.input_desk.proofs.Tabled.{every_answer_tabled, tabled_small}
-use Rattle.input_pieces.specs.declared.{Session.Session, pieces.Answered.Answered}
-use Rattle.input_pieces.specs.Pinned.Session.{register_in, desk_of, next_desk, say_line, run_of, WholeMessage, RunTo}
-use Rattle.input_pieces.specs.Between.Pieces.{answered}
+use Rattle.input_pieces.specs.declared.{Session.Session}
+use Rattle.input_pieces.specs.Pinned.Session.{desk_of, next_desk, say_line, run_of, WholeMessage, RunTo}
 
 -- What holds at the loop's head.
 pub record Going (piece out₀ : List ℕ) (d₀ : Desk) (part₀ out : List ℕ) (part : Begun) (d : Desk) (at written : ℕ) : Type 0 where
@@ -132,16 +131,6 @@ module _ {piece out₀ : List ℕ} {d₀ : Desk} {part₀ out : List ℕ} {part 
         bytes =
             rw (whole, length-take-le written out written_le, zero-add written, ← g.tail) (sym (take-append-drop written out));
       }
-
--- the same of what the loop returns
-pub ends : {piece out₀ : List ℕ} {d₀ : Desk} {part₀ out : List ℕ} {part : Begun} {at written : ℕ} {ready : Bool} {S : Settings} {day : ℕ}
-    {u : List Bool} {fs : List Fields} {ns : List ℕ} {ss : List Period} {line : List ℕ} {x : Answered} →
-    Going piece out₀ d₀ part₀ out part (desk ready (register_in S day u fs ns ss)) at written → length piece ≤ at + until_feed (drop at piece) →
-    line ≡ drop at piece → x ≡ answered ready S day u fs ns ss (capped (kept part ++ line)) written →
-    RunTo (run_of d₀ part₀ piece) out₀ out x.session x.written
-ends g none hl e =
-    going_end g none hl (ap (λ (x : Answered). x.session.part) e) (ap (λ (x : Answered). desk_of x.session) e)
-    (ap (λ (x : Answered). x.written) e)
 
 -- ---- a piece, as much of it as there is room for
 

@@ -9,21 +9,19 @@ ghost use Rattle.input_pieces.specs.Pinned.Session.{desk_of, FedBy};
 
 use input_desk::Desk;
 use input_lines::{Begun, fitting};
+use input_tables::{Tables, points_of};
 use line_answers::LONGEST_ANSWER;
-use pieces::register_of;
-use rules::{Fields, Period, Settings};
+use rules::{Register, Settings};
 
-// The register, with its points in tables (slot k of the point at place i is slots[24 * i + k]), whether it is open,
-// and the start of the line that is under way.
+// The register, with its points in tables, whether it is open, and the start of the line that is under way. A flag and
+// no Option: the tables stand in fixed memory before an opening too, and `Started` (input_whole) says what they hold.
 #[derive(Clone, Copy)]
 pub struct Session {
     pub ready: bool,
     pub settings: Settings,
     pub day: u32,
     pub contracts: [bool; 100],
-    pub fields: [Fields; 32],
-    pub counts: [usize; 32],
-    pub slots: [Period; 768],
+    pub tables: Tables,
     pub part: Begun,
 }
 
@@ -39,14 +37,14 @@ pub struct Fed {
 pub fn desk_of(s: Session) -> Desk
     ensures { result ≡ desk_of s }
 {
-    let set = s.settings;
-    let contracts = s.contracts;
-    let fields = s.fields;
-    let counts = s.counts;
-    let slots = s.slots;
     Desk {
         ready: s.ready,
-        register: register_of(set, s.day, contracts, fields, counts, slots),
+        register: Register {
+            settings: s.settings,
+            day: s.day,
+            contracts: s.contracts,
+            points: points_of(&s.tables),
+        },
     }
 }
 
@@ -55,29 +53,12 @@ pub fn desk_of(s: Session) -> Desk
 pub fn feed(s: Session, piece: &[u8], out: &mut [u8]) -> Fed
     ensures { FedBy s piece.now out.old out.new result }
 {
-    let set = s.settings;
-    let contracts = s.contracts;
-    let fields = s.fields;
-    let counts = s.counts;
-    let slots = s.slots;
-    let part = s.part;
+    let mut session = s;
     let taken = fitting(piece, out.len() / LONGEST_ANSWER);
-    let x = pieces::answer_lines(
-        s.ready,
-        set,
-        s.day,
-        contracts,
-        fields,
-        counts,
-        slots,
-        part,
-        &piece[..taken],
-        out,
-    );
-    let after = x.session;
+    let written = pieces::answer_lines(&mut session, &piece[..taken], out);
     Fed {
-        session: after,
-        taken: taken,
-        written: x.written,
+        session,
+        taken,
+        written,
     }
 }

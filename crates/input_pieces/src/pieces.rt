@@ -1,256 +1,182 @@
 // The lines of a piece, answered one by one. The points stay in their tables: a line costs what it looks at and what it
 // stores; the whole register is put together only for an opening and where something falls due.
-ghost use Rattle.std.specs.Prelude.{◌≡◌, ◌++◌, ◌*◌, ◌≤◌, min, length, take};
+ghost use Rattle.std.specs.Prelude.{◌≡◌, ◌*◌, ◌≤◌, length, map};
 ghost use Rattle.input_lines.specs.Lines.{feeds};
-ghost use Rattle.input_lines.specs.Between.Begun.{kept_bytes, capped, kept};
 ghost use Rattle.line_answers.specs.Answers.{longest_answer};
-ghost use Rattle.line_messages.specs.Pinned.Reading.{read_line};
-ghost use Rattle.line_messages.specs.Between.Values.{line_message};
-ghost use Rattle.input_pieces.specs.Pinned.Session.{register_in, WholeMessage};
-ghost use Rattle.input_pieces.specs.Between.Pieces.{answered, AnsweredBy};
+ghost use Rattle.input_point.specs.Between.Answers.{settled, failure_answer};
+ghost use Rattle.register.specs.Between.Calls.{failed_on};
+ghost use Rattle.input_desk.specs.Pinned.Desk.{desk_after};
+ghost use Rattle.input_pieces.specs.Pinned.Session.{desk_of as session_desk, run_from, RunTo, WholeMessage};
+ghost use Rattle.input_pieces.specs.Between.Pieces.{Calm, Told};
+ghost use Rattle.input_tables.specs.Between.Tables.{points_of, Apart, Sized};
 
-use crate::Session;
-use input_desk::{Desk, after};
-use input_lines::{Begun, KEPT, append};
+use crate::{Session, desk_of};
+use input_desk::after;
+use input_lines::Begun;
 use input_point::{
-    Daily, Deed, Said, answer_of, daily_of, deed_of, failed_tables, failure_answer, place_of,
+    Deed, Newest, Said, answer_of, daily_of, deed_of, failed_tables, failure_answer, place_of,
 };
-use input_quiet::{due_day, earlier, first_due};
-use input_tables::{booked_at, points_of, tables_of};
+use input_quiet::{due_day, first_due};
+use input_tables::{Tables, booked_at, tables_of};
 use line_answers::put_answer;
 use line_fields::first_known;
-use line_messages::{LineMessage, read_line};
+use line_messages::{LineMessage, Message, read_line};
 use line_next::next_line;
 use point_checks::is_accepted;
 use point_periods::newest_place;
-use rules::{Answer, Fields, Period, Register, Settings};
-
-// The session after the lines of a piece, and how many bytes were written.
-#[derive(Clone, Copy)]
-pub(crate) struct Answered {
-    pub session: Session,
-    pub written: usize,
-}
-
-// What a line says of which a part had come before.
-fn line_message(part: Begun, line: &[u8]) -> LineMessage
-    ensures { result ≡ line_message (read_line (capped (kept part ++ line.now))) }
-{
-    if part.len == 0 {
-        return read_line(line);
-    }
-    let whole = append(part, line);
-    let bytes = whole.bytes;
-    let n = whole.len;
-    read_first(bytes, n)
-}
-
-fn read_first(bytes: [u8; KEPT], n: usize) -> LineMessage
-    ensures { result ≡ line_message (read_line (take (min n kept_bytes) bytes)) }
-{
-    if n < KEPT {
-        return read_line(&bytes[..n]);
-    }
-    read_line(&bytes)
-}
+use rules::{Answer, Period, Settings};
 
 // The message of a line, which next_line has read; with the part of it that had come before, if there is one.
-fn whole_message(part: Begun, read: LineMessage, line: &[u8]) -> LineMessage
-    ensures { WholeMessage part line.now read result }
+fn whole_message(part: &Begun, read: LineMessage, line: &[u8]) -> LineMessage
+    ensures { WholeMessage part.now line.now read result }
 {
     if part.len == 0 {
         return read;
     }
-    line_message(part, line)
+    let whole = part.append(line);
+    read_line(whole.held())
 }
 
-// The register, put together.
-pub(crate) fn register_of(
-    set: Settings,
-    day: u32,
-    contracts: [bool; 100],
-    fields: [Fields; 32],
-    counts: [usize; 32],
-    slots: [Period; 768],
-) -> Register
-    ensures { result ≡ register_in set day contracts fields counts slots }
-{
-    Register {
-        settings: set,
-        day: day,
-        contracts: contracts,
-        points: points_of(fields, counts, slots),
+impl Session {
+    // The answer in what was said: that of a failure looks at every point.
+    fn settled(&self, said: Said) -> Answer
+        ensures { result ≡
+            settled (failure_answer self.now.settings self.now.day self.now.tables.fields
+            self.now.tables.counts self.now.tables.slots) said }
+    {
+        match said {
+            Said::Known(a) => a,
+            Said::Ruled(x) => x.answer,
+            Said::Fails { today, supplier } => {
+                failure_answer(self.settings, self.day, today, supplier, &self.tables)
+            }
+        }
+    }
+
+    // Goes on by the desk's answer to a message: the whole register is put together and taken apart again. A function of
+    // its own, as `fail_all` is: a call pays for the room of all its locals, and those of `answer` are paid for each line.
+    fn go_by_the_desk(&mut self, m: Message)
+        ensures after { session_desk self.new ≡ desk_after (session_desk self.old) m }
+        ensures sized { Sized self.new.tables.fields self.new.tables.counts self.new.tables.slots }
+        ensures part { self.new.part ≡ self.old.part }
+    {
+        let next = after(desk_of(*self), m);
+        let r = next.register;
+        self.ready = next.ready;
+        self.settings = r.settings;
+        self.day = r.day;
+        self.contracts = r.contracts;
+        self.tables = tables_of(&r.points);
+    }
+
+    // Answers a message, and stores what it changes where it is accepted: before the day quiet, on which something may
+    // fall due, that is one point's fields and one slot, a contract, or the day alone; at a failure it is that of every
+    // point.
+    fn answer(&mut self, m: Message, quiet: &mut u32) -> Answer
+        requires { Calm self.old quiet.old }
+        ensures { Told self.old m result self.new quiet.new }
+    {
+        let i = place_of(m);
+        let n = self.tables.counts[i];
+        let k = newest_place(n);
+        let f = self.tables.fields[i];
+        // No function of input_tables: it would ask for i < 32, and no public function asks anything (docs/HOUSE.md).
+        let newest = Newest {
+            count: n,
+            period: self.tables.slots[24 * i + k],
+        };
+        if let Some(x) = daily_of(self.ready, self.day, *quiet, m, f, &newest) {
+            self.day = x.today;
+            self.tables.fields[i].reading = x.reading;
+            self.tables.slots[24 * i + k] = Period {
+                volume: x.volume,
+                normal: x.normal,
+                ..newest.period
+            };
+            return Answer::Accepted;
+        }
+        let said = answer_of(
+            self.settings,
+            self.day,
+            self.contracts,
+            self.ready,
+            m,
+            f,
+            &newest,
+        );
+        let answer = self.settled(said);
+        if !is_accepted(answer) {
+            return answer;
+        }
+        match deed_of(*quiet, m, said, &newest) {
+            Deed::Slot(x) => {
+                self.day = x.today;
+                self.tables.fields[i] = x.fields;
+                self.tables.counts[i] = x.count;
+                self.tables.slots[24 * i + x.place] = x.period;
+                *quiet = (*quiet).min(due_day(x.fields.supply));
+            }
+            Deed::Back {
+                today,
+                span,
+                fields,
+            } => {
+                self.day = today;
+                self.tables.fields[i] = fields;
+                booked_at(span, i, n, &mut self.tables.slots);
+                *quiet = (*quiet).min(due_day(fields.supply));
+            }
+            Deed::Sign { today, supplier } => {
+                self.day = today;
+                self.contracts[supplier] = true;
+            }
+            Deed::Pass { today } => self.day = today,
+            Deed::Fail { today, supplier } => {
+                self.day = today;
+                self.contracts[supplier] = false;
+                fail_all(&mut self.tables, self.settings, today, supplier as u64);
+                *quiet = first_due(&self.tables.fields);
+            }
+            Deed::Whole => {
+                self.go_by_the_desk(m);
+                *quiet = first_due(&self.tables.fields);
+            }
+        }
+        answer
     }
 }
 
-// The session at the end of a piece: what stands behind its last line feed is kept.
-fn at_end(
-    ready: bool,
-    set: Settings,
-    day: u32,
-    contracts: [bool; 100],
-    fields: [Fields; 32],
-    counts: [usize; 32],
-    slots: [Period; 768],
-    part: Begun,
-    rest: &[u8],
-    written: usize,
-) -> Answered
-    ensures { result ≡
-        answered ready set day contracts fields counts slots (capped (kept part ++ rest.now)) written }
+// The tables after a failure of s.
+fn fail_all(tables: &mut Tables, set: Settings, t: u32, s: u64)
+    ensures { Apart (map (failed_on set t s)
+        (points_of tables.old.fields tables.old.counts tables.old.slots)) tables.new }
 {
-    let session = Session {
-        ready: ready,
-        settings: set,
-        day: day,
-        contracts: contracts,
-        fields: fields,
-        counts: counts,
-        slots: slots,
-        part: append(part, rest),
-    };
-    Answered {
-        session: session,
-        written: written,
-    }
+    *tables = failed_tables(set, t, s, *tables);
 }
 
-// Answers the lines that end in a piece. What an accepted line stores where nothing falls due by its day is one point's
-// fields and one slot, a contract, or the day alone; at a failure it is that of every point.
-pub(crate) fn answer_lines(
-    opened: bool,
-    settings: Settings,
-    since: u32,
-    signed: [bool; 100],
-    points: [Fields; 32],
-    marks: [usize; 32],
-    periods: [Period; 768],
-    begun: Begun,
-    piece: &[u8],
-    out: &mut [u8],
-) -> Answered
-    requires { longest_answer * feeds piece.now ≤ length out.old }
-    ensures { AnsweredBy opened settings since signed points marks periods begun piece.now out.old
-        out.new result }
+// Answers the lines that end in a piece, keeps what stands behind the last, and says how many bytes were written.
+pub(crate) fn answer_lines(session: &mut Session, piece: &[u8], out: &mut [u8]) -> usize
+    requires room { longest_answer * feeds piece.now ≤ length out.old }
+    requires sized { Sized session.old.tables.fields session.old.tables.counts session.old.tables.slots }
+    ensures { RunTo (run_from session.old piece.now) out.old out.new session.new result }
 {
-    let mut part = begun;
-    let mut ready = opened;
-    let mut set = settings;
-    let mut day = since;
-    let mut contracts = signed;
-    let mut fields = points;
-    let mut counts = marks;
-    let mut slots = periods;
-    let mut quiet = first_due(points);
+    let mut quiet = first_due(&session.tables.fields);
     let mut known = first_known();
     let mut at: usize = 0;
     let mut written: usize = 0;
+    // A while, for no index is counted: each line begins where the one before it has ended.
     while at < piece.len() {
         let line = next_line(piece, at, known);
-        let end = line.end;
-        if piece.len() <= end {
+        if piece.len() <= line.end {
             break;
         }
-        let read = line.read;
-        let whole = whole_message(part, read, &piece[at..end]);
-        let kind = whole.kind;
-        let m = whole.message;
+        let whole = whole_message(&session.part, line.read, &piece[at..line.end]);
         known = line.known;
-        part.len = 0;
-        at = end + 1;
-        let i = place_of(m);
-        let n = counts[i];
-        let k = newest_place(n);
-        let f = fields[i];
-        let q = slots[24 * i + k];
-        let daily = daily_of(ready, day, quiet, m, n, f, q);
-        if let Daily::Read(t, now, v, w) = daily {
-            let mut g = f;
-            g.reading = now;
-            fields[i] = g;
-            slots[24 * i + k] = Period {
-                start: q.start,
-                holder: q.holder,
-                volume: v,
-                normal: w,
-            };
-            day = t;
-            written = put_answer(out, written, kind, Answer::Accepted);
-            continue;
-        }
-        let said = answer_of(set, day, contracts, ready, m, f, n, q.start);
-        let answer = match said {
-            Said::Known(a) => a,
-            Said::Ruled(x) => x.answer,
-            Said::Fails(t, s) => failure_answer(set, day, t, s, fields, counts, slots),
-        };
-        if is_accepted(answer) {
-            let deed = deed_of(quiet, m, said, n, q);
-            match deed {
-                Deed::Slot(x) => {
-                    let g = x.fields;
-                    let p = x.period;
-                    let place = x.place;
-                    fields[i] = g;
-                    counts[i] = x.count;
-                    slots[24 * i + place] = p;
-                    day = x.today;
-                    quiet = earlier(quiet, due_day(g.supply));
-                }
-                Deed::Back(t, s, g) => {
-                    fields[i] = g;
-                    slots = booked_at(s, i, n, slots);
-                    day = t;
-                    quiet = earlier(quiet, due_day(g.supply));
-                }
-                Deed::Sign(t, s) => {
-                    contracts[s] = true;
-                    day = t;
-                }
-                Deed::Pass(t) => {
-                    day = t;
-                }
-                Deed::Fail(t, s) => {
-                    let tables = failed_tables(set, t, s as u64, fields, counts, slots);
-                    contracts[s] = false;
-                    day = t;
-                    fields = tables.fields;
-                    counts = tables.counts;
-                    slots = tables.slots;
-                    quiet = first_due(fields);
-                }
-                Deed::Whole => {
-                    let now = Desk {
-                        ready: ready,
-                        register: register_of(set, day, contracts, fields, counts, slots),
-                    };
-                    let next = after(now, m);
-                    let r = next.register;
-                    let ps = r.points;
-                    let tables = tables_of(ps);
-                    ready = next.ready;
-                    set = r.settings;
-                    day = r.day;
-                    contracts = r.contracts;
-                    fields = tables.fields;
-                    counts = tables.counts;
-                    slots = tables.slots;
-                    quiet = first_due(fields);
-                }
-            }
-        }
-        written = put_answer(out, written, kind, answer);
+        at = line.end + 1;
+        session.part.len = 0;
+        let answer = session.answer(whole.message, &mut quiet);
+        written = put_answer(out, written, whole.kind, answer);
     }
-    at_end(
-        ready,
-        set,
-        day,
-        contracts,
-        fields,
-        counts,
-        slots,
-        part,
-        &piece[at..],
-        written,
-    )
+    session.part = session.part.append(&piece[at..]);
+    written
 }

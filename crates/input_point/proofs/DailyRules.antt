@@ -1,6 +1,7 @@
 -- A daily reading: what it is answered and what it stores.
 use Rattle.basics.proofs.Basics.{◌≡◌, refl, ◌∙◌, ap, true, false, Bool, cond, ◌&&◌, List, [], ℕ, ◌-◌, ◌<◌, min, eqb}
 use Rattle.basics.proofs.Basics.{ltb, lt-ltb, eq-eqb, eqb-true, ltb-true}
+use Rattle.std.specs.Prelude.{Option, Some, None}
 use Rattle.rules.specs.declared.{Action.Action, Answer.Answer, Effect.Effect, Fields.Fields, Period.Period, PointAction.PointAction}
 use Rattle.rules.specs.declared.{NormalVolume.NormalVolume, Reading.Reading, Settings.Settings, Span.Span, View.View, Volume.Volume, Call.Call}
 use Rattle.rules.specs.Answers.{is_accepted}
@@ -19,8 +20,8 @@ use Rattle.line_messages.specs.declared.{Message.Message}
 use Rattle.input_quiet.specs.Between.Quiet.{view_on}
 use Rattle.input_point.specs.Between.Answers.{call_said, said_by}
 use Rattle.input_point.specs.Between.Deeds.{lies_in, slot, reading_deed, effect_deed, ruled_deed, call_deed, deed_of}
-use Rattle.input_point.specs.Between.Daily.{reading_said, daily_read, daily_at, daily_of}
-use Rattle.input_point.specs.declared.{answers.Said.Said, daily.Daily.Daily}
+use Rattle.input_point.specs.Between.Daily.{stored, reading_said, daily_read, daily_at, daily_of}
+use Rattle.input_point.specs.declared.{answers.Said.Said, daily.DailyReading.DailyReading}
 
 -- The fields after it, and the ruling.
 abbrev pub read : Fields → Reading → Fields
@@ -36,9 +37,9 @@ pub record Stores (ready : Bool) (day quiet : ℕ) (m : Message) (n : ℕ) (f : 
   pub said : (S : Settings) (u : List Bool) → said_by S day u ready m f n q.start ≡ Said.Ruled (reads span (read f now))
   pub deed : deed_of quiet m (Said.Ruled (reads span (read f now))) n q ≡ slot t (read f now) n (min n 24 - 1) (period q.start q.holder v.0 w.0)
 
-abbrev pub DailyOf : Bool → ℕ → ℕ → Message → ℕ → Fields → Period → Daily → Type 0
-DailyOf ready day quiet m n f q (Daily.Read t now v w) = Stores ready day quiet m n f q t now v w
-DailyOf ready day quiet m n f q Daily.Other = Unit {0}
+abbrev pub DailyOf : Bool → ℕ → ℕ → Message → ℕ → Fields → Period → Option DailyReading → Type 0
+DailyOf ready day quiet m n f q (Some r) = Stores ready day quiet m n f q r.today r.reading r.volume r.normal
+DailyOf ready day quiet m n f q None = Unit {0}
 
 booked_shape : (s : Span) (q : Period) → booked_newest s q
     ≡ period q.start q.holder (booked_newest s q).volume.0 (booked_newest s q).normal.0
@@ -63,7 +64,7 @@ module _ (day p d x z : ℕ) (f : Fields) (ok : is_accepted (reading_said day p 
 -- Only a reading is one.
 pub data Which (a : PointAction) : Type 0 where
   is_reading : (d x z : ℕ) → a ≡ PointAction.Reading d x z → Which a
-  is_other : ((day p n : ℕ) (f : Fields) (q : Period) → Daily.Other ≡ daily_at day p a n f q) → Which a
+  is_other : ((day p n : ℕ) (f : Fields) (q : Period) → None ≡ daily_at day p a n f q) → Which a
 
 pub which : (a : PointAction) → Which a
 unfolding daily_at
@@ -79,7 +80,7 @@ which (PointAction.Suspend m) = is_other (λ day p n f q. refl)
 
 module _ (day quiet : ℕ) (n : ℕ) (f : Fields) (q : Period) where
   module _ (c : Call) (today : c.today ≡ day) (lt : day < quiet) where
-    abbrev Stored : Daily → Type 0
+    abbrev Stored : Option DailyReading → Type 0
     Stored r = DailyOf true day quiet (Message.Ask c) n f q r
 
     read_stores : (p d x z : ℕ) → c.action ≡ Action.At p (PointAction.Reading d x z) → Stored (daily_read day p d x z n f q)
@@ -88,7 +89,7 @@ module _ (day quiet : ℕ) (n : ℕ) (f : Fields) (q : Period) where
       where
         go : (a : Bool) → is_accepted (reading_said day p d x z f) ≡ a → (b : Bool) → lies_in n q.start f.reading.day ≡ b →
             let s = booked_newest (span_to f d x z) q in
-            Stored (cond (a && b) (Daily.Read day (reading d x) s.volume s.normal) Daily.Other)
+            Stored (cond (a && b) (Some (stored day (reading d x) s.volume s.normal)) None)
         go true ok true lies = record {
           span = span_to f d x z;
           said = λ S u. rw (h, today, eq-eqb day day refl) (ap Said.Ruled (daily_ruling day p d x z f ok S u _ refl));
@@ -98,7 +99,7 @@ module _ (day quiet : ℕ) (n : ℕ) (f : Fields) (q : Period) where
         go true ok false lies = tt
         go false ok b lies = tt
 
-    in_stores : (a : Action) → c.action ≡ a → Stored (at_point Daily.Other (λ p b. daily_at day p b n f q) a)
+    in_stores : (a : Action) → c.action ≡ a → Stored (at_point None (λ p b. daily_at day p b n f q) a)
     unfolding daily_at
     in_stores (Action.At p a) h = elim (which a) [
       | is_reading d x z e ↦ rw e (read_stores p d x z (h ∙ ap (Action.At p) e))
@@ -115,7 +116,7 @@ module _ (day quiet : ℕ) (n : ℕ) (f : Fields) (q : Period) where
   daily_stores ready (Message.Ask c) = go ready (eqb c.today day) refl (ltb day quiet) refl
     where
       go : (b e : Bool) → eqb c.today day ≡ e → (l : Bool) → ltb day quiet ≡ l →
-          DailyOf b day quiet (Message.Ask c) n f q (cond (b && (e && l)) (at_point Daily.Other (λ p a. daily_at day p a n f q) c.action) Daily.Other)
+          DailyOf b day quiet (Message.Ask c) n f q (cond (b && (e && l)) (at_point None (λ p a. daily_at day p a n f q) c.action) None)
       go true true k true l = in_stores c (eqb-true c.today day k) (ltb-true day quiet l) c.action refl
       go true true k false l = tt
       go true false k b l = tt

@@ -1,4 +1,5 @@
 -- The answer told from the tables is the desk's.
+use Rattle.rules.specs.declared.{Rejection.Rejection}
 use Rattle.basics.proofs.Basics.{◌≡◌, refl, sym, ◌∙◌, ap, true, false, Bool, cond, ◌&&◌, List, [], ◌∷◌}
 use Rattle.basics.proofs.Basics.{map, ◌≤◌, ℕ, ◌-◌, ◌+◌, ◌<◌, suc, zero, ◌*◌, min, dec_le, arith, eqb, length, get_or}
 use Rattle.basics.proofs.Basics.{lt-ltb}
@@ -34,16 +35,16 @@ map_at f (g ∷ ps) zero h = refl
 map_at f (g ∷ ps) (suc i) h = map_at f ps i (omega arith)
 
 -- Number 30, after the rows before it.
-failure_by : (fails : ℕ → ℕ → Answer) (t s : ℕ) (a : Answer) (x : Bool) → cond x (Answer.Refused 30) Answer.Accepted ≡ fails t s →
-    (is_accepted a ≡ true → a ≡ Answer.Accepted) → after a (x ⇒ 30) ≡ settled fails (cond (is_accepted a) (Said.Fails t s) (Said.Known a))
+failure_by : (fails : ℕ → ℕ → Answer) (t s : ℕ) (a : Answer) (x : Bool) → cond x (Answer.Refused Rejection.PeriodsFull) Answer.Accepted ≡ fails t s →
+    (is_accepted a ≡ true → a ≡ Answer.Accepted) → after a (x ⇒ Rejection.PeriodsFull) ≡ settled fails (cond (is_accepted a) (Said.Fails t s) (Said.Known a))
 unfolding after
 failure_by fails t s a x h z = go (is_accepted a) refl
   where
-    last : (y : Bool) → a ≡ Answer.Accepted → cond y (Answer.Refused 30) a ≡ cond y (Answer.Refused 30) Answer.Accepted
+    last : (y : Bool) → a ≡ Answer.Accepted → cond y (Answer.Refused Rejection.PeriodsFull) a ≡ cond y (Answer.Refused Rejection.PeriodsFull) Answer.Accepted
     last true e = refl
     last false e = e
 
-    go : (b : Bool) → is_accepted a ≡ b → cond (b && x) (Answer.Refused 30) a ≡ settled fails (cond b (Said.Fails t s) (Said.Known a))
+    go : (b : Bool) → is_accepted a ≡ b → cond (b && x) (Answer.Refused Rejection.PeriodsFull) a ≡ settled fails (cond b (Said.Fails t s) (Said.Known a))
     go true e = last x (z e) ∙ h
     go false e = refl
 

@@ -6,7 +6,7 @@ use Rattle.rules.specs.declared.{Effect.Effect, Fields.Fields, Period.Period, Po
 use Rattle.rules.specs.declared.{Register.Register, Settings.Settings, View.View, Action.Action, PointAction.PointAction}
 use Rattle.rules.specs.Answers.{is_accepted}
 use Rattle.rules.specs.Effects.{effect_of}
-use Rattle.rules.specs.Pinned.Register.{period, history, no_period}
+use Rattle.rules.specs.Pinned.Register.{history, no_period}
 use Rattle.rules.specs.Pinned.Register.{no_point, register, view, advanced, says, done, acted, applied, on}
 use Rattle.rules.specs.Fields.{blank}
 use Rattle.point_volumes.specs.Between.{booked_if_fair}

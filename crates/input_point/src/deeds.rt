@@ -1,11 +1,13 @@
-// What an accepted message stores, where nothing falls due by its day.
-ghost use Rattle.std.specs.Prelude.{◌≡◌, ◌&&◌, min, eqb, ltb};
+// What an accepted message stores, where nothing falls due by its day. Each cast stands below the test that bounds its
+// number: `try_from` would want an arm that no number reaches.
+ghost use Rattle.std.specs.Prelude.{◌≡◌};
 ghost use Rattle.input_point.specs.declared.{deeds.Deed.Deed};
 ghost use Rattle.input_point.specs.Between.Deeds.{kept_deed, naming_deed, reading_deed, effect_deed, ruled_deed};
 ghost use Rattle.input_point.specs.Between.Deeds.{call_deed};
-ghost use Rattle.input_point.specs.Between.Deeds.{deed_of, lies_in};
+ghost use Rattle.input_point.specs.Between.Deeds.{deed_of};
 
 use crate::answers::Said;
+use crate::newest::Newest;
 use line_messages::Message;
 use point_periods::newest_place;
 use point_volumes::book_newest;
@@ -25,60 +27,49 @@ pub struct Entry {
 pub enum Deed {
     Slot(Entry),
     // A reading whose days reach back behind the newest period.
-    Back(u32, Span, Fields),
+    Back {
+        today: u32,
+        span: Span,
+        fields: Fields,
+    },
     // A supplier comes under contract.
-    Sign(u32, usize),
+    Sign {
+        today: u32,
+        supplier: usize,
+    },
     // The day alone.
-    Pass(u32),
+    Pass {
+        today: u32,
+    },
     // A supplier fails: it loses its contract, and every point may have a slot to store.
-    Fail(u32, usize),
+    Fail {
+        today: u32,
+        supplier: usize,
+    },
     // All else: an opening, and a day by which something falls due.
     Whole,
 }
 
-// The newest of n periods starts on a day.
-fn starts_on(n: usize, start: u32, day: u32) -> bool
-    ensures { result ≡ (ltb 0 (min n 24) && eqb start day) }
-{
-    if n == 0 {
-        return false;
-    }
-    start == day
-}
-
-// The days from a day on all lie in the newest of n periods.
-pub(crate) fn lies_in(n: usize, start: u32, from: u32) -> bool
-    ensures { result ≡ lies_in n start from }
-{
-    if n == 0 {
-        return false;
-    }
-    start <= from
-}
-
 // No slot changes.
-pub(crate) fn kept_entry(t: u32, g: Fields, n: usize, q: Period) -> Entry
-    ensures { Deed.Slot result ≡ kept_deed t g n q }
+pub(crate) fn kept_entry(t: u32, g: Fields, newest: &Newest) -> Entry
+    ensures { Deed.Slot result ≡ kept_deed t g newest.now.count newest.now.period }
 {
     Entry {
         today: t,
         fields: g,
-        count: n,
-        place: newest_place(n),
-        period: q,
+        count: newest.count,
+        place: newest_place(newest.count),
+        period: newest.period,
     }
 }
 
 // The fields' holder is named: in the newest period where that starts today, else in a new one.
-pub(crate) fn naming_entry(t: u32, g: Fields, n: usize, q: Period) -> Entry
-    ensures { Deed.Slot result ≡ naming_deed t g n q }
+pub(crate) fn naming_entry(t: u32, g: Fields, newest: &Newest) -> Entry
+    ensures { Deed.Slot result ≡ naming_deed t g newest.now.count newest.now.period }
 {
-    let s = g.supply;
-    let holder = s.holder;
-    let start = q.start;
-    let volume = q.volume;
-    let normal = q.normal;
-    if starts_on(n, start, t) {
+    let holder = g.supply.holder;
+    let n = newest.count;
+    if newest.starts_on(t) {
         return Entry {
             today: t,
             fields: g,
@@ -86,9 +77,8 @@ pub(crate) fn naming_entry(t: u32, g: Fields, n: usize, q: Period) -> Entry
             place: newest_place(n),
             period: Period {
                 start: t,
-                holder: holder,
-                volume: volume,
-                normal: normal,
+                holder,
+                ..newest.period
             },
         };
     }
@@ -100,89 +90,92 @@ pub(crate) fn naming_entry(t: u32, g: Fields, n: usize, q: Period) -> Entry
             place: n,
             period: Period {
                 start: t,
-                holder: holder,
+                holder,
                 volume: Volume(0),
                 normal: NormalVolume(0),
             },
         };
     }
-    kept_entry(t, g, n, q)
+    kept_entry(t, g, newest)
 }
 
-fn reading_deed(t: u32, s: Span, g: Fields, n: usize, q: Period) -> Deed
-    ensures { result ≡ reading_deed t s g n q }
+fn reading_deed(t: u32, s: Span, g: Fields, newest: &Newest) -> Deed
+    ensures { result ≡ reading_deed t s g newest.now.count newest.now.period }
 {
-    let start = q.start;
-    if lies_in(n, start, s.from) {
-        return Deed::Slot(Entry {
-            today: t,
-            fields: g,
-            count: n,
-            place: newest_place(n),
-            period: book_newest(s, q),
-        });
+    if newest.lies_in(s.from) {
+        let booked = Newest {
+            count: newest.count,
+            period: book_newest(s, newest.period),
+        };
+        return Deed::Slot(kept_entry(t, g, &booked));
     }
-    Deed::Back(t, s, g)
+    Deed::Back {
+        today: t,
+        span: s,
+        fields: g,
+    }
 }
 
-// An effect on a point with n periods, the newest of which is q.
-fn effect_deed(t: u32, e: Effect, n: usize, q: Period) -> Deed
-    ensures { result ≡ effect_deed t e n q }
+// An effect on a point with these periods.
+fn effect_deed(t: u32, e: Effect, newest: &Newest) -> Deed
+    ensures { result ≡ effect_deed t e newest.now.count newest.now.period }
 {
     match e {
-        Effect::Keep(g) => Deed::Slot(kept_entry(t, g, n, q)),
-        Effect::Name(g) => Deed::Slot(naming_entry(t, g, n, q)),
-        Effect::Enrol(g) => Deed::Slot(naming_entry(t, g, n, q)),
-        Effect::Read(s, g) => reading_deed(t, s, g, n, q),
-        Effect::Request(_, g) => Deed::Slot(kept_entry(t, g, n, q)),
+        Effect::Keep(g) => Deed::Slot(kept_entry(t, g, newest)),
+        Effect::Name(g) => Deed::Slot(naming_entry(t, g, newest)),
+        Effect::Enrol(g) => Deed::Slot(naming_entry(t, g, newest)),
+        Effect::Read(s, g) => reading_deed(t, s, g, newest),
+        Effect::Request(_, g) => Deed::Slot(kept_entry(t, g, newest)),
     }
 }
 
-fn ruled_deed(t: u32, said: Said, n: usize, q: Period) -> Deed
-    ensures { result ≡ ruled_deed t said n q }
+fn ruled_deed(t: u32, said: Said, newest: &Newest) -> Deed
+    ensures { result ≡ ruled_deed t said newest.now.count newest.now.period }
 {
     match said {
+        Said::Ruled(x) => effect_deed(t, x.effect, newest),
         Said::Known(_) => Deed::Whole,
-        Said::Ruled(x) => {
-            let e = x.effect;
-            effect_deed(t, e, n, q)
-        }
-        Said::Fails(_, _) => Deed::Whole,
+        Said::Fails { .. } => Deed::Whole,
     }
 }
 
-fn call_deed(t: u32, a: Action, said: Said, n: usize, q: Period) -> Deed
-    ensures { result ≡ call_deed t a said n q }
+fn call_deed(t: u32, a: Action, said: Said, newest: &Newest) -> Deed
+    ensures { result ≡ call_deed t a said newest.now.count newest.now.period }
 {
     match a {
         Action::Contract { supplier } => {
             if supplier < 100 {
-                return Deed::Sign(t, supplier as usize);
+                return Deed::Sign {
+                    today: t,
+                    supplier: supplier as usize,
+                };
             }
             Deed::Whole
         }
         Action::Failure { supplier } => {
             if supplier < 100 {
-                return Deed::Fail(t, supplier as usize);
+                return Deed::Fail {
+                    today: t,
+                    supplier: supplier as usize,
+                };
             }
             Deed::Whole
         }
-        Action::At { point: _, act: _ } => ruled_deed(t, said, n, q),
-        Action::Day => Deed::Pass(t),
+        Action::At { point: _, act: _ } => ruled_deed(t, said, newest),
+        Action::Day => Deed::Pass { today: t },
     }
 }
 
-// What an accepted message stores, where nothing falls due before the day quiet, and the point that it names has n
-// periods, the newest of which is q.
-pub fn deed_of(quiet: u32, m: Message, said: Said, n: usize, q: Period) -> Deed
-    ensures { result ≡ deed_of quiet m said n q }
+// What an accepted message stores, where nothing falls due before the day quiet, and the point that it names has these
+// periods.
+pub fn deed_of(quiet: u32, m: Message, said: Said, newest: &Newest) -> Deed
+    ensures { result ≡ deed_of quiet m said newest.now.count newest.now.period }
 {
     match m {
         Message::Open(_) => Deed::Whole,
         Message::Ask(c) => {
-            if c.today < quiet as u64 {
-                let a = c.action;
-                return call_deed(c.today as u32, a, said, n, q);
+            if c.today < u64::from(quiet) {
+                return call_deed(c.today as u32, c.action, said, newest);
             }
             Deed::Whole
         }

@@ -7,57 +7,37 @@ ghost use Rattle.input_point.specs.declared.{deeds.Deed.Deed};
 ghost use Rattle.input_point.specs.Between.Deeds.{effect_deed};
 
 use crate::deeds::{Entry, kept_entry, naming_entry};
+use crate::newest::Newest;
 use input_tables::Tables;
 use point_effects::fail;
-use point_periods::newest_place;
-use rules::{Effect, Fields, Period, Settings};
+use rules::{Effect, Fields, Settings};
 
-// What a failure of s stores at a point with n periods, the newest of which is q: the last-resort supplier is named, or
-// no slot changes.
-fn failed_entry(set: Settings, t: u32, s: u64, f: Fields, n: usize, q: Period) -> Entry
-    ensures { Deed.Slot result ≡ effect_deed t (failed_by set t s f) n q }
+// What a failure of s stores at a point with these periods: the last-resort supplier is named, or no slot changes. It
+// has the arms of `effect_deed` but for a reading: with a second caller that function is no longer laid into the loop
+// over lines, and mixed lines take 7 % more instructions (docs/HOUSE.md).
+fn failed_entry(set: Settings, t: u32, s: u64, f: Fields, newest: &Newest) -> Entry
+    ensures { Deed.Slot result ≡ effect_deed t (failed_by set t s f) newest.now.count newest.now.period }
 {
-    let e = fail(set, t, s, f);
-    match e {
-        Effect::Keep(g) => kept_entry(t, g, n, q),
-        Effect::Name(g) => naming_entry(t, g, n, q),
-        Effect::Enrol(g) => naming_entry(t, g, n, q),
-        Effect::Read(_, g) => kept_entry(t, g, n, q),
-        Effect::Request(_, g) => kept_entry(t, g, n, q),
+    match fail(set, t, s, f) {
+        Effect::Keep(g) => kept_entry(t, g, newest),
+        Effect::Name(g) => naming_entry(t, g, newest),
+        Effect::Enrol(g) => naming_entry(t, g, newest),
+        Effect::Read(_, g) => kept_entry(t, g, newest),
+        Effect::Request(_, g) => kept_entry(t, g, newest),
     }
 }
 
 // The tables after a failure of s.
-pub fn failed_tables(
-    set: Settings,
-    t: u32,
-    s: u64,
-    points: [Fields; 32],
-    marks: [usize; 32],
-    periods: [Period; 768],
-) -> Tables
-    ensures { Apart (map (failed_on set t s) (points_of points marks periods)) result }
+pub fn failed_tables(set: Settings, t: u32, s: u64, mut tables: Tables) -> Tables
+    ensures { Apart (map (failed_on set t s) (points_of tables.fields tables.counts tables.slots))
+        result }
 {
-    let mut fields = points;
-    let mut counts = marks;
-    let mut slots = periods;
-    let mut i: usize = 0;
-    while i < 32 {
-        let f = fields[i];
-        let n = counts[i];
-        let q = slots[24 * i + newest_place(n)];
-        let x = failed_entry(set, t, s, f, n, q);
-        let g = x.fields;
-        let p = x.period;
-        let place = x.place;
-        fields[i] = g;
-        counts[i] = x.count;
-        slots[24 * i + place] = p;
-        i += 1;
+    for i in 0..32 {
+        let newest = Newest::of(&tables, i);
+        let x = failed_entry(set, t, s, tables.fields[i], &newest);
+        tables.fields[i] = x.fields;
+        tables.counts[i] = x.count;
+        tables.slots[24 * i + x.place] = x.period;
     }
-    Tables {
-        fields: fields,
-        counts: counts,
-        slots: slots,
-    }
+    tables
 }

@@ -1,7 +1,7 @@
 -- Before anything falls due, bringing points up to a day changes nothing.
-use Rattle.basics.proofs.Basics.{◌≡◌, refl, sym, ◌∙◌, ap, ap₂, true, false, Bool, cond, List, [], ◌∷◌, map, ◌≤◌, ℕ, ◌-◌}
-use Rattle.basics.proofs.Basics.{◌<◌, suc, zero, min, not-suc-le-zero, arith, eqb, length, drop, take, get_or, set}
-use Rattle.basics.proofs.Basics.{drop-length, lt-leb, eqb-true}
+use Rattle.basics.proofs.Basics.{◌≡◌, refl, ◌∙◌, ap, ap₂, true, false, Bool, cond, List, [], ◌∷◌, map, ◌≤◌, ℕ}
+use Rattle.basics.proofs.Basics.{◌+◌, ◌<◌, suc, zero, min, not-suc-le-zero, arith, eqb, length, drop, take, get_or, set}
+use Rattle.basics.proofs.Basics.{drop_of_length-le, lt-leb, eqb-true, add-one}
 use Rattle.rules.specs.declared.{Fields.Fields, Point.Point, Settings.Settings, SupplyKind.SupplyKind}
 use Rattle.rules.specs.declared.{Due.Due, Pending.Pending, Period.Period}
 use Rattle.rules.specs.Fields.{blank}
@@ -68,7 +68,7 @@ first_set [] i f n h k = h
 first_set (g ∷ fs) zero f n h k = omega arith
 first_set (g ∷ fs) (suc i) f n h k = omega (arith, first_set fs i f n (omega arith) k)
 
--- the walk over the places, from the last to the first
+-- the walk over the places
 first_drop : (fs : List Fields) (i : ℕ) → i < length fs →
     first_due (drop i fs) ≡ min (due_day (get_or fs i blank).supply) (first_due (drop (suc i) fs))
 unfolding first_due
@@ -76,14 +76,19 @@ first_drop [] i h = absurd (not-suc-le-zero h)
 first_drop (f ∷ fs) zero h = refl
 first_drop (f ∷ fs) (suc i) h = first_drop fs i (omega arith)
 
-pub first_step : (fs : List Fields) (i due first next : ℕ) → 0 < i → i ≤ length fs → first ≡ first_due (drop i fs) →
-    due ≡ due_day (get_or fs (i - 1) blank).supply → next ≡ min due first → next ≡ first_due (drop (i - 1) fs)
-first_step fs i due first next lo hi hf hd hn = let e : suc (i - 1) ≡ i = omega arith in
-    hn ∙ rw (hd, hf) (sym (rw e at (first_drop fs (i - 1) (omega arith))))
+-- What holds before place i: the days looked at, and those still to come.
+pub record Walk (fs : List Fields) (i first : ℕ) : Type 0 where
+  pub rest : min first (first_due (drop i fs)) ≡ first_due fs
+  pub most : first ≤ never
 
-pub first_end : (fs : List Fields) (n : ℕ) → length fs ≡ n → 73049 ≡ first_due (drop n fs)
+pub walk_start : (fs : List Fields) → Walk fs 0 never
+walk_start fs = record { rest = omega (arith, first_never fs); most = omega arith }
+
+pub walk_next : (fs : List Fields) (i first due next : ℕ) → i < length fs → Walk fs i first →
+    due ≡ due_day (get_or fs i blank).supply → next ≡ min first due → Walk fs (i + 1) next
+walk_next fs i first due next h w hd hn = let e : i + 1 ≡ suc i = add-one i in
+    record { rest = rw e (omega (arith, w.rest, first_drop fs i h)); most = omega (arith, w.most) }
+
+pub walk_end : (fs : List Fields) (i first : ℕ) → length fs ≤ i → Walk fs i first → first ≡ first_due fs
 unfolding first_due
-first_end fs n e = rw (← e) (ap first_due (sym (drop-length fs)))
-
-pub first_start : (fs : List Fields) (i first : ℕ) → i ≡ 0 → first ≡ first_due (drop i fs) → first ≡ first_due fs
-first_start fs i first e h = rw e at h
+walk_end fs i first h w = let e : min first (first_due []) ≡ first_due fs = rw (drop_of_length-le fs h) at w.rest in omega (arith, e, w.most)

@@ -3,7 +3,7 @@
 
 mod seen;
 
-ghost use Rattle.std.specs.Prelude.{◌≡◌, min};
+ghost use Rattle.std.specs.Prelude.{◌≡◌};
 ghost use Rattle.input_quiet.specs.Between.Quiet.{due_day, first_due, kind_ends, request_falls};
 
 use rules::{Fields, Pending, Supply, SupplyKind};
@@ -11,15 +11,6 @@ pub use seen::view_on;
 
 // The first day past the calendar: nothing falls due on it.
 const NEVER: u32 = 73049;
-
-pub fn earlier(a: u32, b: u32) -> u32
-    ensures { result ≡ min a b }
-{
-    if a < b {
-        return a;
-    }
-    b
-}
 
 fn kind_ends(k: SupplyKind) -> u32
     ensures { result ≡ kind_ends k }
@@ -45,22 +36,16 @@ fn request_falls(q: Pending) -> u32
 pub fn due_day(s: Supply) -> u32
     ensures { result ≡ due_day s }
 {
-    let k = s.kind;
-    let q = s.pending;
-    earlier(kind_ends(k), request_falls(q))
+    kind_ends(s.kind).min(request_falls(s.pending))
 }
 
 // The first day on which something falls due at one of the points.
-pub fn first_due(fields: [Fields; 32]) -> u32
-    ensures { result ≡ first_due fields }
+pub fn first_due(fields: &[Fields; 32]) -> u32
+    ensures { result ≡ first_due fields.now }
 {
     let mut first = NEVER;
-    let mut i: usize = 32;
-    while 0 < i {
-        i -= 1;
-        let f = fields[i];
-        let s = f.supply;
-        first = earlier(due_day(s), first);
+    for f in fields {
+        first = first.min(due_day(f.supply));
     }
     first
 }

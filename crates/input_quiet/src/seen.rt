@@ -1,8 +1,9 @@
 // What the checks see of a point, brought up to a day: two events at the most, told from the point's fields, the number
-// of its periods and the newest one's start.
+// of its periods and the newest one's start. The cast stands below the test that bounds its number: `try_from` would
+// want an arm that no number reaches.
 ghost use Rattle.std.specs.Prelude.{◌≡◌, ◌&&◌, min, eqb, ltb};
 ghost use Rattle.rules.specs.Fields.{with_supply};
-ghost use Rattle.input_quiet.specs.Between.Quiet.{seen, named_seen, happened_seen, next_seen, view_on, view_in};
+ghost use Rattle.input_quiet.specs.Between.Quiet.{seen, named_seen, next_seen, view_on, view_in};
 
 use dates::LAST_DAY;
 use point_effects::due_by;
@@ -16,81 +17,47 @@ pub(crate) struct Seen {
     pub start: u32,
 }
 
-// The newest period starts on a day.
-fn is_marked(day: u64, x: Seen) -> bool
-    ensures { result ≡ (ltb 0 x.marks && eqb x.start day) }
-{
-    let start = x.start;
-    if x.marks == 0 {
-        return false;
+impl Seen {
+    // The newest period starts on a day: any, for the today of a call may lie past the calendar, where no u32 of
+    // input_point's `Newest::starts_on` would do.
+    fn is_marked(&self, day: u64) -> bool
+        ensures { result ≡ (ltb 0 self.now.marks && eqb self.now.start day) }
+    {
+        0 < self.marks && u64::from(self.start) == day
     }
-    start as u64 == day
-}
 
-// A holder is named on a day, with the supply from then on.
-fn named_seen(day: u32, now: Supply, x: Seen) -> Seen
-    ensures { result ≡ named_seen day (with_supply x.fields now) x }
-{
-    let mut f = x.fields;
-    let n = x.marks;
-    let start = x.start;
-    f.supply = now;
-    if is_marked(day as u64, x) {
-        return Seen {
-            fields: f,
-            marks: n,
-            start: start,
-        };
+    // A holder is named on a day, with the supply from then on.
+    fn named(mut self, day: u32, supply: Supply) -> Seen
+        ensures { result ≡ named_seen day (with_supply self.fields supply) self }
+    {
+        self.fields.supply = supply;
+        if !self.is_marked(u64::from(day)) && self.marks < 24 {
+            self.marks += 1;
+            self.start = day;
+        }
+        self
     }
-    if n < 24 {
-        return Seen {
-            fields: f,
-            marks: n + 1,
-            start: day,
-        };
-    }
-    Seen {
-        fields: f,
-        marks: n,
-        start: start,
-    }
-}
 
-fn happen_seen(d: Due, x: Seen) -> Seen
-    ensures { result ≡ happened_seen d x }
-{
-    match d {
-        Due::Nothing => x,
-        Due::Naming { day, supply } => named_seen(day, supply, x),
+    // What falls due first by a day has happened.
+    fn brought_up(self, set: Settings, t: u32) -> Seen
+        ensures { result ≡ next_seen set t self }
+    {
+        let s = self.fields.supply;
+        match due_by(set, t, s.kind, s.pending) {
+            Due::Nothing => self,
+            Due::Naming { day, supply } => self.named(day, supply),
+        }
     }
-}
 
-fn next_seen(set: Settings, t: u32, x: Seen) -> Seen
-    ensures { result ≡ next_seen set t x }
-{
-    let f = x.fields;
-    let s = f.supply;
-    let k = s.kind;
-    let q = s.pending;
-    let d = due_by(set, t, k, q);
-    happen_seen(d, x)
-}
-
-fn view_in(today: u64, x: Seen) -> View
-    ensures { result ≡ view_in today x }
-{
-    let f = x.fields;
-    View {
-        fields: f,
-        marks: x.marks,
-        marked: is_marked(today, x),
+    fn view(&self, today: u64) -> View
+        ensures { result ≡ view_in today self.now }
+    {
+        View {
+            fields: self.fields,
+            marks: self.marks,
+            marked: self.is_marked(today),
+        }
     }
-}
-
-fn at_most_24(n: usize) -> usize
-    ensures { result ≡ min n 24 }
-{
-    if n < 24 { n } else { 24 }
 }
 
 // The view of a point on a day: its fields, how many periods it has, and where the newest starts. On the register's
@@ -100,16 +67,14 @@ pub fn view_on(set: Settings, day: u32, today: u64, f: Fields, count: usize, sta
 {
     let x = Seen {
         fields: f,
-        marks: at_most_24(count),
-        start: start,
+        marks: count.min(24),
+        start,
     };
-    if today == day as u64 {
-        return view_in(today, x);
-    }
-    if today > LAST_DAY as u64 {
-        return view_in(today, x);
+    if today == u64::from(day) || u64::from(LAST_DAY) < today {
+        return x.view(today);
     }
     let t = today as u32;
-    let once = next_seen(set, t, x);
-    view_in(today, next_seen(set, t, once))
+    let once = x.brought_up(set, t);
+    let twice = once.brought_up(set, t);
+    twice.view(today)
 }

@@ -1,7 +1,10 @@
--- Loops that fill an array in turn: all n places, after i turns the first i are those of the list m; and a part of it.
-use Rattle.basics.proofs.Basics.{◌≡◌, sym, ◌∙◌, ap, List, ◌≤◌, ℕ, ◌+◌, ◌<◌, add-one, arith, length, take, get_or, set}
-use Rattle.basics.proofs.Basics.{length-set, take_all, paste, take-suc, paste-zero, paste-suc, length-paste}
+-- Loops that fill an array in turn: all n places, after i turns the first i are those of the list m; and a slice of it
+-- written over.
+use Rattle.basics.proofs.Basics.{◌≡◌, sym, ◌∙◌, List, ◌≤◌, ℕ, ◌+◌, ◌-◌, ◌<◌, add-one, arith, length, take, get_or, set}
+use Rattle.basics.proofs.Basics.{length-set, take_all, paste, take-suc}
 use Rattle.basics.proofs.Basics.{take-suc-set}
+use Rattle.std.proofs.lemmas.Slice.{put_mid-paste}
+use borrow.Rule.Slice.PartMut.{put_mid}
 
 abbrev pub Filled : {A : Type 0} → ℕ → List A → List A → ℕ → Type 0
 Filled n m out i = (length m ≡ n) × (length out ≡ n) × (take i out ≡ take i m)
@@ -14,17 +17,6 @@ module _ {A : Type 0} {n : ℕ} (m out : List A) where
   pub filled_all : (i : ℕ) → n ≤ i → Filled n m out i → out ≡ m
   filled_all i h (e, k, t) = sym (take_all i out (omega arith)) ∙ t ∙ take_all i m (omega arith)
 
--- The part of d from the place at on, of which the first k are those of s.
-pub record Pasted {A : Type 0} (d : List A) (at : ℕ) (s : List A) (k : ℕ) (out : List A) : Type 0 where
-  pub same : out ≡ paste d at s k
-
-module _ {A : Type 0} {d : List A} {at : ℕ} {s : List A} where
-  pub pasted_start : Pasted d at s 0 d
-  pasted_start = record { same = paste-zero d at s }
-
-  pub pasted_next : {out : List A} (k : ℕ) (z : A) → at + k < length d → k < length s → Pasted d at s k out →
-      Pasted d at s (k + 1) (set out (at + k) (get_or s k z))
-  pasted_next k z h j p = record { same = rw (p.same, add-one k) (paste-suc d at s k z h j) }
-
-  pub pasted_length : {out : List A} {k : ℕ} → at + k ≤ length d → k ≤ length s → Pasted d at s k out → length out ≡ length d
-  pasted_length {out} {k} h j p = ap length p.same ∙ length-paste d at s k h j
+-- A slice of 24 written over.
+pub pasted_mid : {A : Type 0} (d s new : List A) (at : ℕ) → new ≡ s → length s ≡ 24 → put_mid at (at + 24 - at) d new ≡ paste d at s 24
+pasted_mid d s new at e l = put_mid-paste at (at + 24 - at) d new s 24 e (omega arith) (sym l)

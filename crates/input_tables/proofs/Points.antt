@@ -2,10 +2,9 @@
 use Rattle.basics.proofs.Basics.{◌≡◌, refl, ◌∙◌, ap, List, [], ◌∷◌, ◌++◌, append_assoc, ◌≤◌, ℕ, ◌+◌, ◌<◌, suc, zero}
 use Rattle.basics.proofs.Basics.{◌*◌, arith, length, drop, take, get_or, set, length-set, length-drop, length-take-le}
 use Rattle.basics.proofs.Basics.{take_all, drop-drop, take_at, drop_at, paste, get_or-drop, drop-set-lt, take-set-le}
-use Rattle.basics.proofs.Basics.{take-add, get_or-take, take-set-lt, drop-set-add}
+use Rattle.basics.proofs.Basics.{take-add, get_or-take, take-set-lt, drop-set-add, length-paste}
 use Rattle.rules.specs.declared.{Fields.Fields, Period.Period, Point.Point}
 use Rattle.input_tables.specs.Between.Tables.{joined, row_at, points_of, Sized}
-use Rattle.input_tables.proofs.Filled.{Pasted, pasted_length}
 
 next_row : (i : ℕ) (ss : List Period) → row_at i (drop 24 ss) ≡ row_at (suc i) ss
 next_row i ss = let e : 24 + 24 * i ≡ 24 * suc i = omega arith in
@@ -78,16 +77,16 @@ module _ (f : Fields) (n : ℕ) where
       later i ss row = let e : 24 + (24 * i + 24) ≡ 24 + 24 * i + 24 = omega arith in
           rw (e, append_assoc (take 24 ss) (take (24 * i) (drop 24 ss) ++ take 24 row) (drop (24 + 24 * i + 24) ss))
 
--- A row pasted in.
-module _ {fs : List Fields} {ns : List ℕ} {ss row out : List Period} {i : ℕ} (f : Fields) (n : ℕ) (h : i < 32) (l : length row ≡ 24)
-    (s : Sized fs ns ss) (p : Pasted ss (24 * i) row 24 out) where
+-- A row written over.
+module _ {fs : List Fields} {ns : List ℕ} {ss out : List Period} {i : ℕ} (f : Fields) (n : ℕ) (row : List Period) (h : i < 32) (l : length row ≡ 24)
+    (s : Sized fs ns ss) (p : out ≡ paste ss (24 * i) row 24) where
   pub pasted_points : points_of (set fs i f) (set ns i n) out ≡ set (points_of fs ns ss) i (joined f n row)
-  pasted_points = rw p.same (points_row f n fs ns ss row i l (omega (arith, s.slots)))
+  pasted_points = rw p (points_row f n fs ns ss row i l (omega (arith, s.slots)))
 
   pub pasted_sized : Sized (set fs i f) (set ns i n) out
   pasted_sized =
       record {
         fields = length-set fs i f ∙ s.fields;
         counts = length-set ns i n ∙ s.counts;
-        slots = pasted_length (omega (arith, s.slots)) (omega (arith, l)) p ∙ s.slots;
+        slots = ap length p ∙ length-paste ss (24 * i) row 24 (omega (arith, s.slots)) (omega (arith, l)) ∙ s.slots;
       }

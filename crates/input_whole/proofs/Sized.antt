@@ -4,7 +4,7 @@ use Rattle.basics.proofs.Basics.{length, length-set, length-replicate, length-ma
 use Rattle.rules.specs.declared.{Point.Point, Register.Register, Call.Call, Action.Action, Opening.Opening}
 use Rattle.rules.specs.Answers.{is_accepted}
 use Rattle.rules.specs.Rejections.{opening_answer}
-use Rattle.rules.specs.Pinned.Register.{catch_up, blank_point, register, point_at, advanced, says, acted, failed_point, done, applied, opened}
+use Rattle.rules.specs.Pinned.Register.{catch_up, blank_point, point_at, advanced, says, acted, failed_point, done, applied, opened}
 use Rattle.line_messages.specs.declared.{Message.Message}
 use Rattle.line_messages.specs.Pinned.Reading.{read_line}
 use Rattle.input_lines.specs.Between.Begun.{capped}

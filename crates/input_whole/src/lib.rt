@@ -2,7 +2,6 @@
 // (specs/Transcript).
 #![tactic(auto)]
 
-ghost use Rattle.std.specs.Prelude.{◌≡◌, min};
 ghost use Rattle.input_pieces.specs.Pinned.Session.{desk_of, FedBy};
 ghost use Rattle.input_whole.specs.Pinned.Ends.{Started, missing_feed, ClosedFrom};
 
@@ -17,21 +16,12 @@ pub fn start() -> Session
     ensures { Started result }
 {
     let r = no_register();
-    let set = r.settings;
-    let contracts = r.contracts;
-    let points = r.points;
-    let t = tables_of(points);
-    let fields = t.fields;
-    let counts = t.counts;
-    let slots = t.slots;
     Session {
         ready: false,
-        settings: set,
+        settings: r.settings,
         day: r.day,
-        contracts: contracts,
-        fields: fields,
-        counts: counts,
-        slots: slots,
+        contracts: r.contracts,
+        tables: tables_of(&r.points),
         part: nothing_begun(),
     }
 }
@@ -40,19 +30,8 @@ pub fn start() -> Session
 pub fn finish(s: Session, out: &mut [u8]) -> Fed
     ensures { FedBy s (missing_feed s) out.old out.new result }
 {
-    let part = s.part;
-    let line_feed = [b'\n'];
-    let n = at_most_one(part.len);
-    feed(s, &line_feed[..n], out)
-}
-
-fn at_most_one(n: usize) -> usize
-    ensures { result ≡ min n 1 }
-{
-    if n < 1 {
-        return n;
-    }
-    1
+    let n = s.part.len.min(1);
+    feed(s, &b"\n"[..n], out)
 }
 
 // The closing lines, where those of the first points are written already: as many points as there is room for, and
@@ -60,13 +39,11 @@ fn at_most_one(n: usize) -> usize
 pub fn close(s: Session, from: usize, out: &mut [u8]) -> Listed
     ensures { ClosedFrom (desk_of s) from out.old out.new result }
 {
-    if s.ready {
-        let d = desk_of(s);
-        let r = d.register;
-        return put_listing(r, from, out);
+    if !s.ready {
+        return Listed {
+            next: 32,
+            written: 0,
+        };
     }
-    Listed {
-        next: 32,
-        written: 0,
-    }
+    put_listing(desk_of(s).register, from, out)
 }

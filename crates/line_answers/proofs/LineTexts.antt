@@ -44,9 +44,9 @@ module _ (k : Kind) (a : Answer) where
       simp length-append at pieces ∙ omega arith
 
 -- the length of an answer line, as the code adds it up
-pub answer_size : (k : Kind) (a : Answer) (n : ℕ) (shown : Kind) (size : ℕ) → n ≡ number a → shown ≡ shown_kind k n →
+pub answer_size : (k : Kind) (a : Answer) (n : ℕ) (shown : Kind) (size : ℕ) → n ≡ number a → shown ≡ shown_kind k (number a) →
     size ≡ length (word shown) + length (decimal n []) + 13 → size ≡ length (answer_line k a)
-answer_size k a n shown size hn hs e = rw (answer_length k a, ← hn, ← hs) e
+answer_size k a n shown size hn hs e = rw (answer_length k a, ← hs, ← hn) e
 
 -- the two volumes that end a line, piece by piece
 module _ (v : Volume) (n : NormalVolume) where

@@ -1,6 +1,7 @@
 -- Answer lines and closing lines of document 01, and one of each sort beside them.
 -- Statements only: `answer_examples` proves them. They stand here and not in specs/, so that a must-fail edit of
 -- `total_line` is read and then refused.
+use Rattle.rules.specs.declared.{Rejection.Rejection}
 use Rattle.std.proofs.Common.{ℕ, ◌≡◌, List, [], ◌∷◌, ◌++◌}
 use Rattle.rules.specs.declared.{Answer.Answer}
 use Rattle.rules.specs.Pinned.Register.{period}
@@ -19,12 +20,12 @@ pub record AnswerExamples : Type 0 where
   -- 01: "Answer line: kind; 1 accepted or 0 rejected; number, 0 if accepted; a date (e or the deadline, else
   -- 00000000)."
   pub set_accepted : answer_line Kind.Set Answer.Accepted ≡ ended (ascii "set;1;0;00000000")
-  pub i_already_served : answer_line Kind.I (Answer.Refused 24) ≡ ended (ascii "i;0;24;00000000")
+  pub i_already_served : answer_line Kind.I (Answer.Refused Rejection.AlreadyServed) ≡ ended (ascii "i;0;24;00000000")
   pub request_accepted : answer_line Kind.Demcf (Answer.AcceptedOn 7843) ≡ ended (ascii "demcf;1;0;20210622")
-  pub last_resort_under_way : answer_line Kind.Demcf (Answer.RefusedUntil 8030) ≡ ended (ascii "demcf;0;8;20211226")
+  pub last_resort_under_way : answer_line Kind.Demcf (Answer.Refused (Rejection.LastResortUnderWay 8030)) ≡ ended (ascii "demcf;0;8;20211226")
   -- 01: "Number 31 prints `?` as its kind."
-  pub unreadable_line : answer_line Kind.Ctr (Answer.Refused 31) ≡ ended (ascii "?;0;31;00000000")
-  pub number_30 : answer_line Kind.Ctr (Answer.Refused 30) ≡ ended (ascii "ctr;0;30;00000000")
+  pub unreadable_line : answer_line Kind.Ctr (Answer.Refused Rejection.UnreadableLine) ≡ ended (ascii "?;0;31;00000000")
+  pub number_30 : answer_line Kind.Ctr (Answer.Refused Rejection.PeriodsFull) ≡ ended (ascii "ctr;0;30;00000000")
   -- a day off the calendar, which no answer of the register carries
   pub off_the_calendar : answer_line Kind.Demcf (Answer.AcceptedOn 73049) ≡ ended (ascii "demcf;1;0;00000000")
   -- 01: "its periods (point; start; holder; volume) and `total`; point; advance"

@@ -1,10 +1,12 @@
 -- A date whose bytes are those of the known one is the known one, and a date that was read is known from then on.
+use Rattle.std.specs.Prelude.{Option, Some, None}
+use Rattle.std.specs.Int.{from_le_bytes, w64}
 use Rattle.basics.proofs.Basics.{◌≡◌, refl, sym, ◌∙◌, ap, true, List, [], ◌∷◌, ◌++◌, ◌≤◌, ℕ, ◌-◌, ◌+◌, ◌<◌, suc, zero}
 use Rattle.basics.proofs.Basics.{◌*◌, ◌^◌, ◌/◌, ◌%◌, arith, length, drop, take, get_or, length-append, length-drop}
-use Rattle.basics.proofs.Basics.{take-append-drop, length-take, length-take-le, drop-drop, take_at, get_or-drop, take-add}
-use Rattle.basics.proofs.Basics.{cases}
+use Rattle.basics.proofs.Basics.{take-append-drop, length-take, length-take-le, take_at, get_or-drop}
+use Rattle.basics.proofs.Basics.{cases, drop_of_length-le, take-length}
+use Rattle.dates.specs.declared.{Date.Date}
 use Rattle.dates.specs.Dates.{date_of}
-use Rattle.dates.specs.declared.{DateAnswer.DateAnswer}
 use Rattle.dates.specs.Numbers.{date_answer}
 use Rattle.line_text.specs.Decimal.{fixed}
 use Rattle.line_text.specs.Days.{answer_text, day_text}
@@ -14,9 +16,9 @@ use Rattle.line_values.specs.Pinned.Numbers.{Parsed, number, bad}
 use Rattle.line_values.specs.Pinned.Days.{day_in}
 use Rattle.line_values.proofs.Days.{day_back, day_only}
 use Rattle.line_values.proofs.Steps.{cons_at, other_length, same_words, same_self}
-use Rattle.line_fields.specs.declared.{KnownDate.KnownDate, FieldFound.FieldFound}
+use Rattle.line_fields.specs.declared.{KnownDate.KnownDate}
 use Rattle.line_fields.specs.Between.Known.{packed, unpacked, known_text, first_known, IsKnown}
-use Rattle.line_fields.specs.Between.With.{none, date_read, date_with, found_with}
+use Rattle.line_fields.specs.Between.With.{none, date_read, date_with, found_with, known_with}
 
 -- each is a byte
 abbrev pub AreBytes : List ℕ → Type 0
@@ -57,9 +59,9 @@ fixed_bytes (suc k) n l h = fixed_bytes k (n / 10) ((48 + n % 10) ∷ l) (omega 
 
 day_bytes : (n : ℕ) → AreBytes (day_text n [])
 day_bytes n = go (date_answer n) where
-  go : (a : DateAnswer) → AreBytes (answer_text a [])
-  go (DateAnswer.On x) = fixed_bytes 4 x.year _ (fixed_bytes 2 x.month _ (fixed_bytes 2 x.day [] tt))
-  go DateAnswer.OffCalendar = fixed_bytes 8 0 [] tt
+  go : (a : Option Date) → AreBytes (answer_text a [])
+  go (Some x) = fixed_bytes 4 x.year _ (fixed_bytes 2 x.month _ (fixed_bytes 2 x.day [] tt))
+  go None = fixed_bytes 8 0 [] tt
 
 -- the known date is read where its bytes stand
 pub known_day : (k : KnownDate) (l : List ℕ) → IsKnown k → are_same (take 8 l) (known_text k) ≡ true →
@@ -98,12 +100,16 @@ module _ (k : KnownDate) (l : List ℕ) where
   date_short h = let few = length-take 8 l in let eight = unpacked_length 8 k.bytes in
       rw (other_length (take 8 l) (known_text k) (λ e. omega arith), day_short l h)
 
+  -- by its bytes it is the known one
+  date_is : AreBytes (take 8 l) → 8 ≤ length l → packed (take 8 l) ≡ k.bytes → are_same (take 8 l) (known_text k) ≡ true
+  date_is b long e = let text = ap (unpacked 8) (sym e) ∙ eight_unpacked (take 8 l) b (length-take-le 8 l long) in
+      rw (text, same_self (take 8 l))
+
   pub date_same : (at : ℕ) → 8 ≤ length l → AreBytes (take 8 l) → packed (take 8 l) ≡ k.bytes →
-      found_with at l (date_with k l) ≡ FieldFound.On k.day (at + 8) k
+      (found_with at l (date_with k l) ≡ Some (k.day, at + 8)) × (known_with k (date_with k l) ≡ k)
   unfolding date_with
-  date_same at long b e = let text = ap (unpacked 8) (sym e) ∙ eight_unpacked (take 8 l) b (length-take-le 8 l long) in
-      let left = length-drop 8 l in let end : at + (length l - length (drop 8 l)) ≡ at + 8 = omega arith in
-      rw (text, same_self (take 8 l), end)
+  date_same at long b e = let left = length-drop 8 l in let end : at + (length l - length (drop 8 l)) ≡ at + 8 = omega arith in
+      rw (date_is b long e) (rw end, refl)
 
   pub date_other : k.bytes < 256 ^ 8 → (packed (take 8 l) ≡ k.bytes → ⊥) →
       date_with k l ≡ date_read (packed (take 8 l)) (day_in l)
@@ -111,27 +117,23 @@ module _ (k : KnownDate) (l : List ℕ) where
   date_other small n = cases (are_same (take 8 l) (known_text k))
       (λ e. absurd (n (ap packed (same_words (take 8 l) (known_text k) e) ∙ pack_unpacked 8 k.bytes small))) (λ e. rw e)
 
--- the four bytes at a position
-pub four_bytes : (s : List ℕ) (at : ℕ) → at + 4 ≤ length s →
-    take 4 (drop at s) ≡ get_or s at 0 ∷ get_or s (at + 1) 0 ∷ get_or s (at + 2) 0 ∷ get_or s (at + 3) 0 ∷ []
-four_bytes s at h = let e₂ : at + 1 + 1 ≡ at + 2 = omega arith in let e₃ : at + 2 + 1 ≡ at + 3 = omega arith in rw (
-  cons_at s at (omega arith),
-  cons_at s (at + 1) (omega arith),
-  e₂,
-  cons_at s (at + 2) (omega arith),
-  e₃,
-  cons_at s (at + 3) (omega arith),
-)
+-- eight bytes as one number
+pub eight_packed : (l : List ℕ) → length l ≡ 8 → from_le_bytes w64 l ≡ packed l
+eight_packed l h = let end : length l ≤ 8 = omega arith in let none : drop 8 l ≡ [] = drop_of_length-le l end in let all : l ≡ get_or l 0 0 ∷ get_or l 1 0 ∷ get_or l 2 0 ∷ get_or l 3 0 ∷
+    get_or l 4 0 ∷ get_or l 5 0 ∷ get_or l 6 0 ∷ get_or l 7 0 ∷ [] =
+    cons_at l 0 (omega arith) ∙ ap (◌∷◌ (get_or l 0 0)) (cons_at l 1 (omega arith) ∙ ap (◌∷◌ (get_or l 1 0))
+    (cons_at l 2 (omega arith) ∙ ap (◌∷◌ (get_or l 2 0)) (cons_at l 3 (omega arith) ∙ ap (◌∷◌ (get_or l 3 0))
+    (cons_at l 4 (omega arith) ∙ ap (◌∷◌ (get_or l 4 0)) (cons_at l 5 (omega arith) ∙ ap (◌∷◌ (get_or l 5 0))
+    (cons_at l 6 (omega arith) ∙ ap (◌∷◌ (get_or l 6 0)) (cons_at l 7 (omega arith) ∙ ap (◌∷◌ (get_or l 7 0))
+    none))))))) in
+    omega (arith, ap packed all)
 
--- eight bytes are four and four
-pub eight_packed : (s : List ℕ) (at : ℕ) → at + 8 ≤ length s →
-    packed (take 8 (drop at s)) ≡ packed (take 4 (drop at s)) + 4294967296 * packed (take 4 (drop (at + 4) s))
-eight_packed s at h = let parts : take 8 (drop at s) ≡ take 4 (drop at s) ++ take 4 (drop (at + 4) s) =
-    take-add 4 4 (drop at s) ∙ ap (λ (l : List ℕ). take 4 (drop at s) ++ take 4 l) (drop-drop 4 at s) in
-    ap packed parts ∙ four_first (take 4 (drop (at + 4) s))
-  where
-    four_first : (b : List ℕ) → packed (take 4 (drop at s) ++ b) ≡ packed (take 4 (drop at s)) + 4294967296 * packed b
-    four_first b = rw (four_bytes s at (omega arith)) (omega arith)
+-- the eight bytes at a position, as the code takes them
+pub eight_at : (s d t : List ℕ) (at b : ℕ) → d ≡ take (length s - at) (drop at s) → 8 ≤ length d → t ≡ take 8 d →
+    b ≡ from_le_bytes w64 t → (8 ≤ length (drop at s)) × (b ≡ packed (take 8 (drop at s)))
+eight_at s d t at b e long f g = let all : take (length s - at) (drop at s) ≡ drop at s = rw (← length-drop at s) (take-length (drop at s)) in
+    let n : 8 ≤ length (drop at s) = rw (e ∙ all) at long in
+    (n, g ∙ ap (from_le_bytes w64) (f ∙ ap (take 8) (e ∙ all)) ∙ eight_packed (take 8 (drop at s)) (length-take-le 8 (drop at s) n))
 
 pub eight_bytes : (s : List ℕ) (at : ℕ) → ((i : ℕ) → get_or s i 0 < 256) → AreBytes (take 8 (drop at s))
 eight_bytes s at h = take_bytes 8 (drop at s) (λ i. rw (get_or-drop at s i 0) (h (at + i)))

@@ -1,11 +1,11 @@
 -- The table of kinds, kind by kind.
-use Rattle.basics.proofs.Basics.{◌≡◌, refl, sym, true, Bool, ◌&&◌, not, List, [], ◌∷◌, ◌≤◌, ℕ, ◌+◌, arith, eqb, lit≤}
-use Rattle.basics.proofs.Basics.{length, length-take-le}
+use Rattle.basics.proofs.Basics.{◌≡◌, refl, true, Bool, ◌&&◌, not, List, [], ◌∷◌, ◌≤◌, ℕ, ◌+◌, eqb, lit≤}
+use Rattle.basics.proofs.Basics.{length}
 use Rattle.line_values.specs.Pinned.Words.{are_same}
 use Rattle.line_fields.specs.Between.Shapes.{most_fields, sorts_from, sorts_of}
 use Rattle.line_fields.proofs.FieldTexts.{widths}
-use Rattle.line_kinds.specs.declared.{Kind.Kind, KindRow.KindRow}
-use Rattle.line_kinds.specs.Kinds.{row_of, word, shape_of}
+use Rattle.line_kinds.specs.declared.{Kind.Kind}
+use Rattle.line_kinds.specs.Kinds.{word, shape_of}
 use Rattle.line_kinds.specs.Pinned.Naming.{kind_in, kind_named}
 
 -- a byte that does not stand in a text
@@ -19,27 +19,22 @@ pub record Sound (k : Kind) : Type 0 where
   pub one_word : lacks 59 (word k) ≡ true
   pub in_line : lacks 10 (word k) ≡ true
   pub few : (shape_of k).count ≤ most_fields
-  pub inside : (row_of k).word.len ≤ length (row_of k).word.bytes
   pub short : length (word k) ≤ 8
   pub small : length (word k) + widths (sorts_of (shape_of k)) ≤ 116
 
 pub sound : (k : Kind) → Sound k
 unfolding sorts_from kind_in are_same
-sound Kind.Set = record { named = refl; one_word = refl; in_line = refl; few = lit≤ tt; inside = lit≤ tt; short = lit≤ tt; small = lit≤ tt }
-sound Kind.Ctr = record { named = refl; one_word = refl; in_line = refl; few = lit≤ tt; inside = lit≤ tt; short = lit≤ tt; small = lit≤ tt }
-sound Kind.Def = record { named = refl; one_word = refl; in_line = refl; few = lit≤ tt; inside = lit≤ tt; short = lit≤ tt; small = lit≤ tt }
-sound Kind.Enr = record { named = refl; one_word = refl; in_line = refl; few = lit≤ tt; inside = lit≤ tt; short = lit≤ tt; small = lit≤ tt }
-sound Kind.Demmespc = record { named = refl; one_word = refl; in_line = refl; few = lit≤ tt; inside = lit≤ tt; short = lit≤ tt; small = lit≤ tt }
-sound Kind.I = record { named = refl; one_word = refl; in_line = refl; few = lit≤ tt; inside = lit≤ tt; short = lit≤ tt; small = lit≤ tt }
-sound Kind.Demcf = record { named = refl; one_word = refl; in_line = refl; few = lit≤ tt; inside = lit≤ tt; short = lit≤ tt; small = lit≤ tt }
-sound Kind.Adc = record { named = refl; one_word = refl; in_line = refl; few = lit≤ tt; inside = lit≤ tt; short = lit≤ tt; small = lit≤ tt }
-sound Kind.Ri = record { named = refl; one_word = refl; in_line = refl; few = lit≤ tt; inside = lit≤ tt; short = lit≤ tt; small = lit≤ tt }
-sound Kind.Cdt = record { named = refl; one_word = refl; in_line = refl; few = lit≤ tt; inside = lit≤ tt; short = lit≤ tt; small = lit≤ tt }
-sound Kind.Demmhs = record { named = refl; one_word = refl; in_line = refl; few = lit≤ tt; inside = lit≤ tt; short = lit≤ tt; small = lit≤ tt }
-sound Kind.Sus = record { named = refl; one_word = refl; in_line = refl; few = lit≤ tt; inside = lit≤ tt; short = lit≤ tt; small = lit≤ tt }
-sound Kind.Jour = record { named = refl; one_word = refl; in_line = refl; few = lit≤ tt; inside = lit≤ tt; short = lit≤ tt; small = lit≤ tt }
-sound Kind.Unknown = record { named = refl; one_word = refl; in_line = refl; few = lit≤ tt; inside = lit≤ tt; short = lit≤ tt; small = lit≤ tt }
-
--- the word's length, as the code holds it
-pub word_long : (k : Kind) (row : KindRow) → row ≡ row_of k → (row.word.len ≡ length (word k)) × (row.word.len ≤ 8)
-word_long k row e = let long = length-take-le _ _ (sound k).inside in let s = (sound k).short in rw e (sym long, omega arith)
+sound Kind.Set = record { named = refl; one_word = refl; in_line = refl; few = lit≤ tt; short = lit≤ tt; small = lit≤ tt }
+sound Kind.Ctr = record { named = refl; one_word = refl; in_line = refl; few = lit≤ tt; short = lit≤ tt; small = lit≤ tt }
+sound Kind.Def = record { named = refl; one_word = refl; in_line = refl; few = lit≤ tt; short = lit≤ tt; small = lit≤ tt }
+sound Kind.Enr = record { named = refl; one_word = refl; in_line = refl; few = lit≤ tt; short = lit≤ tt; small = lit≤ tt }
+sound Kind.Demmespc = record { named = refl; one_word = refl; in_line = refl; few = lit≤ tt; short = lit≤ tt; small = lit≤ tt }
+sound Kind.I = record { named = refl; one_word = refl; in_line = refl; few = lit≤ tt; short = lit≤ tt; small = lit≤ tt }
+sound Kind.Demcf = record { named = refl; one_word = refl; in_line = refl; few = lit≤ tt; short = lit≤ tt; small = lit≤ tt }
+sound Kind.Adc = record { named = refl; one_word = refl; in_line = refl; few = lit≤ tt; short = lit≤ tt; small = lit≤ tt }
+sound Kind.Ri = record { named = refl; one_word = refl; in_line = refl; few = lit≤ tt; short = lit≤ tt; small = lit≤ tt }
+sound Kind.Cdt = record { named = refl; one_word = refl; in_line = refl; few = lit≤ tt; short = lit≤ tt; small = lit≤ tt }
+sound Kind.Demmhs = record { named = refl; one_word = refl; in_line = refl; few = lit≤ tt; short = lit≤ tt; small = lit≤ tt }
+sound Kind.Sus = record { named = refl; one_word = refl; in_line = refl; few = lit≤ tt; short = lit≤ tt; small = lit≤ tt }
+sound Kind.Jour = record { named = refl; one_word = refl; in_line = refl; few = lit≤ tt; short = lit≤ tt; small = lit≤ tt }
+sound Kind.Unknown = record { named = refl; one_word = refl; in_line = refl; few = lit≤ tt; short = lit≤ tt; small = lit≤ tt }

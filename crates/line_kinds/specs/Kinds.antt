@@ -1,9 +1,9 @@
 -- 01, Message lines: the kinds of lines, one row for each. Definitions only.
-use Rattle.std.specs.Prelude.{ℕ, ◌-◌, List, [], ◌∷◌, ◌++◌, length, take, replicate}
+use Rattle.std.specs.Prelude.{ℕ, List, [], ◌∷◌}
 use Rattle.line_text.specs.Ascii.{ascii}
 use Rattle.line_fields.specs.declared.{Shape.Shape}
 use Rattle.line_fields.specs.Between.Shapes.{shape}
-use Rattle.line_kinds.specs.declared.{KindRow.KindRow, Kind.Kind}
+use Rattle.line_kinds.specs.declared.{Kind.Kind}
 
 -- The kinds that a line can have.
 abbrev pub kinds : List Kind
@@ -11,17 +11,18 @@ kinds =
     Kind.Set ∷ Kind.Ctr ∷ Kind.Def ∷ Kind.Enr ∷ Kind.Demmespc ∷ Kind.I ∷ Kind.Demcf ∷ Kind.Adc ∷ Kind.Ri ∷ Kind.Cdt ∷
     Kind.Demmhs ∷ Kind.Sus ∷ Kind.Jour ∷ []
 
--- A row as the code holds it: a word in eight bytes, how long it is, and the fields behind it: how many, and which of
--- them is a date beside today, the first; 0 where none is.
-abbrev pub kind_row : List ℕ → ℕ → ℕ → ℕ → KindRow
-kind_row bytes len count second = record { word = record { bytes = bytes; len = len }; shape = shape count second }
+-- A kind's row: its word, and the fields behind it: how many, and which of them is a date beside today, the first; 0
+-- where none is.
+pub record Row : Type 0 where
+  pub word : List ℕ
+  pub shape : Shape
 
-abbrev pub row : List ℕ → ℕ → ℕ → KindRow
-row w count second = kind_row (w ++ replicate (8 - length w) 32) (length w) count second
+abbrev pub row : List ℕ → ℕ → ℕ → Row
+row w count second = record { word = w; shape = shape count second }
 
 -- 01: "`ctr`, `def`, `enr` .., `jour`; `set` opens", and "Number 31 prints `?` as its kind."
 -- Only the words need be believed: `OneLine` of line_messages pins the fields.
-abbrev pub row_of : Kind → KindRow
+abbrev pub row_of : Kind → Row
 row_of Kind.Set = row (ascii "set") 6 0
 row_of Kind.Ctr = row (ascii "ctr") 2 0
 row_of Kind.Def = row (ascii "def") 2 0
@@ -39,7 +40,7 @@ row_of Kind.Unknown = row (ascii "?") 0 0
 
 -- A kind's word, and its fields.
 abbrev pub word : Kind → List ℕ
-word k = take (row_of k).word.len (row_of k).word.bytes
+word k = (row_of k).word
 
 abbrev pub shape_of : Kind → Shape
 shape_of k = (row_of k).shape

@@ -1,24 +1,28 @@
 -- Where the first word of a line ends.
-use Rattle.basics.proofs.Basics.{◌≡◌, refl, true, not, and-eq-true_iff, List, [], ◌∷◌, ◌++◌, ◌≤◌, ℕ, ◌+◌, ◌<◌, suc}
-use Rattle.basics.proofs.Basics.{add-one, eqb, length, drop, get_or, drop_of_length-le, drop-cons, ne_eqb, eq-eqb}
-use Rattle.basics.proofs.Basics.{not-true}
+use Rattle.basics.proofs.Basics.{◌≡◌, refl, true, not, and-eq-true_iff, List, [], ◌∷◌, ◌++◌, ◌≤◌, ℕ}
+use Rattle.basics.proofs.Basics.{eqb, length}
+use Rattle.basics.proofs.Basics.{not-true, arith, ltb, ltb-false, cases}
+use Rattle.std.specs.Prelude.{position, ◌==◌}
+use Rattle.std.specs.List.{position_or_len}
+use Rattle.std.specs.Option.{unwrap_or}
+use Rattle.std.proofs.Math.Numerals.{one-add}
+use Rattle.std.proofs.lemmas.List.Recursion.{is_position_or_len}
 use Rattle.line_fields.specs.declared.{Sort.Sort}
 use Rattle.line_fields.specs.Fields.{Field, field_text, fields_text}
 use Rattle.line_kinds.proofs.KindTable.{lacks}
 use Rattle.line_messages.specs.Pinned.Reading.{word_end}
 
-module _ (l : List ℕ) (i : ℕ) where
-  pub end_here : i < length l → get_or l i 0 ≡ 59 → word_end (drop i l) ≡ 0
-  unfolding word_end
-  end_here h e = rw (drop-cons l i 0 h, eq-eqb _ _ e)
+pub word_le : (l : List ℕ) → word_end l ≤ length l
+unfolding word_end
+word_le [] = omega arith
+word_le (c ∷ l) = let rest = word_le l in cases (eqb c 59) (λ e. rw e (omega arith)) (λ e. rw e (omega arith))
 
-  pub end_past : i < length l → (get_or l i 0 ≡ 59 → ⊥) → word_end (drop i l) ≡ suc (word_end (drop (i + 1) l))
-  unfolding word_end
-  end_past h n = rw (drop-cons l i 0 h, ne_eqb _ _ n, add-one i)
-
-  pub end_none : length l ≤ i → word_end (drop i l) ≡ 0
-  unfolding word_end
-  end_none h = rw (drop_of_length-le l h)
+-- it is the place of the first `;`, or the line's end
+pub word_place : (l : List ℕ) → unwrap_or (position (λ c. c == 59) l) (length l) ≡ word_end l
+unfolding word_end
+word_place l = let e : word_end l ≡ position_or_len (λ c. c == 59) l =
+    is_position_or_len word_end (λ c. c == 59) refl (λ x xs. rw (one-add (word_end xs))) l in
+    cases (ltb (word_end l) (length l)) (λ t. rw (← e, t)) (λ f. rw (← e, f) (omega (arith, word_le l, ltb-false (word_end l) (length l) f)))
 
 -- a word without `;` in front of fields
 pub fields_begin : (fs : List Field) → word_end (fields_text fs) ≡ 0

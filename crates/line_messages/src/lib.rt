@@ -1,7 +1,7 @@
 // Message lines: what a line says, and reading one.
 #![tactic(auto)]
 
-ghost use Rattle.std.specs.Prelude.{◌≡◌, ◌≤◌, length};
+ghost use Rattle.std.specs.Prelude.{◌≡◌, ◌≤◌, ◌==◌, length, position};
 ghost use Rattle.line_messages.specs.Pinned.Messages.{ask, ask_at, message_of};
 ghost use Rattle.line_messages.specs.Pinned.Reading.{word_end, read_line};
 ghost use Rattle.line_messages.specs.Between.Values.{line_message};
@@ -11,7 +11,8 @@ use line_kinds::{Kind, kind_named, row_of};
 use line_text::LONGEST_LINE;
 use rules::{Action, Call, NewMeter, Opening, PointAction};
 
-// What a line says: an opening, one of the twelve calls, or nothing that can be read.
+// What a line says: an opening, one of the twelve calls, or nothing that can be read. Unreadable is a case and no None:
+// `OneLine` says of which lines it is the message.
 #[derive(Clone, Copy)]
 pub enum Message {
     Open(Opening),
@@ -42,14 +43,13 @@ pub fn read_line(line: &[u8]) -> LineMessage
     }
     let end = word_end(line);
     let kind = kind_named(&line[..end]);
-    let row = row_of(kind);
-    let shape = row.shape;
-    let mut values = [0u64; MOST_FIELDS];
-    let fields = read_fields(line, end, shape, first_known(), &mut values);
-    if !fields.ok {
+    let shape = row_of(kind).shape;
+    let mut known = first_known();
+    let mut values = [0; MOST_FIELDS];
+    let Ok(end) = read_fields(line, end, shape, &mut known, &mut values) else {
         return unreadable();
-    }
-    if fields.end < line.len() {
+    };
+    if end < line.len() {
         return unreadable();
     }
     let message = message_of(kind, values);
@@ -69,27 +69,21 @@ fn unreadable() -> LineMessage
 fn word_end(line: &[u8]) -> usize
     ensures { (result ≡ word_end line.now) × (result ≤ length line.now) }
 {
-    let mut i: usize = 0;
-    while i < line.len() {
-        if line[i] == b';' {
-            return i;
-        }
-        i += 1;
-    }
-    i
+    first_separator(line).unwrap_or(line.len())
+}
+
+// The place of a line's first `;`.
+fn first_separator(line: &[u8]) -> Option<usize>
+    ensures { result ≡ position (λ c. c == 59) line.now }
+{
+    line.iter().position(|c| *c == b';')
 }
 
 // What a line of a kind with these values says.
 pub fn message_of(kind: Kind, v: [u64; MOST_FIELDS]) -> Message
     ensures { result ≡ message_of kind v }
 {
-    let today = v[0];
-    let a = v[1];
-    let b = v[2];
-    let c = v[3];
-    let d = v[4];
-    let e = v[5];
-    let f = v[6];
+    let [today, a, b, c, d, e, f, g, h] = v;
     match kind {
         Kind::Set => Message::Open(Opening {
             day: today,
@@ -152,8 +146,8 @@ pub fn message_of(kind: Kind, v: [u64; MOST_FIELDS]) -> Message
                     before: d,
                     after: e,
                     index: f,
-                    code: v[7],
-                    factor: v[8],
+                    code: g,
+                    factor: h,
                 },
             },
         ),

@@ -1,8 +1,14 @@
 -- The next line, read where it stands: a kind's word, its fields and then a line feed are the line of its message.
 use Rattle.basics.proofs.Basics.{◌≡◌, refl, sym, ◌∙◌, ap, ap₂, true, false, Bool, cond, List, [], ◌∷◌, ◌++◌}
-use Rattle.basics.proofs.Basics.{append_assoc, append-nil, ◌≤◌, ℕ, ◌+◌, ◌<◌, suc, add-one, arith, eqb, leb, length}
+use Rattle.basics.proofs.Basics.{append_assoc, append-nil, ◌≤◌, ℕ, ◌+◌, ◌<◌, suc, arith, eqb, leb, length}
 use Rattle.basics.proofs.Basics.{drop, take, get_or, length-append, length-drop, drop_of_length-le, take-append-drop}
-use Rattle.basics.proofs.Basics.{drop-cons, take_at, take-length, ne_eqb, eq-eqb, eqb-true, cases}
+use Rattle.basics.proofs.Basics.{drop-cons, take_at, take-length, eqb-true, cases}
+use Rattle.basics.proofs.Basics.{◌||◌, ◌≤◌, ltb, ltb-false}
+use Rattle.std.specs.Prelude.{position, ◌==◌}
+use Rattle.std.specs.List.{position_or_len}
+use Rattle.std.specs.Option.{unwrap_or}
+use Rattle.std.proofs.Math.Numerals.{one-add}
+use Rattle.std.proofs.lemmas.List.Recursion.{is_position_or_len}
 use Rattle.line_text.specs.Longest.{longest_line}
 use Rattle.line_values.specs.Pinned.Words.{are_same}
 use Rattle.line_fields.specs.Pinned.Reading.{values, unread, fields_of}
@@ -29,31 +35,24 @@ use Rattle.line_next.specs.declared.{NextLine.NextLine}
 use Rattle.line_next.specs.Between.NextLine.{first_line, feed_first, stop_at, first_kind, first_fields, taken_by, next_line, IsNext, NextIsLine}
 use Rattle.line_next.proofs.PlainTexts.{Plain, plain_end, plain_append, plain_fields, plain_word}
 
--- one step of looking for the end of a word, and of a line
-module _ (l : List ℕ) (i : ℕ) (h : i < length l) where
-  pub stop_here : get_or l i 0 ≡ 59 → stop_at (drop i l) ≡ 0
-  unfolding stop_at
-  stop_here e = rw (drop-cons l i 0 h, eq-eqb _ _ e)
+-- where a word ends: at the first `;` or line feed, or at the text's end
+stop_le : (l : List ℕ) → stop_at l ≤ length l
+unfolding stop_at
+stop_le [] = omega arith
+stop_le (c ∷ l) = let rest = stop_le l in
+    cases (eqb c 59) (λ p. rw p (omega arith)) (λ p. cases (eqb c 10) (λ q. rw (p, q) (omega arith)) (λ q. rw (p, q) (omega arith)))
 
-  pub stop_feed : (get_or l i 0 ≡ 59 → ⊥) → get_or l i 0 ≡ 10 → stop_at (drop i l) ≡ 0
-  unfolding stop_at
-  stop_feed n e = rw (drop-cons l i 0 h, ne_eqb _ _ n, eq-eqb _ _ e)
+abbrev is_stop : ℕ → Bool
+is_stop c = c == 59 || c == 10
 
-  pub stop_past : (get_or l i 0 ≡ 59 → ⊥) → (get_or l i 0 ≡ 10 → ⊥) → stop_at (drop i l) ≡ suc (stop_at (drop (i + 1) l))
-  unfolding stop_at
-  stop_past n m = rw (drop-cons l i 0 h, ne_eqb _ _ n, ne_eqb _ _ m, add-one i)
+stop_cons : (c : ℕ) (l : List ℕ) → stop_at (c ∷ l) ≡ cond (is_stop c) 0 (1 + stop_at l)
+unfolding stop_at
+stop_cons c l = rw (one-add (stop_at l)) (cases (eqb c 59) (λ p. rw p) (λ p. rw p))
 
-module _ (l : List ℕ) (i : ℕ) (h : length l ≤ i) where
-  pub stop_none : stop_at (drop i l) ≡ 0
-  unfolding stop_at
-  stop_none = rw (drop_of_length-le l h)
-
--- a line feed at a position, or not
-pub feed_off : (l : List ℕ) (i : ℕ) → length l ≤ i → feed_first (drop i l) ≡ false
-feed_off l i h = rw (drop_of_length-le l h)
-
-pub feed_at : (l : List ℕ) (i : ℕ) → i < length l → feed_first (drop i l) ≡ eqb (get_or l i 0) 10
-feed_at l i h = rw (drop-cons l i 0 h)
+pub stop_place : (l : List ℕ) → (unwrap_or (position (λ c. c == 59 || c == 10) l) (length l) ≡ stop_at l) × (stop_at l ≤ length l)
+unfolding stop_at
+stop_place l = let e : stop_at l ≡ position_or_len is_stop l = is_position_or_len stop_at is_stop refl stop_cons l in
+    (cases (ltb (stop_at l) (length l)) (λ t. rw (← e, t)) (λ f. rw (← e, f) (omega (arith, stop_le l, ltb-false (stop_at l) (length l) f))), stop_le l)
 
 -- a word before a line feed is the line
 word_is_line : (l : List ℕ) → feed_first (drop (stop_at l) l) ≡ true → until_feed l ≡ stop_at l

@@ -1,7 +1,7 @@
 -- No line feed stands in the line of a message, so the line ends where its fields do.
+use Rattle.std.specs.Prelude.{Some, None}
 use Rattle.basics.proofs.Basics.{◌≡◌, refl, ap, true, false, not, and-eq-true_iff, List, [], ◌∷◌, ◌++◌, ℕ, ◌+◌, suc}
 use Rattle.basics.proofs.Basics.{zero, ◌/◌, ◌%◌, arith, eqb, ltb, length, ne_eqb, not-true, cases}
-use Rattle.dates.specs.declared.{DateAnswer.DateAnswer}
 use Rattle.dates.specs.Numbers.{date_answer}
 use Rattle.line_text.specs.Decimal.{spell, fixed}
 use Rattle.line_text.specs.Days.{answer_text, day_text}
@@ -40,8 +40,8 @@ plain_fixed (suc k) n l p = plain_fixed k (n / 10) ((48 + n % 10) ∷ l) (plain_
 
 plain_day : (n : ℕ) (l : List ℕ) → Plain l → Plain (day_text n l)
 plain_day n l p = elim (date_answer n) as (λ a. Plain (answer_text a l)) [
-  | DateAnswer.On x ↦ plain_fixed 4 x.year _ (plain_fixed 2 x.month _ (plain_fixed 2 x.day l p))
-  | DateAnswer.OffCalendar ↦ plain_fixed 8 0 l p
+  | Some x ↦ plain_fixed 4 x.year _ (plain_fixed 2 x.month _ (plain_fixed 2 x.day l p))
+  | None ↦ plain_fixed 8 0 l p
 ]
 
 pub plain_fields : (fs : List Field) → Plain (fields_text fs)

@@ -1,7 +1,7 @@
 // Reading the next line of a buffer, without looking for its end first.
 #![tactic(auto)]
 
-ghost use Rattle.std.specs.Prelude.{◌≡◌, ◌+◌, ◌≤◌, length, drop};
+ghost use Rattle.std.specs.Prelude.{◌≡◌, ◌+◌, ◌≤◌, ◌==◌, ◌||◌, length, drop, position};
 ghost use Rattle.line_next.specs.Between.NextLine.{feed_first, stop_at, next_line};
 
 use input_lines::line_end;
@@ -34,17 +34,15 @@ pub fn next_line(buf: &[u8], from: usize, last: KnownDate) -> NextLine
     }
     let word_end = word_end_from(buf, from);
     let kind = kind_named(&buf[from..word_end]);
-    let row = row_of(kind);
-    let shape = row.shape;
-    let mut values = [0u64; MOST_FIELDS];
-    let fields = read_fields(buf, word_end, shape, last, &mut values);
-    let known = fields.known;
-    if fields.ok {
-        if is_feed(buf, fields.end) {
+    let shape = row_of(kind).shape;
+    let mut known = last;
+    let mut values = [0; MOST_FIELDS];
+    if let Ok(fields_end) = read_fields(buf, word_end, shape, &mut known, &mut values) {
+        if is_feed(buf, fields_end) {
             let message = message_of(kind, values);
             return NextLine {
                 read: LineMessage { kind, message },
-                end: fields.end,
+                end: fields_end,
                 known,
             };
         }
@@ -58,10 +56,7 @@ pub fn next_line(buf: &[u8], from: usize, last: KnownDate) -> NextLine
 fn is_feed(buf: &[u8], at: usize) -> bool
     ensures { result ≡ feed_first (drop at buf.now) }
 {
-    if buf.len() <= at {
-        return false;
-    }
-    buf[at] == b'\n'
+    matches!(buf.get(at), Some(b'\n'))
 }
 
 // The end of the first word from a position on: a `;`, a line feed, or the buffer's end.
@@ -69,15 +64,13 @@ fn word_end_from(buf: &[u8], from: usize) -> usize
     requires { from ≤ length buf.now }
     ensures { (result ≡ from + stop_at (drop from buf.now)) × (result ≤ length buf.now) }
 {
-    let mut i = from;
-    while i < buf.len() {
-        if buf[i] == b';' {
-            return i;
-        }
-        if buf[i] == b'\n' {
-            return i;
-        }
-        i += 1;
-    }
-    i
+    let rest = &buf[from..];
+    from + first_stop(rest).unwrap_or(rest.len())
+}
+
+// The place of the first `;` or line feed.
+fn first_stop(bytes: &[u8]) -> Option<usize>
+    ensures { result ≡ position (λ c. c == 59 || c == 10) bytes.now }
+{
+    bytes.iter().position(|c| *c == b';' || *c == b'\n')
 }

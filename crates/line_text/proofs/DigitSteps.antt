@@ -1,13 +1,12 @@
 -- Writing digits: what holds on the way while the last digits of a number stand already, and a date's eight digits.
 use Rattle.basics.proofs.Basics.{◌≡◌, sym, ◌∙◌, ap, List, [], ◌∷◌, ◌≤◌, ℕ, ◌-◌, ◌+◌, ◌<◌, suc, ◌^◌, ◌/◌, ◌%◌}
-use Rattle.basics.proofs.Basics.{towards_suc, arith, length, drop, take, set, length-set, drop-cons, get_or-set_same}
-use Rattle.basics.proofs.Basics.{drop-set-lt, take-set-le, take-take, set_split}
+use Rattle.basics.proofs.Basics.{arith, length, drop, take, set, length-set, drop-cons, get_or-set_same}
+use Rattle.basics.proofs.Basics.{drop-set-lt, take-set-le, take-take, set_split, cases, ltb, ltb-true, ltb-false}
 use Rattle.dates.specs.declared.{Date.Date}
 use Rattle.line_text.specs.Decimal.{decimal, fixed}
 use Rattle.line_text.specs.Days.{date_text}
 use Rattle.line_text.specs.Between.Appending.{put}
 use Rattle.line_text.proofs.Spelling.{decimal_one, decimal_step, decimal_append, count_one, count_step, count_some}
-use Rattle.line_text.proofs.Appends.{put_sets}
 
 -- a store in front of what stands already
 store_front : (l : List ℕ) (i a : ℕ) → 0 < i → i ≤ length l → drop (i - 1) (set l (i - 1) a) ≡ a ∷ drop i l
@@ -48,6 +47,16 @@ module _ (n at : ℕ) (o₀ : List ℕ) (v i : ℕ) (o : List ℕ) (p : Left n a
       set_split o at (48 + v) room ∙
       rw (front, next, ← (decimal_append n (drop (at + length (decimal n [])) o₀)), p.text, decimal_one v (drop i o) h)
 
+-- one digit more: the others are still to be written, or all of them stand
+pub digit_put : (n at : ℕ) (o₀ : List ℕ) (v i : ℕ) (o : List ℕ) → Left n at o₀ v i o → i ≤ length o₀ →
+    (at < i - 1 → Left n at o₀ (v / 10) (i - 1) (set o (i - 1) (48 + v % 10))) ×
+    (i - 1 ≡ at → set o (i - 1) (48 + v % 10) ≡ put at (decimal n []) o₀)
+digit_put n at o₀ v i o p fit = cases (ltb v 10)
+    (λ e. let small = ltb-true v 10 e in let one = count_one v small in let here : i - 1 ≡ at = omega (arith, p.end) in
+    let last : v % 10 ≡ v = omega arith in ((λ h. absurd (omega arith)), λ h. rw (here, last) (left_done n at o₀ v i o p fit small)))
+    (λ e. let more = ltb-false v 10 e in let next = left_step n at o₀ v i o p fit more in
+    let some = left_some n at o₀ _ _ _ next in ((λ h. next), λ h. absurd (omega arith)))
+
 -- the eight digits of a date
 abbrev pub date_digits : ℕ → ℕ → ℕ → List ℕ
 date_digits y m d = (48 + y / 1000 % 10) ∷ (48 + y / 100 % 10) ∷ (48 + y / 10 % 10) ∷ (48 + y % 10) ∷
@@ -57,13 +66,3 @@ pub date_digits_lem : (x : Date) → date_text x [] ≡ date_digits x.year x.mon
 unfolding fixed
 date_digits_lem x = let hundreds : x.year / 10 / 10 ≡ x.year / 100 = omega arith in
     let thousands : x.year / 100 / 10 ≡ x.year / 1000 = omega arith in rw (hundreds, thousands)
-
--- they are stored one after the other
-module _ (x : Date) (y₁ y₂ y₃ y₄ m₁ m₂ d₁ d₂ : ℕ) where
-  pub date_put : y₁ ≡ 48 + x.year / 1000 % 10 → y₂ ≡ 48 + x.year / 100 % 10 → y₃ ≡ 48 + x.year / 10 % 10 →
-      y₄ ≡ 48 + x.year % 10 → m₁ ≡ 48 + x.month / 10 % 10 → m₂ ≡ 48 + x.month % 10 →
-      d₁ ≡ 48 + x.day / 10 % 10 → d₂ ≡ 48 + x.day % 10 → (at : ℕ) (o : List ℕ) → at + 8 ≤ length o →
-      set (set (set (set (set (set (set (set o at y₁) (at + 1) y₂) (at + 2) y₃) (at + 3) y₄) (at + 4) m₁) (at + 5) m₂)
-      (at + 6) d₁) (at + 7) d₂ ≡ put at (date_text x []) o
-  date_put hy₁ hy₂ hy₃ hy₄ hm₁ hm₂ hd₁ hd₂ at o h = simp (towards_suc, hy₁, hy₂, hy₃, hy₄, hm₁, hm₂, hd₁, hd₂, date_digits_lem x)
-      (put_sets at (date_digits x.year x.month x.day) o h)

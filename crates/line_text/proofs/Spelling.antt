@@ -1,6 +1,6 @@
 -- The decimal text of a number, digit by digit: its last digit, its length, and what stands behind it.
 use Rattle.basics.proofs.Basics.{◌≡◌, refl, ap, List, [], ◌∷◌, ◌++◌, append_assoc, ◌≤◌, ℕ, ◌+◌, ◌<◌, suc, zero, ◌^◌}
-use Rattle.basics.proofs.Basics.{◌/◌, ◌%◌, arith, ltb, length, length-append, lt-ltb, le-ltb, ltb-false, cases}
+use Rattle.basics.proofs.Basics.{◌/◌, ◌%◌, arith, ltb, length, length-append, lt-ltb, le-ltb, ltb-false, cases, pow-le-pow_right, ◌*◌}
 use Rattle.line_text.specs.Decimal.{spell, decimal}
 
 -- room for more digits than a number has changes nothing
@@ -39,6 +39,12 @@ count_one v h = ap length (decimal_one v [] h)
 
 pub count_step : (v : ℕ) → 10 ≤ v → v < 10 ^ 20 → length (decimal v []) ≡ length (decimal (v / 10) []) + 1
 count_step v h k = rw (decimal_step v [] h k, decimal_append (v / 10) ((48 + v % 10) ∷ []), length-append)
+
+pub count_between : (k n : ℕ) → 10 ^ k ≤ n → n < 10 * 10 ^ k → n < 10 ^ 20 → length (decimal n []) ≡ k + 1
+count_between zero n h small all = count_one n (omega arith)
+count_between (suc k) n h small all = let one : 10 ^ 0 ≤ 10 ^ k = pow-le-pow_right {n = 10} (omega arith) {i = 0} {j = k} (omega arith) in
+    let ten : 10 ≤ n = omega arith in
+    let rest = count_between k (n / 10) (omega arith) (omega arith) (omega arith) in omega (arith, count_step n ten all)
 
 spell_longer : (k n : ℕ) (l : List ℕ) → length l < length (spell (suc k) n l)
 unfolding spell

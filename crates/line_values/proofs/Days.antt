@@ -1,6 +1,7 @@
 -- Reading a date and writing it are inverse: a day of the calendar is read back from its date, and only from it.
+use Rattle.std.specs.Prelude.{Option, Some, None}
 use Rattle.basics.proofs.Basics.{◌≡◌, refl, ap, List, ◌≤◌, ℕ, ◌-◌, ◌<◌, ◌^◌, arith, le-leb}
-use Rattle.dates.specs.declared.{Date.Date, DayAnswer.DayAnswer, DateAnswer.DateAnswer}
+use Rattle.dates.specs.declared.{Date.Date}
 use Rattle.dates.specs.Dates.{last_day, leap_row, date_of}
 use Rattle.dates.specs.Numbers.{day_answer, date_answer}
 use Rattle.dates.proofs.Months.{row_is, length_bounds}
@@ -13,7 +14,7 @@ use Rattle.line_values.specs.Pinned.Days.{and_then, day_read, day_in}
 use Rattle.line_values.proofs.Fixed.{fixed_back, fixed_only}
 
 -- the text of a day of the calendar is that of its date
-pub on_calendar : (n : ℕ) → n ≤ last_day → date_answer n ≡ DateAnswer.On (date_of n)
+pub on_calendar : (n : ℕ) → n ≤ last_day → date_answer n ≡ Some (date_of n)
 unfolding date_answer
 on_calendar n h = rw (le-leb n last_day h)
 
@@ -44,9 +45,9 @@ then_was : (x : Parsed) (f : ℕ → List ℕ → Parsed) (n : ℕ) (r : List �
 then_was (number m t) f n r e = (m, t, refl, e)
 then_was bad f n r e = absurd (let z : ◌≡◌ {A = ℕ} 0 1 = cc in omega arith)
 
-answer_was : (a : DayAnswer) (l : List ℕ) (n : ℕ) (r : List ℕ) → day_read a l ≡ number n r → (a ≡ DayAnswer.Day n) × (l ≡ r)
-answer_was (DayAnswer.Day k) l n r e = let q : k ≡ n = cc in (ap DayAnswer.Day q, cc)
-answer_was DayAnswer.NoDate l n r e = absurd (let z : ◌≡◌ {A = ℕ} 0 1 = cc in omega arith)
+answer_was : (a : Option ℕ) (l : List ℕ) (n : ℕ) (r : List ℕ) → day_read a l ≡ number n r → (a ≡ Some n) × (l ≡ r)
+answer_was (Some k) l n r e = let q : k ≡ n = cc in (ap Some q, cc)
+answer_was None l n r e = absurd (let z : ◌≡◌ {A = ℕ} 0 1 = cc in omega arith)
 
 pub day_only : (n : ℕ) (l r : List ℕ) → day_in l ≡ number n r → (l ≡ day_text n r) × (n ≤ last_day)
 unfolding day_in

@@ -1,10 +1,9 @@
 -- What reading leaves is the end of the text, and it stands at the position that is handed back.
+use Rattle.std.specs.Prelude.{Option, Some, None}
 use Rattle.basics.proofs.Basics.{◌≡◌, refl, sym, ◌∙◌, ap, List, [], ◌∷◌, ◌++◌, append_assoc, ◌≤◌, ℕ, ◌-◌, ◌+◌, suc}
 use Rattle.basics.proofs.Basics.{zero, ◌*◌, ◌^◌, arith, eqb, ltb, length, drop, length-append, drop-drop, drop_at}
 use Rattle.basics.proofs.Basics.{cases}
-use Rattle.dates.specs.declared.{DayAnswer.DayAnswer}
 use Rattle.dates.specs.Numbers.{day_answer}
-use Rattle.line_values.specs.declared.{Found.Found}
 use Rattle.line_values.specs.Pinned.Numbers.{Parsed, number, bad, is_digit, more_of, number_of, fixed_of}
 use Rattle.line_values.specs.Between.Places.{found_at}
 use Rattle.line_values.specs.Pinned.Days.{and_then, day_read, day_in}
@@ -66,9 +65,9 @@ fixed_leaves (suc k) v [] = tt
 fixed_leaves (suc k) v (c ∷ l) = cases (is_digit c)
     (λ e. rw e (leaves_cons c l (fixed_of k (v * 10 + (c - 48)) l) (fixed_leaves k (v * 10 + (c - 48)) l))) (λ e. rw e tt)
 
-pub answer_leaves : (a : DayAnswer) (l : List ℕ) → Leaves l (day_read a l)
-answer_leaves (DayAnswer.Day n) l = ends_self l
-answer_leaves DayAnswer.NoDate l = tt
+pub answer_leaves : (a : Option ℕ) (l : List ℕ) → Leaves l (day_read a l)
+answer_leaves (Some n) l = ends_self l
+answer_leaves None l = tt
 
 pub month_leaves : (y m : ℕ) (l : List ℕ) → Leaves l (and_then (fixed_of 2 0 l) (λ d r. day_read (day_answer y m d) r))
 month_leaves y m l = leaves_then l (fixed_of 2 0 l) _ (fixed_leaves 2 0 l) (λ d r. answer_leaves (day_answer y m d) r)
@@ -91,12 +90,12 @@ pub further : (at : ℕ) (l r t : List ℕ) → Ends l r → Ends r t →
 further at l r t e f = let a = ends_short l r e in let b = ends_short r t f in omega arith
 
 -- what is handed back of a text that is read in two steps
-abbrev pub on_found : Found → (ℕ → ℕ → Found) → Found
-on_found (Found.Value v i) f = f v i
-on_found Found.Bad f = Found.Bad
+abbrev pub on_found : Option (ℕ × ℕ) → (ℕ → ℕ → Option (ℕ × ℕ)) → Option (ℕ × ℕ)
+on_found (Some (v, i)) f = f v i
+on_found None f = None
 
 found_on : (at : ℕ) (l r : List ℕ) (x : Parsed) → Ends l r → Leaves r x → found_at at l x ≡ found_at (at + (length l - length r)) r x
-found_on at l r (number v t) e f = ap (Found.Value v) (further at l r t e f)
+found_on at l r (number v t) e f = ap (λ (i : ℕ). Some (v, i)) (further at l r t e f)
 found_on at l r bad e f = refl
 
 pub found_then : (s : List ℕ) (at : ℕ) (x : Parsed) (f : ℕ → List ℕ → Parsed) → Leaves (drop at s) x →
@@ -106,9 +105,9 @@ found_then s at (number n r) f a b = rw (end_place s at r a) (found_on at (drop 
 found_then s at bad f a b = refl
 
 -- a value behind which all is left, and what is read behind one byte
-pub found_here : (i v : ℕ) (l : List ℕ) → found_at i l (number v l) ≡ Found.Value v i
-found_here i v l = ap (Found.Value v) (omega arith)
+pub found_here : (i v : ℕ) (l : List ℕ) → found_at i l (number v l) ≡ Some (v, i)
+found_here i v l = ap (λ (i : ℕ). Some (v, i)) (omega arith)
 
 pub found_next : (i c : ℕ) (l : List ℕ) (x : Parsed) → Leaves l x → found_at i (c ∷ l) x ≡ found_at (i + 1) l x
-found_next i c l (number v r) e = let short = ends_short l r e in ap (Found.Value v) (omega arith)
+found_next i c l (number v r) e = let short = ends_short l r e in ap (λ (i : ℕ). Some (v, i)) (omega arith)
 found_next i c l bad e = refl

@@ -5,8 +5,8 @@ use Rattle.line_text.specs.Longest.{longest_line}
 use Rattle.line_text.proofs.Appends.{Rest, rest_start, rest_next, zeros_put}
 use Rattle.line_fields.specs.Fields.{fields_text}
 use Rattle.line_fields.specs.Between.Shapes.{most_fields, fields_as}
-use Rattle.line_kinds.specs.declared.{KindRow.KindRow}
-use Rattle.line_kinds.specs.Kinds.{word, row_of}
+use Rattle.line_fields.specs.declared.{Shape.Shape}
+use Rattle.line_kinds.specs.Kinds.{word, shape_of}
 use Rattle.line_kinds.proofs.KindTable.{sound}
 use Rattle.line_messages.specs.declared.{Message.Message, Values.Values}
 use Rattle.line_messages.specs.Lines.{said, line_of}
@@ -19,17 +19,17 @@ use Rattle.line_writing.specs.Between.Written.{written_line}
 abbrev blank : List ℕ
 blank = replicate longest_line 0
 
--- the values of a message, and its kind's row
-module _ (m : Message) (p : Values) (row : KindRow) (hp : p ≡ values_of (said m)) (hr : row ≡ row_of p.kind) where
-  pub few_values : row.shape.count ≤ most_fields
-  few_values = rw hr (sound p.kind).few
+-- the values of a message, and its kind's shape
+module _ (m : Message) (p : Values) (shape : Shape) (hp : p ≡ values_of (said m)) (hs : shape ≡ shape_of p.kind) where
+  pub few_values : shape.count ≤ most_fields
+  few_values = rw hs (sound p.kind).few
 
-  pub values_are : fields_as row.shape p.values ≡ (said m).fields
-  values_are = rw (hr, hp) (fields_own m)
+  pub values_are : fields_as shape p.values ≡ (said m).fields
+  values_are = rw (hs, hp) (fields_own m)
 
   module _ (fit : is_writable m ≡ true) (o₁ : List ℕ) (at : ℕ) (w : Appended 0 (word p.kind) blank o₁ at) where
     abbrev fields : List ℕ
-    fields = fields_text (fields_as row.shape p.values)
+    fields = fields_text (fields_as shape p.values)
 
     line_is : line_of m ≡ word p.kind ++ fields
     line_is = rw (values_are, hp)
@@ -41,7 +41,7 @@ module _ (m : Message) (p : Values) (row : KindRow) (hp : p ≡ values_of (said 
     begun = rest_next 0 _ blank 0 (word p.kind) fields blank at o₁ (rest_start 0 _ blank (omega (arith, room))) w
 
     -- there is room for the fields
-    pub fields_room : (row.shape.count ≤ most_fields) × (at + length fields ≤ length o₁)
+    pub fields_room : (shape.count ≤ most_fields) × (at + length fields ≤ length o₁)
     fields_room = (few_values, omega (arith, begun.end, begun.long, begun.fits))
 
     -- and the line is what is written

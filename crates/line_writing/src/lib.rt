@@ -18,7 +18,7 @@ use line_text::LONGEST_LINE;
 use line_text::write::{put_byte, put_day, put_number};
 use rules::{Action, PointAction};
 
-// A line: its first len bytes. The bytes behind them are 0.
+// A line: its first len bytes. The bytes behind them are 0. The length stands beside, since memory is fixed.
 #[derive(Clone, Copy)]
 pub struct Line {
     pub len: usize,
@@ -29,17 +29,14 @@ pub struct Line {
 pub fn write_line(m: Message) -> Line
     ensures { result ≡ written_line m }
 {
-    let mut bytes = [0u8; LONGEST_LINE];
+    let mut bytes = [0; LONGEST_LINE];
     if !is_writable(m) {
         return Line { len: 0, bytes };
     }
     let v = values_of(m);
-    let kind = v.kind;
-    let values = v.values;
-    let row = row_of(kind);
-    let shape = row.shape;
-    let at = put_kind(&mut bytes, 0, kind);
-    let len = put_fields(&mut bytes, at, values, shape);
+    let shape = row_of(v.kind).shape;
+    let at = put_kind(&mut bytes, 0, v.kind);
+    let len = put_fields(&mut bytes, at, v.values, shape);
     Line { len, bytes }
 }
 
@@ -51,11 +48,7 @@ pub fn is_writable(m: Message) -> bool
         return false;
     }
     let v = values_of(m);
-    let kind = v.kind;
-    let values = v.values;
-    let row = row_of(kind);
-    let shape = row.shape;
-    fit_all(values, shape)
+    fit_all(v.values, row_of(v.kind).shape)
 }
 
 // A message's kind and values.
@@ -67,10 +60,7 @@ fn values_of(m: Message) -> Values
             kind: Kind::Set,
             values: [o.day, o.w, o.a, o.b, o.default, o.resort, 0, 0, 0],
         },
-        Message::Ask(c) => {
-            let action = c.action;
-            call_values(c.today, action)
-        }
+        Message::Ask(c) => call_values(c.today, c.action),
         Message::Unreadable => Values {
             kind: Kind::Unknown,
             values: [0, 0, 0, 0, 0, 0, 0, 0, 0],
@@ -150,15 +140,10 @@ fn fit_all(values: [u64; MOST_FIELDS], shape: Shape) -> bool
     requires { shape.count ≤ most_fields }
     ensures { result ≡ fit_all (fields_as shape values) }
 {
-    let count = shape.count;
-    let second = shape.second;
-    let mut i: usize = 0;
-    while i < count {
-        let sort = sort_at(second, i);
-        if !fits(sort, values[i]) {
+    for i in 0..shape.count {
+        if !fits(sort_at(shape.second, i), values[i]) {
             return false;
         }
-        i += 1;
     }
     true
 }
@@ -168,7 +153,7 @@ fn fits(sort: Sort, n: u64) -> bool
     ensures { result ≡ fields_fits sort n }
 {
     match sort {
-        Sort::Date => n <= LAST_DAY as u64,
+        Sort::Date => n <= u64::from(LAST_DAY),
         Sort::Number => n < 1_000_000_000_000,
     }
 }
@@ -179,15 +164,9 @@ fn put_fields(out: &mut [u8], from: usize, values: [u64; MOST_FIELDS], shape: Sh
     requires values_in_bounds { from + length (fields_text (fields_as shape values)) ≤ length out.old }
     ensures { Appended from (fields_text (fields_as shape values)) out.old out.new result }
 {
-    let count = shape.count;
-    let second = shape.second;
     let mut at = from;
-    let mut i: usize = 0;
-    while i < count {
-        let sort = sort_at(second, i);
-        let n = values[i];
-        at = put_field(out, at, sort, n);
-        i += 1;
+    for i in 0..shape.count {
+        at = put_field(out, at, sort_at(shape.second, i), values[i]);
     }
     at
 }

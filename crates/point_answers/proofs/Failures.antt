@@ -1,4 +1,5 @@
 -- A failure is answered by the rows before its last, and then by number 30.
+use Rattle.rules.specs.declared.{Rejection.Rejection}
 use Rattle.basics.proofs.Basics.{◌≡◌, refl, true, Bool, ◌&&◌, List, ◌≤◌, ℕ, zero, suc, arith, ltb, ltb-false, ne_eqb}
 use Rattle.dates.specs.Dates.{last_day}
 use Rattle.rules.specs.declared.{Action.Action, Answer.Answer, Settings.Settings, View.View}
@@ -22,7 +23,7 @@ module _ (S : Settings) (day : ℕ) (u : List Bool) (t s : ℕ) where
 
   pub failure_answer_lem : (v : ℕ → View) → answer_to S day u t (Action.Failure s) v
       ≡ after (answer_apart S day u t (Action.Failure s))
-      (any_point 1 32 (λ p. touches s (v p).fields && is_full (v p) (failed S t s (v p).fields)) ⇒ 30)
+      (any_point 1 32 (λ p. touches s (v p).fields && is_full (v p) (failed S t s (v p).fields)) ⇒ Rejection.PeriodsFull)
   unfolding answer_to rows accepted failure_rows all_refuse
   failure_answer_lem v = rw failure_apart (last_row (failure_rows S day u t s) _ Answer.Accepted refl refl)
 

@@ -17,86 +17,60 @@ use rules::{Answer, NewMeter, Pending};
 pub fn is_accepted(a: Answer) -> bool
     ensures { result ≡ is_accepted a }
 {
-    match a {
-        Answer::Accepted => true,
-        Answer::AcceptedOn(_) => true,
-        Answer::Refused(_) => false,
-        Answer::RefusedUntil(_) => false,
-    }
-}
-
-pub fn or(a: bool, b: bool) -> bool
-    ensures { result ≡ (a || b) }
-{
-    if a {
-        return true;
-    }
-    b
+    matches!(a, Answer::Accepted | Answer::AcceptedOn(_))
 }
 
 // n is not lo to hi.
 pub fn outside(lo: u64, hi: u64, n: u64) -> bool
     ensures { result ≡ rejections_outside lo hi n }
 {
-    if n < lo {
-        return true;
-    }
-    hi < n
+    !(lo..=hi).contains(&n)
 }
 
 // 22: the wheels of a meter are out of range.
 fn not_wheels(before: u64, after: u64) -> bool
     ensures { result ≡ not_wheels before after }
 {
-    or(outside(1, 8, before), outside(0, 3, after))
+    outside(1, 8, before) || outside(0, 3, after)
 }
 
 // 22: the wheels or the code of a meter.
 pub fn not_meter(m: NewMeter) -> bool
     ensures { result ≡ not_meter m }
 {
-    or(not_wheels(m.before, m.after), outside(1, 2, m.code))
+    not_wheels(m.before, m.after) || outside(1, 2, m.code)
 }
 
 // 40: the factor is out of range where cubic metres are counted, or not 0 where normal ones are.
 pub fn bad_factor(m: NewMeter) -> bool
     ensures { result ≡ bad_factor m }
 {
-    if m.code == 1 {
-        return outside(1, 99999, m.factor);
+    match m.code {
+        1 => outside(1, 99999, m.factor),
+        2 => m.factor != 0,
+        _ => false,
     }
-    if m.code == 2 {
-        return m.factor != 0;
-    }
-    false
 }
 
 // 1: s is not under contract.
 pub fn no_contract(contracts: [bool; 100], s: u64) -> bool
     ensures { result ≡ no_contract contracts s }
 {
-    if s < 100 {
-        let i = s as usize;
-        return !contracts[i];
-    }
-    true
+    contracts.get(s as usize) != Some(&true)
 }
 
 // 2: no point, or not enrolled.
 pub fn not_enrolled(p: u64, enrolled: bool) -> bool
     ensures { result ≡ (not_point p || not enrolled) }
 {
-    or(outside(1, 32, p), !enrolled)
+    outside(1, 32, p) || !enrolled
 }
 
 // 5: a request is pending.
 pub fn is_pending(q: Pending) -> bool
     ensures { result ≡ is_pending q }
 {
-    match q {
-        Pending::Nothing => false,
-        Pending::Request(_, _) => true,
-    }
+    matches!(q, Pending::Request(_, _))
 }
 
 // 25: the pending request is by s.
@@ -106,21 +80,17 @@ pub fn is_by(s: u64, q: Pending) -> bool
     let Pending::Request(by, _) = q else {
         return false;
     };
-    by as u64 == s
+    u64::from(by) == s
 }
 
 // 28: the index is no index of the wheels, or it and the zero mark do not go with the last one.
 pub fn index_disagrees(turn: u64, last: u64, x: u64, z: u64) -> bool
     ensures { result ≡ (leb turn x || (eqb z 0 && ltb x last) || (eqb z 1 && not (ltb x last))) }
 {
-    if turn <= x {
-        return true;
-    }
-    if z == 0 {
-        return x < last;
-    }
-    if z == 1 {
-        return last <= x;
-    }
-    false
+    turn <= x
+        || match z {
+            0 => x < last,
+            1 => last <= x,
+            _ => false,
+        }
 }

@@ -11,8 +11,7 @@ fn kind_due(k: SupplyKind) -> usize
     ensures { (result ≡ kind_due k) × (result ≤ 2) }
 {
     match k {
-        SupplyKind::None => 0,
-        SupplyKind::Contract => 0,
+        SupplyKind::None | SupplyKind::Contract => 0,
         SupplyKind::Default(_) => 2,
         SupplyKind::LastResort(_) => 1,
     }
@@ -28,40 +27,25 @@ fn pending_due(q: Pending) -> usize
 }
 
 // What the checks see of a point on day t.
+#[tactic(auto, unfolding(rules::specs::Pinned::Register::starts_on))]
 pub fn view_of(t: u64, g: Point) -> View
     ensures { result ≡ view t g }
 {
-    let f = g.fields;
-    let h = g.history;
-    let n = period_count(h);
-    if n == 0 {
-        return View {
-            fields: f,
-            marks: 0,
-            marked: false,
-        };
-    }
-    let q = h.periods[n - 1];
+    let n = period_count(g.history);
     View {
-        fields: f,
+        fields: g.fields,
         marks: n,
-        marked: q.start as u64 == t,
+        marked: 0 < n && u64::from(g.history.periods[n - 1].start) == t,
     }
 }
 
 // 30: the marks after the call, and those due under the kind and the request that it leaves, exceed 24. A holder named
-// today marks today's cell.
+// today marks today's cell; `names` is that part of the call's effect, as it stands in the clause, and chooses no step.
 pub fn is_full(v: View, names: bool, k: SupplyKind, q: Pending) -> bool
     ensures { result ≡
         ltb 24 (cond names (v.marks + cond v.marked 0 1) v.marks + (pending_due q + kind_due k)) }
 {
-    let n = v.marks;
     let due = pending_due(q) + kind_due(k);
-    if names {
-        if v.marked {
-            return 24 - due < n;
-        }
-        return 23 - due < n;
-    }
-    24 - due < n
+    let new = usize::from(names && !v.marked);
+    24 < v.marks.saturating_add(due + new)
 }

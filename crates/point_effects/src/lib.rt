@@ -11,11 +11,11 @@ ghost use Rattle.point_effects.specs.Between.{ruling_at, noted};
 use effects::effect_of;
 pub use effects::{fail, fills};
 pub use events::{catch_up, due_by};
-use point_answers::answer_at;
+use point_answers::{Situation, answer_at};
 use point_checks::is_accepted;
 use point_periods::named;
 use point_volumes::book;
-use rules::{Answer, Effect, Fields, History, Point, PointAction, Settings, View};
+use rules::{Answer, Effect, Fields, History, Point, PointAction};
 
 // The answer to a call, and what it does to the point.
 #[derive(Clone, Copy)]
@@ -24,38 +24,22 @@ pub struct Ruling {
     pub effect: Effect,
 }
 
-// A call that names point p, of which the checks see v, brought up to today. A refused call keeps the fields.
-pub fn ruling_at(
-    set: Settings,
-    day: u32,
-    contracts: [bool; 100],
-    today: u64,
-    p: u64,
-    a: PointAction,
-    v: View,
-) -> Ruling
-    ensures { result ≡ ruling_at set day contracts today p a v }
+// A call that names a point, of which the checks see it brought up to today. A refused call keeps the fields.
+#[tactic(auto, unfolding(crate::specs::Between::ruling_at))]
+pub fn ruling_at(x: Situation, a: PointAction) -> Ruling
+    ensures { result ≡ ruling_at x.settings x.day x.contracts x.today x.point a x.view }
 {
-    let f = v.fields;
-    let answer = answer_at(set, day, contracts, today, p, a, v);
+    let f = x.view.fields;
+    let answer = answer_at(x, a);
     if is_accepted(answer) {
         return Ruling {
-            answer: answer,
-            effect: effect_of(set, today as u32, a, f),
+            answer,
+            effect: effect_of(x.settings, x.today as u32, a, f),
         };
     }
     Ruling {
-        answer: answer,
+        answer,
         effect: Effect::Keep(f),
-    }
-}
-
-fn point(f: Fields, h: History) -> Point
-    ensures { result ≡ record { fields = f; history = h } }
-{
-    Point {
-        fields: f,
-        history: h,
     }
 }
 
@@ -63,19 +47,26 @@ fn point(f: Fields, h: History) -> Point
 fn named_point(day: u32, f: Fields, h: History) -> Point
     ensures { result ≡ record { fields = f; history = register_named day f.supply.holder h } }
 {
-    let now = f.supply;
-    point(f, named(day, now.holder, h))
+    Point {
+        fields: f,
+        history: named(day, f.supply.holder, h),
+    }
 }
 
 // An effect on a day, written down at a point with these periods.
+#[tactic(auto, unfolding(crate::specs::Between::noted))]
 pub fn note(day: u32, e: Effect, h: History) -> Point
     ensures { result ≡ noted day e h }
 {
     match e {
-        Effect::Keep(f) => point(f, h),
-        Effect::Name(f) => named_point(day, f, h),
-        Effect::Enrol(f) => named_point(day, f, h),
-        Effect::Read(s, f) => point(f, book(s, h)),
-        Effect::Request(_, f) => point(f, h),
+        Effect::Keep(f) | Effect::Request(_, f) => Point {
+            fields: f,
+            history: h,
+        },
+        Effect::Name(f) | Effect::Enrol(f) => named_point(day, f, h),
+        Effect::Read(s, f) => Point {
+            fields: f,
+            history: book(s, h),
+        },
     }
 }

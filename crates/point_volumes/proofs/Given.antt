@@ -1,6 +1,6 @@
 -- What a reading has given before a day, at its ends and between them.
-use Rattle.basics.proofs.Basics.{◌≡◌, ◌≤◌, ℕ, ◌-◌, ◌<◌, ◌*◌, ◌^◌, min, ◌/◌, le_trans, mul-le-mul_right, mul-le-mul_left}
-use Rattle.basics.proofs.Basics.{mul-div_left, mul_comm, mul-zero, zero-mul, zero-div, mul-le-mul, div-le_of_le-mul}
+use Rattle.basics.proofs.Basics.{◌≡◌, ◌≤◌, ℕ, ◌-◌, ◌*◌, min, ◌/◌, le_trans, mul-le-mul_right, mul-le-mul_left}
+use Rattle.basics.proofs.Basics.{mul-div_left, mul_comm, mul-zero, zero-mul, zero-div, div-le_of_le-mul}
 use Rattle.basics.proofs.Basics.{arith}
 use Rattle.rules.specs.declared.{Span.Span}
 use Rattle.rules.specs.Volumes.{up_to, given}
@@ -25,6 +25,3 @@ module _ (s : Span) (f : Fair s) (d : ℕ) where
   part_most le = le_trans (mul-le-mul_right s.unit
       (div-le_of_le-mul _ (rw (mul_comm (s.to - s.from) s.advance) (mul-le-mul_left s.advance (omega arith)))))
       f.volume
-
-  pub product_small : d ≤ s.to → s.advance * (d - s.from) < 2 ^ 64
-  product_small le = let k : d - s.from ≤ 73048 = omega (arith, f.within) in omega (arith, mul-le-mul f.small k)

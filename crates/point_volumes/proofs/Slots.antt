@@ -1,5 +1,8 @@
 -- Booking the slots, one turn of the loop: the newest of the first i is booked, and it is the last or the next older one follows.
-use Rattle.basics.proofs.Basics.{◌≡◌, refl, List, ◌≤◌, ℕ, ◌-◌, ◌<◌, suc, zero, arith, get_or, set, le-leb, lt-leb}
+use Rattle.basics.proofs.Basics.{◌≡◌, refl, ◌∙◌, List, ◌++◌, ◌≤◌, ℕ, ◌-◌, ◌<◌, suc, zero, arith, get_or, set, le-leb, lt-leb, leb, cases}
+use Rattle.basics.proofs.Basics.{length, take, drop, length-take-le, get_or-take}
+use Rattle.std.proofs.lemmas.List.{drop-set-lt, take-append-drop}
+use Rattle.std.proofs.Math.Seq.{take-set-lt}
 use Rattle.rules.specs.declared.{Period.Period, Span.Span}
 use Rattle.rules.specs.Pinned.Register.{no_period, booked_period, booked_slots}
 
@@ -21,3 +24,26 @@ module _ (s : Span) (e : ℕ) where
   pub slots_none : (ps : List Period) → booked_slots s e 0 ps ≡ ps
   unfolding booked_slots
   slots_none ps = refl
+
+module _ (s : Span) where
+  -- the first n of the first m, and what stands behind them
+  slots_first : (m n e : ℕ) (ps : List Period) → n ≤ m → booked_slots s e n (take m ps) ≡ take m (booked_slots s e n ps)
+  unfolding booked_slots
+  slots_first m zero e ps le = refl
+  slots_first m (suc n) e ps le =
+      let q = get_or ps n no_period in let x = booked_period s e q in
+      rw (get_or-take m ps n no_period (omega arith), ← (take-set-lt m ps n x (omega arith)))
+      (cases (leb q.start s.from) (λ l. rw l) (λ l. rw l (slots_first m n q.start (set ps n x) (omega arith))))
+
+  slots_behind : (m n e : ℕ) (ps : List Period) → n ≤ m → drop m (booked_slots s e n ps) ≡ drop m ps
+  unfolding booked_slots
+  slots_behind m zero e ps le = refl
+  slots_behind m (suc n) e ps le =
+      let q = get_or ps n no_period in let x = booked_period s e q in let k = drop-set-lt m ps n x (omega arith) in
+      cases (leb q.start s.from) (λ l. rw l k) (λ l. rw l (slots_behind m n q.start (set ps n x) (omega arith) ∙ k))
+
+  -- the first n booked by themselves, before the others
+  pub slots_used : (n e : ℕ) (ps : List Period) → n ≤ length ps
+      → booked_slots s e (length (take n ps)) (take n ps) ++ drop n ps ≡ booked_slots s e n ps
+  slots_used n e ps le = rw (length-take-le n ps le, slots_first n n e ps (omega arith), ← (slots_behind n n e ps (omega arith)))
+      (take-append-drop n (booked_slots s e n ps))

@@ -1,16 +1,15 @@
 -- The questions after any list of calls. The statement is specs/Asking.antt.
-use Rattle.basics.proofs.Basics.{◌≡◌, refl, sym, ◌∙◌, ap, ap₂, true, false, Bool, cond, ◌&&◌, ◌||◌, or-true, some, Option}
+use Rattle.std.specs.Prelude.{Option, Some, None}
+use Rattle.basics.proofs.Basics.{◌≡◌, refl, sym, ◌∙◌, ap, ap₂, true, false, Bool, cond, ◌&&◌, ◌||◌, or-true, some}
+use Rattle.basics.proofs.Basics.{Option as Told}
 use Rattle.basics.proofs.Basics.{none, List, [], ◌∷◌, ◌≤◌, ℕ, ◌-◌, ◌<◌, suc, zero, ◌^◌, not-suc-le-zero, dec_le, arith}
 use Rattle.basics.proofs.Basics.{eqb, ltb, leb, length, lt-ltb, le-leb, le-ltb, lt-leb, ne_eqb, not-true, not-false}
 use Rattle.basics.proofs.Basics.{cases}
 use Rattle.dates.specs.Dates.{last_day}
 use Rattle.rules.specs.declared.{Opening.Opening, Call.Call, Register.Register, Span.Span, Point.Point}
-use Rattle.questions.specs.declared.{Held.Held, PeriodAnswer.PeriodAnswer, AdvanceAnswer.AdvanceAnswer}
-use Rattle.questions.specs.declared.PeriodAnswer.TheVariants as period
-use Rattle.questions.specs.declared.AdvanceAnswer.TheVariants as advance
 use Rattle.rules.specs.Volumes.{registered, registered_normal}
 use Rattle.rules.specs.Answers.{is_accepted}
-use Rattle.questions.specs.Pinned.Questions.{held_number, held_told, holder_number, holder_told, period_number, period_told, advance_number, advance_told}
+use Rattle.questions.specs.Pinned.Questions.{question_number, question_told, holder_number, holder_told, period_told, advance_told}
 use Rattle.rules.specs.Rejections.{opening_answer, not_point}
 use Rattle.rules.specs.Pinned.Register.{used, point_at}
 use Rattle.questions.specs.Pinned.Questions.{unasked, refused_holder, holder_among, holder_answer, period_answer, sum_of, advances, advance_answer}
@@ -36,17 +35,9 @@ use Rattle.questions.proofs.Latest.{searched, probes_told, newest_one, falling_r
 use Rattle.questions.proofs.ByBook.{periods_told, nth_in, nth_past}
 
 -- A number is 22 exactly where nothing is told.
-held_number_lem : (x : Held) → held_number x ≡ asked_number (held_told x)
-held_number_lem (Held.Holder h) = refl
-held_number_lem Held.OffRange = refl
-
-period_number_lem : (a : PeriodAnswer) → period_number a ≡ asked_number (period_told a)
-period_number_lem (period.Of q) = refl
-period_number_lem period.OffRange = refl
-
-advance_number_lem : (a : AdvanceAnswer) → advance_number a ≡ asked_number (advance_told a)
-advance_number_lem (advance.Of a) = refl
-advance_number_lem advance.OffRange = refl
+number_lem : {A : Type 0} (a : Option A) → question_number a ≡ asked_number (question_told a)
+number_lem (Some x) = refl
+number_lem None = refl
 
 -- One point, after a list of calls.
 module _ (o : Opening) (ok : is_accepted (opening_answer o) ≡ true) (calls : List Call) (p : ℕ) where
@@ -92,7 +83,7 @@ module _ (o : Opening) (ok : is_accepted (opening_answer o) ≡ true) (calls : L
 
   -- a point that may not be asked of: the day book has nothing to tell
   module _ (off : unasked r p ≡ true) where
-    none_made : {A : Type 0} (f : ℕ → Option A) → cond (not_point p) none (since_enrolment n f) ≡ none
+    none_made : {A : Type 0} (f : ℕ → Told A) → cond (not_point p) none (since_enrolment n f) ≡ none
     none_made f = cases (not_point p) (λ e. rw e) (λ e. let k = range_in 1 32 p e in rw (e, (unborn k.0 k.1 off).0))
 
     none_kept : (b : Bool) (m : ℕ) → cond (not_point p || b) none (nth m (book_periods o calls p)) ≡ none
@@ -149,9 +140,9 @@ module _ (o : Opening) (ok : is_accepted (opening_answer o) ≡ true) (calls : L
         let small : wholes_on x l < 2 ^ 64 = omega (arith, h.point.sum x, (h.point.firm x).most, within x g.fields.reading.day days) in
         sum_exact x point.history.count point.history.periods (rw (h.point.sum x) small) ∙ h.point.sum x
 
-    advance_asked : advance_answer r p ≡ advance.Of (advances (registered l) (registered_normal l))
+    advance_asked : advance_answer r p ≡ Some (advances (registered l) (registered_normal l))
     unfolding advance_answer
-    advance_asked = rw (on, used_all) (ap₂ (λ (v n : ℕ). advance.Of (advances v n)) (sum_asked wheels) (sum_asked normal))
+    advance_asked = rw (on, used_all) (ap₂ (λ (v n : ℕ). Some (advances v n)) (sum_asked wheels) (sum_asked normal))
 
     period_asked : (m : ℕ) → period_told (period_answer r p m) ≡ cond (eqb m 0) none (nth (m - 1) (periods_of point))
     unfolding period_answer
@@ -208,12 +199,12 @@ asking =
     record {
       agree = λ o ok calls. record {
         holder = holder_is o ok calls;
-        holder_number_lem = λ p d. held_number_lem (holder_answer (register o calls) p d).held ∙ ap asked_number (holder_is o ok calls p d);
+        holder_number_lem = λ p d. number_lem (holder_answer (register o calls) p d).held ∙ ap asked_number (holder_is o ok calls p d);
         probes = probes_is o ok calls;
         period = period_is o ok calls;
-        period_number_lem = λ p n. period_number_lem (period_answer (register o calls) p n) ∙ ap asked_number (period_is o ok calls p n);
+        period_number_lem = λ p n. number_lem (period_answer (register o calls) p n) ∙ ap asked_number (period_is o ok calls p n);
         advance = advance_is o ok calls;
-        advance_number_lem = λ p. advance_number_lem (advance_answer (register o calls) p) ∙ ap asked_number (advance_is o ok calls p);
+        advance_number_lem = λ p. number_lem (advance_answer (register o calls) p) ∙ ap asked_number (advance_is o ok calls p);
         answered = answered_on o ok calls;
       };
       latest = record { search = searched; recent = newest_one; rising = rising };

@@ -4,7 +4,7 @@ use Rattle.dates.specs.Dates.{last_day}
 use Rattle.rules.specs.declared.{Register.Register, Opening.Opening, Call.Call, Action.Action}
 use Rattle.rules.specs.Answers.{is_accepted}
 use Rattle.rules.specs.Rejections.{answer, opening_answer}
-use Rattle.rules.specs.Pinned.Register.{register, advanced, says, done, applied, after, opened}
+use Rattle.rules.specs.Pinned.Register.{advanced, says, done, applied, after, opened}
 use Rattle.rules.proofs.Accept.{pass}
 use Rattle.rules.proofs.Views.{passed}
 

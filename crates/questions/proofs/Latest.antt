@@ -1,7 +1,7 @@
 -- 02, F-1: on rising starts the search from the newest period is the walk over all of them. The statement is
 -- specs/Latest.antt.
-use Rattle.basics.proofs.Basics.{◌≡◌, refl, ap, true, false, Bool, cond, ◌||◌, some, Option, none, List, []}
-use Rattle.basics.proofs.Basics.{◌∷◌, ◌++◌, map, ◌≤◌, ℕ, ◌+◌, ◌<◌, suc, zero, zero-add, dec_le, arith, ltb, leb}
+use Rattle.basics.proofs.Basics.{◌≡◌, refl, ◌∙◌, ap, true, false, Bool, cond, ◌||◌, some, Option, none, List, []}
+use Rattle.basics.proofs.Basics.{◌∷◌, ◌++◌, map, ◌≤◌, ℕ, ◌-◌, ◌+◌, ◌<◌, suc, zero, zero-add, dec_le, arith, ltb, leb}
 use Rattle.basics.proofs.Basics.{length, take, get_or, take-suc, lt-ltb, le-leb, le-ltb, lt-leb}
 use Rattle.rules.specs.declared.{Period.Period, History.History, Register.Register}
 use Rattle.rules.specs.Pinned.Register.{no_period, used, newest, point_at}
@@ -84,7 +84,9 @@ probes_told r p d slots rise = go (unasked r p || ltb r.day d)
 
 -- the newest period is the first that is looked at
 pub newest_one : (d : ℕ) (h : History) → 0 < used h → (newest h).start ≤ d → (holder_in d h).probes ≡ 1
-newest_one d h any le = ap (λ (a : HolderAnswer). a.probes) (among_found d 0 h.periods (used h) any le)
+newest_one d h any le = ap (λ (a : HolderAnswer). a.probes)
+    (among_found d h.periods (used h - 1) 0 (used h) (omega arith) le (λ j lo hi. absurd (omega (arith, any, lo, hi))))
+    ∙ omega arith
 
 -- periods that fall from the newest down rise from the oldest up, and all start before day e
 rises : (n : ℕ) (ps : List Period) (e : ℕ) → Desc e (recent wheels n ps) → Below n ps e × Rises n ps

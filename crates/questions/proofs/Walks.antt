@@ -1,27 +1,43 @@
 -- The walks of the questions over a point's periods, one turn of each loop.
-use Rattle.basics.proofs.Basics.{◌≡◌, refl, List, ◌≤◌, ℕ, ◌-◌, ◌+◌, ◌<◌, suc, zero, ◌^◌, ◌%◌, add-one, arith, get_or}
-use Rattle.basics.proofs.Basics.{le-leb, lt-leb}
+use Rattle.basics.proofs.Basics.{◌≡◌, refl, List, ◌≤◌, ℕ, ◌-◌, ◌+◌, ◌<◌, suc, zero, ◌^◌, ◌%◌, add-one, arith, get_or, dec_le}
+use Rattle.basics.proofs.Basics.{le-leb, lt-leb, length, take, get_or-take, length-take-le}
 use Rattle.rules.specs.declared.{Period.Period}
 use Rattle.rules.specs.Pinned.Register.{no_period}
 use Rattle.questions.specs.Pinned.Questions.{held, refused_holder, holder_among, sum_of}
 
-module _ (d k : ℕ) (ps : List Period) where
-  pub among_found : (i : ℕ) → 0 < i → (get_or ps (i - 1) no_period).start ≤ d
-      → holder_among d k i ps ≡ held (get_or ps (i - 1) no_period).holder (k + 1)
-  unfolding holder_among
-  among_found zero h le = absurd (omega arith)
-  among_found (suc i) h le = let e : suc i - 1 ≡ i = omega arith in
-      let l : (get_or ps i no_period).start ≤ d = rw e at le in rw (e, le-leb _ _ l)
+-- The n periods from slot i on start after day d.
+abbrev Later : ℕ → ℕ → ℕ → List Period → Type 0
+Later d i n ps = (k : ℕ) → i ≤ k → k < n → d < (get_or ps k no_period).start
 
-  pub among_passed : (i : ℕ) → 0 < i → d < (get_or ps (i - 1) no_period).start → holder_among d k i ps ≡ holder_among d (k + 1) (i - 1) ps
+module _ (d : ℕ) (ps : List Period) where
+  -- the last of the first n that starts on or before the day is i
+  pub among_found : (i k n : ℕ) → i < n → (get_or ps i no_period).start ≤ d → Later d (suc i) n ps
+      → holder_among d k n ps ≡ held (get_or ps i no_period).holder (k + (n - i))
   unfolding holder_among
-  among_passed zero h lt = absurd (omega arith)
-  among_passed (suc i) h lt = let e : suc i - 1 ≡ i = omega arith in
-      let l : d < (get_or ps i no_period).start = rw e at lt in rw (e, lt-leb _ _ l)
+  among_found i k zero lt le later = absurd (omega arith)
+  among_found i k (suc n) lt le later = elim (dec_le n i) [
+    | yes y ↦ let e : n ≡ i = omega arith in let one : k + (suc n - i) ≡ k + 1 = omega arith in
+        let l : (get_or ps n no_period).start ≤ d = rw (← e) at le in rw (one, ← e, le-leb _ _ l)
+    | no y ↦ let one : k + (suc n - i) ≡ k + 1 + (n - i) = omega arith in
+        rw (one, lt-leb (get_or ps n no_period).start d (later n (omega arith) (omega arith)))
+        (among_found i (k + 1) n (omega arith) le (λ j lo hi. later j lo (omega arith)))
+  ]
 
-  pub among_none : holder_among d k 0 ps ≡ refused_holder
+  -- all of the first n start after the day
+  pub among_none : (k n : ℕ) → Later d 0 n ps → holder_among d k n ps ≡ refused_holder
   unfolding holder_among
-  among_none = refl
+  among_none k zero later = refl
+  among_none k (suc n) later = rw (lt-leb (get_or ps n no_period).start d (later n (omega arith) (omega arith)))
+      (among_none (k + 1) n (λ j lo hi. later j lo (omega arith)))
+
+  -- the first n of the first m
+  pub among_first : (m k n : ℕ) → n ≤ m → holder_among d k n (take m ps) ≡ holder_among d k n ps
+  unfolding holder_among
+  among_first m k zero le = refl
+  among_first m k (suc n) le = rw (get_or-take m ps n no_period (omega arith), among_first m (k + 1) n (omega arith))
+
+  pub among_used : (m : ℕ) → m ≤ length ps → holder_among d 0 (length (take m ps)) (take m ps) ≡ holder_among d 0 m ps
+  among_used m le = rw (length-take-le m ps le) (among_first m 0 m (omega arith))
 
 module _ (vol : Period → ℕ) (ps : List Period) where
   -- one period more
@@ -33,3 +49,12 @@ module _ (vol : Period → ℕ) (ps : List Period) where
   pub sum_none : sum_of vol 0 ps ≡ 0
   unfolding sum_of
   sum_none = refl
+
+  sum_first : (m n : ℕ) → n ≤ m → sum_of vol n (take m ps) ≡ sum_of vol n ps
+  unfolding sum_of
+  sum_first m zero le = refl
+  sum_first m (suc n) le = rw (get_or-take m ps n no_period (omega arith), sum_first m n (omega arith))
+
+  -- the first m by themselves
+  pub sum_used : (m : ℕ) → m ≤ length ps → sum_of vol (length (take m ps)) (take m ps) ≡ sum_of vol m ps
+  sum_used m le = rw (length-take-le m ps le) (sum_first m m (omega arith))

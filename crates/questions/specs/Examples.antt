@@ -1,11 +1,10 @@
 -- Document 01, "Volumes": the questions, and 22 off their range or on a point not enrolled. Definitions only.
-use Rattle.std.specs.Prelude.{◌≡◌, [], ◌∷◌, ◌++◌}
+use Rattle.std.specs.Prelude.{◌≡◌, [], ◌∷◌, ◌++◌, Some}
 use Rattle.rules.specs.declared.{Register.Register, Action.Action, PointAction.PointAction, Answer.Answer}
 use Rattle.rules.specs.Pinned.Register.{period, history, on}
 use Rattle.rules.specs.Periods.{register}
 use Rattle.rules.specs.Scenes.{◌gives◌, opening, calls, enrol}
 use Rattle.rules.specs.RowExamples.Scene.{opens, ready}
-use Rattle.questions.specs.declared.{PeriodAnswer.PeriodAnswer, AdvanceAnswer.AdvanceAnswer}
 use Rattle.questions.specs.Pinned.Questions.{holder_number, period_number, advance_number, held, refused_holder}
 use Rattle.questions.specs.Pinned.Questions.{advances, holder_in, holder_answer, period_answer, advance_answer}
 
@@ -64,19 +63,19 @@ pub record QuestionExamples : Type 0 where
   pub holder_after_registers_day : holder_answer r 32 26 ≡ refused_holder
   -- "period n of p (start, holder, volume; n from 1 to their count)"
   pub period_0 : period_number (period_answer r 32 0) ≡ 22
-  pub period_1 : period_answer r 32 1 ≡ PeriodAnswer.Of (period 12 0 3000 3000)
-  pub period_2 : period_answer r 32 2 ≡ PeriodAnswer.Of (period 15 5 7000 7000)
+  pub period_1 : period_answer r 32 1 ≡ Some (period 12 0 3000 3000)
+  pub period_2 : period_answer r 32 2 ≡ Some (period 15 5 7000 7000)
   pub period_3 : period_number (period_answer r 32 3) ≡ 22
   -- "advance of p"
-  pub advance : advance_answer r 32 ≡ AdvanceAnswer.Of (advances 10000 10000)
-  pub advance_not_read : advance_answer r 1 ≡ AdvanceAnswer.Of (advances 0 0)
+  pub advance : advance_answer r 32 ≡ Some (advances 10000 10000)
+  pub advance_not_read : advance_answer r 1 ≡ Some (advances 0 0)
   -- 02, F-4: "the converted total up to a day is floor(m³ total to that day × factor / 10,000), and a day's part is the
   -- difference of two such totals": 0 0 0 1 1 2 3 3 4 5 6, and the holder changes after three days
-  pub cubic_period_1 : period_answer cubic 1 1 ≡ PeriodAnswer.Of (period 8000 0 2 1)
-  pub cubic_period_2 : period_answer cubic 1 2 ≡ PeriodAnswer.Of (period 8003 5 5 5)
+  pub cubic_period_1 : period_answer cubic 1 1 ≡ Some (period 8000 0 2 1)
+  pub cubic_period_2 : period_answer cubic 1 2 ≡ Some (period 8003 5 5 5)
   -- "a point's Nm³ advance .. sums its readings' converted totals": each reading's by itself
-  pub cubic_advance : advance_answer cubic 1 ≡ AdvanceAnswer.Of (advances 7 6)
-  pub cubic_advance_of_two : advance_answer cubic 2 ≡ AdvanceAnswer.Of (advances 2 0)
+  pub cubic_advance : advance_answer cubic 1 ≡ Some (advances 7 6)
+  pub cubic_advance_of_two : advance_answer cubic 2 ≡ Some (advances 2 0)
   -- off the range of points, or not enrolled
   pub holder_of_0 : holder_answer r 0 20 ≡ refused_holder
   pub holder_of_33 : holder_answer r 33 20 ≡ refused_holder

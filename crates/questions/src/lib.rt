@@ -1,34 +1,28 @@
 // The questions: they change nothing, and no pending request is seen through them.
 #![tactic(auto)]
 
-ghost use Rattle.std.specs.Prelude.{◌≡◌, ◌+◌, ◌%◌, ◌^◌, ◌≤◌};
+ghost use Rattle.std.specs.Prelude.{◌≡◌, ◌+◌, ◌%◌, ◌^◌, if◌then◌else◌, length};
 ghost use Rattle.rules.specs.Pinned.Register.{point_at};
 ghost use Rattle.questions.specs.Pinned.Questions.{unasked, asked_history, holder_among, holder_answer};
 ghost use Rattle.questions.specs.Pinned.Questions.{period_answer, advance_among, advance_in, advance_answer};
 
-use point_checks::{or, outside};
-use point_periods::period_count;
-use rules::{History, NormalVolume, Period, Register, Volume};
+use point_checks::outside;
+use point_periods::periods_in_use;
+use rules::{History, NormalVolume, Period, Register, Thousandths, Volume};
 
-// The answers to questions; a question off its range is refused.
-#[derive(Clone, Copy)]
-pub enum Held {
-    Holder(u8),
-    OffRange,
-}
-
-// Who held the point, and how many of its periods were looked at: none where the question is refused.
+// Who held the point, and how many of its periods were looked at: none where the question is refused. A struct, since
+// 02, F-1, wants the number of looks in a refused answer too.
 #[derive(Clone, Copy)]
 pub struct HolderAnswer {
-    pub held: Held,
+    pub held: Option<u8>,
     pub probes: u64,
 }
 
-#[derive(Clone, Copy)]
-pub enum PeriodAnswer {
-    Of(Period),
-    OffRange,
-}
+// "A refusal reports 0".
+const REFUSED: HolderAnswer = HolderAnswer {
+    held: None,
+    probes: 0,
+};
 
 // A point's registered advance, as the wheels count and in normal cubic metres.
 #[derive(Clone, Copy)]
@@ -37,152 +31,111 @@ pub struct Advance {
     pub normal: NormalVolume,
 }
 
-#[derive(Clone, Copy)]
-pub enum AdvanceAnswer {
-    Of(Advance),
-    OffRange,
-}
-
-// No point, or one that is not enrolled.
-fn is_unasked(r: Register, p: u64) -> bool
-    ensures { result ≡ unasked r p }
+// The periods of point p; none where there is no such point, or where it is not enrolled.
+fn enrolled_history(r: Register, p: u64) -> Option<History>
+    ensures { result ≡ (if unasked r p then None else Some (point_at p r.points).history) }
 {
     if outside(1, 32, p) {
-        return true;
+        return None;
     }
     let i = (p - 1) as usize;
     let g = r.points[i];
-    let f = g.fields;
-    !f.enrolled
+    if !g.fields.enrolled {
+        return None;
+    }
+    Some(g.history)
 }
 
-fn history_of(r: Register, p: u64) -> History
-    requires { (1 ≤ p) × (p ≤ 32) }
-    ensures { result ≡ (point_at p r.points).history }
-{
-    let i = (p - 1) as usize;
-    let g = r.points[i];
-    g.history
-}
-
-// The periods of point p; none where there is no such point, or where it is not enrolled.
+// The same, as a history of no periods where there are none.
+#[tactic(auto, unfolding(crate::specs::Pinned::Questions::asked_history))]
 pub fn asked_history(r: Register, p: u64) -> History
     ensures { result ≡ asked_history r p }
 {
-    if is_unasked(r, p) {
-        return History {
-            count: 0,
-            periods: [Period {
-                start: 0,
-                holder: 0,
-                volume: Volume(0),
-                normal: NormalVolume(0),
-            }; 24],
-        };
-    }
-    history_of(r, p)
+    enrolled_history(r, p).unwrap_or(History {
+        count: 0,
+        periods: [Period {
+            start: 0,
+            holder: 0,
+            volume: Volume(0),
+            normal: NormalVolume(0),
+        }; 24],
+    })
 }
 
-// The first n periods, the newest first, up to the first that starts on or before a day.
-fn holder_among(d: u64, n: usize, ps: [Period; 24]) -> HolderAnswer
-    requires { n ≤ 24 }
-    ensures { result ≡ holder_among d 0 n ps }
+// The periods, the newest first, up to the first that starts on or before a day.
+fn holder_among(d: u64, ps: &[Period]) -> HolderAnswer
+    ensures { result ≡ holder_among d 0 (length ps.now) ps.now }
 {
-    let mut i = n;
-    while 0 < i {
-        let q = ps[i - 1];
-        if q.start as u64 <= d {
-            return HolderAnswer {
-                held: Held::Holder(q.holder),
-                probes: (n - i) as u64 + 1,
-            };
-        }
-        i -= 1;
-    }
+    let Some(i) = ps.iter().rposition(|q| u64::from(q.start) <= d) else {
+        return REFUSED;
+    };
     HolderAnswer {
-        held: Held::OffRange,
-        probes: 0,
+        held: Some(ps[i].holder),
+        probes: (ps.len() - i) as u64,
     }
 }
 
 // Who holds point p on day d, from its enrolment to the register's day.
+#[tactic(auto, using(crate::proofs::Asked::is_off, crate::proofs::Asked::is_on, crate::proofs::Walks::among_used), unfolding(crate::specs::Pinned::Questions::holder_answer))]
 pub fn holder_of(r: Register, p: u64, d: u64) -> HolderAnswer
     ensures { result ≡ holder_answer r p d }
 {
-    if or(is_unasked(r, p), (r.day as u64) < d) {
-        return HolderAnswer {
-            held: Held::OffRange,
-            probes: 0,
-        };
+    let Some(h) = enrolled_history(r, p) else {
+        return REFUSED;
+    };
+    if u64::from(r.day) < d {
+        return REFUSED;
     }
-    let h = history_of(r, p);
-    let ps = h.periods;
-    holder_among(d, period_count(h), ps)
+    holder_among(d, periods_in_use(&h))
 }
 
 // Period n of point p, the oldest first.
-pub fn period_of(r: Register, p: u64, n: u64) -> PeriodAnswer
+#[tactic(auto, using(crate::proofs::Asked::is_off, crate::proofs::Asked::is_on, crate::proofs::Asked::told), unfolding(crate::specs::Pinned::Questions::period_answer))]
+pub fn period_of(r: Register, p: u64, n: u64) -> Option<Period>
     ensures { result ≡ period_answer r p n }
 {
-    if is_unasked(r, p) {
-        return PeriodAnswer::OffRange;
-    }
-    let h = history_of(r, p);
-    if outside(1, period_count(h) as u64, n) {
-        return PeriodAnswer::OffRange;
+    let h = enrolled_history(r, p)?;
+    let ps = periods_in_use(&h);
+    if outside(1, ps.len() as u64, n) {
+        return None;
     }
     let i = (n - 1) as usize;
-    let q = h.periods[i];
-    PeriodAnswer::Of(q)
+    Some(ps[i])
 }
 
 // Volumes of one kind, added; the sum wraps.
-fn plus(a: Volume, b: Volume) -> Volume
-    ensures { result.0 ≡ (a.0 + b.0) % 2 ^ 64 }
+fn plus<V: Thousandths>(a: V, b: V) -> V
+    ensures { V.amount result ≡ (V.amount a + V.amount b) % 2 ^ 64 }
 {
-    Volume(std::num::wrapping_add_u64(a.0, b.0))
+    V::from_thousandths(a.thousandths().wrapping_add(b.thousandths()))
 }
 
-fn plus_normal(a: NormalVolume, b: NormalVolume) -> NormalVolume
-    ensures { result.0 ≡ (a.0 + b.0) % 2 ^ 64 }
-{
-    NormalVolume(std::num::wrapping_add_u64(a.0, b.0))
-}
-
-// The volumes of the first n periods, added up.
-fn sums_of(n: usize, ps: [Period; 24]) -> Advance
-    requires { n ≤ 24 }
-    ensures { result ≡ advance_among n ps }
+// The volumes of periods, added up.
+fn sums_of(ps: &[Period]) -> Advance
+    ensures { result ≡ advance_among (length ps.now) ps.now }
 {
     let mut volume = Volume(0);
     let mut normal = NormalVolume(0);
-    let mut i: usize = 0;
-    while i < n {
-        let q = ps[i];
-        let v = q.volume;
-        let m = q.normal;
-        volume = plus(volume, v);
-        normal = plus_normal(normal, m);
-        i += 1;
+    for q in ps {
+        volume = plus(volume, q.volume);
+        normal = plus(normal, q.normal);
     }
     Advance { volume, normal }
 }
 
 // What the volumes of a point's periods add up to.
+#[tactic(auto, using(crate::proofs::Walks::sum_used))]
 pub fn advance_in(h: History) -> Advance
     ensures { result ≡ advance_in h }
 {
-    let ps = h.periods;
-    sums_of(period_count(h), ps)
+    sums_of(periods_in_use(&h))
 }
 
 // The registered advance of point p.
-pub fn advance_of(r: Register, p: u64) -> AdvanceAnswer
+#[tactic(auto, using(crate::proofs::Asked::is_off, crate::proofs::Asked::is_on), unfolding(crate::specs::Pinned::Questions::advance_answer))]
+pub fn advance_of(r: Register, p: u64) -> Option<Advance>
     ensures { result ≡ advance_answer r p }
 {
-    if is_unasked(r, p) {
-        return AdvanceAnswer::OffRange;
-    }
-    let h = history_of(r, p);
-    AdvanceAnswer::Of(advance_in(h))
+    let h = enrolled_history(r, p)?;
+    Some(advance_in(h))
 }

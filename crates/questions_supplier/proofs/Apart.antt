@@ -1,4 +1,5 @@
 -- Neither supplier sees the other's half. The statement is specs/Apart.antt.
+use Rattle.std.specs.Prelude.{Option, Some, None}
 use Rattle.basics.proofs.Basics.{◌≡◌, refl, sym, ◌∙◌, ap, false, List, [], ◌∷◌, ◌++◌, map, ◌≤◌, ℕ}
 use Rattle.basics.proofs.Basics.{◌-◌, suc, zero, arith, dec_le, eqb, length, take, get_or-set_same, get_or-set_other}
 use Rattle.basics.proofs.Basics.{set_out, cases}
@@ -10,7 +11,7 @@ use Rattle.questions.specs.Latest.{counted}
 use Rattle.questions.specs.Seen.{without_pending}
 use Rattle.questions.specs.ByBook.{nth}
 use Rattle.questions.proofs.Seen.{point_unseen, request_hidden, cancel_hidden}
-use Rattle.questions_supplier.specs.declared.{PeriodEnd.PeriodEnd, OwnPeriod.OwnPeriod}
+use Rattle.questions_supplier.specs.declared.{OwnPeriod.OwnPeriod}
 use Rattle.questions_supplier.specs.Pinned.Own.{own, end_in, own_in, own_periods, own_answer, own_told}
 use Rattle.questions_supplier.specs.Apart.{Agree, fields_at, history_at, Shown, whole, start, shown_to, Alike, Joined}
 use Rattle.questions_supplier.specs.Apart.{with_point, with_fields, if_other, with_others, Unseen, HalvesApart}
@@ -42,10 +43,10 @@ agreed r r' s p e h = cases (unasked r p)
     (λ on. own_on_lem r s p on ∙ h ∙ sym (own_on_lem r' s p (rw e at on)))
 
 -- The periods of s come from what is shown to it.
-end_shown : List Shown → PeriodEnd
-end_shown [] = PeriodEnd.Open
-end_shown (whole q ∷ l) = PeriodEnd.At q.start
-end_shown (start d ∷ l) = PeriodEnd.At d
+end_shown : List Shown → Option ℕ
+end_shown [] = None
+end_shown (whole q ∷ l) = Some q.start
+end_shown (start d ∷ l) = Some d
 
 own_shown : List Shown → List OwnPeriod
 own_shown [] = []

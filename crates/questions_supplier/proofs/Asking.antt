@@ -1,6 +1,8 @@
 -- After any list of calls each supplier's view is the day book's. The statement is specs/Asking.antt.
-use Rattle.basics.proofs.Basics.{◌≡◌, refl, sym, ◌∙◌, ap, true, false, ◌&&◌, some, Option, List, [], ◌∷◌, map, ◌≤◌, ℕ, ◌-◌, ◌+◌}
+use Rattle.std.specs.Prelude.{Option, Some, None}
+use Rattle.basics.proofs.Basics.{◌≡◌, refl, sym, ◌∙◌, ap, true, false, ◌&&◌, some, List, [], ◌∷◌, map, ◌≤◌, ℕ, ◌-◌, ◌+◌}
 use Rattle.basics.proofs.Basics.{arith, eqb, leb, length, take, cases}
+use Rattle.basics.proofs.Basics.{Option as Told}
 use Rattle.rules.specs.declared.{Period.Period, Register.Register, Opening.Opening, Call.Call}
 use Rattle.rules.specs.Answers.{is_accepted}
 use Rattle.rules.specs.Volumes.{volume, normal}
@@ -16,7 +18,6 @@ use Rattle.questions.specs.ByBook.{periods_in, book_periods}
 use Rattle.questions.proofs.Asked.{range_in}
 use Rattle.questions.proofs.Asking.{point_sized, periods_are, unborn}
 use Rattle.rules.proofs.Accept.{neither}
-use Rattle.questions_supplier.specs.declared.{PeriodEnd.PeriodEnd}
 use Rattle.questions_supplier.specs.Pinned.Own.{end_in, own_in, own_periods, own_answer, own_number, own_told}
 use Rattle.questions_supplier.specs.ByBook.{day_after, own_marked, perimeter_number, book_own, book_own_period}
 use Rattle.questions_supplier.specs.Asking.{is_before, own_on, once, OwnAsking}
@@ -24,16 +25,16 @@ use Rattle.questions_supplier.proofs.Own.{own_off, own_on_lem, told_nth, nth_num
 
 -- The marked cells of s are the periods of s among those of all marked cells, and the next mark is the next one's start.
 module _ (vol nor : ℕ → ℕ) (s last : ℕ) where
-  marked_own : (cs : List Cell) (end : PeriodEnd) (l : List Period) → end ≡ end_in l
+  marked_own : (cs : List Cell) (end : Option ℕ) (l : List Period) → end ≡ end_in l
       → own_marked vol nor s last end cs (own_in s l) ≡ own_in s (periods_in vol nor (day_after last end) cs l)
   unfolding own_marked own_in periods_in
   marked_own [] end l e = refl
-  marked_own (cell d h true ∷ cs) end l e = rw e (marked_own cs (PeriodEnd.At d) (period d h
+  marked_own (cell d h true ∷ cs) end l e = rw e (marked_own cs (Some d) (period d h
       (sum_days vol d (day_after last (end_in l) - d)) (sum_days nor d (day_after last (end_in l) - d)) ∷ l) refl)
   marked_own (cell d h false ∷ cs) end l e = marked_own cs end l e
 
 -- How many of a list of holders are s.
-count_of : ℕ → List (Option ℕ) → ℕ
+count_of : ℕ → List (Told ℕ) → ℕ
 count_of s [] = 0
 count_of s (x ∷ xs) = once s x + count_of s xs
 
@@ -58,7 +59,7 @@ module _ (o : Opening) (ok : is_accepted (opening_answer o) ≡ true) (calls : L
   book_own_lem : not_point p ≡ false → book_own o calls s p ≡ own_in s (book_periods o calls p)
   unfolding book_own book_periods own_in
   book_own_lem is = rw is (marked_own (volume (readings (opened o) calls p)) (normal (readings (opened o) calls p)) s (book o calls).day
-      ((book o calls).page p).cells PeriodEnd.Open [] refl)
+      ((book o calls).page p).cells None [] refl)
 
   -- the periods that the register keeps are the day book's
   kept : not_point p ≡ false → book_own o calls s p ≡ own_in s (counted (point_at p r.points).history)

@@ -1,12 +1,13 @@
 -- A supplier's own periods at a point, where it may be asked about and where not; and the n-th of them.
 use Rattle.basics.proofs.Basics.{◌≡◌, refl, true, false, cond, none, List, [], ◌∷◌, ℕ, ◌-◌, suc, zero, arith, eqb, ne_eqb}
 use Rattle.basics.proofs.Basics.{not-suc-le-zero, cases}
+use Rattle.std.specs.Prelude.{Err}
 use Rattle.rules.specs.declared.{Register.Register}
 use Rattle.rules.specs.Pinned.Register.{point_at}
 use Rattle.questions.specs.Pinned.Questions.{unasked, asked_history}
 use Rattle.questions.specs.Latest.{counted}
 use Rattle.questions.specs.ByBook.{nth}
-use Rattle.questions_supplier.specs.declared.{OwnPeriod.OwnPeriod, OwnAnswer.OwnAnswer}
+use Rattle.questions_supplier.specs.declared.{OwnPeriod.OwnPeriod, ViewRefusal.ViewRefusal}
 use Rattle.questions_supplier.specs.Pinned.Own.{own_in, own_periods, nth_own, own_number, own_told}
 use Rattle.questions_supplier.specs.ByBook.{perimeter}
 
@@ -20,7 +21,7 @@ module _ (r : Register) (s p : ℕ) where
   own_on_lem on = rw on
 
 -- none is the 0-th
-nth_none : (l : List OwnPeriod) → nth_own 0 l ≡ OwnAnswer.OutOfPerimeter
+nth_none : (l : List OwnPeriod) → nth_own 0 l ≡ Err ViewRefusal.OutOfPerimeter
 unfolding nth_own
 nth_none [] = refl
 nth_none (q ∷ qs) = nth_none qs

@@ -1,27 +1,27 @@
 -- 02, F-6: after any list of calls each supplier's view is the day book's. A consequence of demand 3, over the
 -- definition that the code's `own_period_of` is proved equal to. proofs/Asking.antt proves it. Definitions only.
-use Rattle.std.specs.Prelude.{◌≡◌, Bool, true, cond, ◌&&◌, List, [], ◌∷◌, ℕ, ◌≤◌, eqb, leb, ltb, length}
-use Rattle.std.proofs.Math.Option.{Option, none, some}
+use Rattle.std.specs.Prelude.{◌≡◌, Bool, true, cond, ◌&&◌, List, [], ◌∷◌, ℕ, ◌≤◌, eqb, leb, ltb, length, Option, Some, None}
+use Rattle.std.proofs.Math.Option.{Option as Told, none, some}
 use Rattle.rules.specs.declared.{Opening.Opening, Call.Call}
 use Rattle.rules.specs.Answers.{is_accepted}
 use Rattle.rules.specs.Rejections.{opening_answer}
 use Rattle.rules.specs.DayBook.{opened, enrolments}
 use Rattle.rules.specs.Periods.{holder_on, book, register}
-use Rattle.questions_supplier.specs.declared.{PeriodEnd.PeriodEnd, OwnPeriod.OwnPeriod}
+use Rattle.questions_supplier.specs.declared.{OwnPeriod.OwnPeriod}
 use Rattle.questions_supplier.specs.Pinned.Own.{own_periods, own_answer, own_number, own_told}
 use Rattle.questions_supplier.specs.ByBook.{book_own, book_own_period, perimeter_number}
 
 -- The periods of a list that a day lies in: from their start on, and before their end.
-abbrev pub is_before : ℕ → PeriodEnd → Bool
-is_before d PeriodEnd.Open = true
-is_before d (PeriodEnd.At e) = ltb d e
+abbrev pub is_before : ℕ → Option ℕ → Bool
+is_before d None = true
+is_before d (Some e) = ltb d e
 
 unfoldable pub own_on : ℕ → List OwnPeriod → List OwnPeriod
 own_on d [] = []
 own_on d (q ∷ qs) = cond (leb q.start d && is_before d q.end) (q ∷ own_on d qs) (own_on d qs)
 
 -- How often a day is supplier s's, where this is its holder: once or not at all.
-abbrev pub once : ℕ → Option ℕ → ℕ
+abbrev pub once : ℕ → Told ℕ → ℕ
 once s none = 0
 once s (some h) = cond (eqb h s) 1 0
 

@@ -1,14 +1,13 @@
 -- 02, F-6: worked numbers, both sides of each boundary, and for each thing that a supplier may not see a register in
 -- which it differs. Definitions only: `own_examples` of proofs/ proves them.
-use Rattle.std.specs.Prelude.{◌≡◌, true, false, List, [], ◌∷◌, ◌++◌, ℕ, get_or}
+use Rattle.std.specs.Prelude.{◌≡◌, true, false, List, [], ◌∷◌, ◌++◌, ℕ, get_or, Some, None, Ok, Err}
 use Rattle.rules.specs.declared.{Register.Register, Opening.Opening, Call.Call, Action.Action, PointAction.PointAction}
 use Rattle.rules.specs.declared.{Pending.Pending}
 use Rattle.rules.specs.Pinned.Register.{period, on}
 use Rattle.rules.specs.Periods.{register}
 use Rattle.rules.specs.Scenes.{opening, enrol}
-use Rattle.questions.specs.declared.{PeriodAnswer.PeriodAnswer}
 use Rattle.questions.specs.Pinned.Questions.{period_answer}
-use Rattle.questions_supplier.specs.declared.{PeriodEnd.PeriodEnd, OwnPeriod.OwnPeriod, OwnAnswer.OwnAnswer}
+use Rattle.questions_supplier.specs.declared.{OwnPeriod.OwnPeriod, ViewRefusal.ViewRefusal}
 use Rattle.questions_supplier.specs.Pinned.Own.{own_periods, own_answer, own_number}
 use Rattle.questions_supplier.specs.ByBook.{own_period, book_own}
 use Rattle.questions_supplier.specs.Apart.{fields_at}
@@ -93,8 +92,8 @@ with_all =
 -- What 5 may see of it.
 abbrev five : List OwnPeriod
 five =
-    own_period 8003 (PeriodEnd.At 8012) 5 5 ∷ own_period 8015 (PeriodEnd.At 8040) 0 0
-    ∷ own_period 8040 PeriodEnd.Open 0 0 ∷ []
+    own_period 8003 (Some 8012) 5 5 ∷ own_period 8015 (Some 8040) 0 0
+    ∷ own_period 8040 None 0 0 ∷ []
 
 -- 5 into service and out again on 8,001; 6 into service on 8,001, and fails on the next day.
 abbrev replaced : Register
@@ -126,63 +125,63 @@ varied d =
 
 pub record OwnExamples : Type 0 where
   -- "its n-th period there, oldest first: start, end if any (the next period's start), volumes"
-  pub five_1 : own_answer r 5 1 1 ≡ OwnAnswer.Of (own_period 8003 (PeriodEnd.At 8012) 5 5)
+  pub five_1 : own_answer r 5 1 1 ≡ Ok (own_period 8003 (Some 8012) 5 5)
   -- two periods of 5 one after the other stay two
-  pub five_2 : own_answer r 5 1 2 ≡ OwnAnswer.Of (own_period 8015 (PeriodEnd.At 8040) 0 0)
-  pub five_3 : own_answer r 5 1 3 ≡ OwnAnswer.Of (own_period 8040 PeriodEnd.Open 0 0)
-  pub five_4 : own_answer r 5 1 4 ≡ OwnAnswer.OutOfPerimeter
-  pub six_1 : own_answer r 6 1 1 ≡ OwnAnswer.Of (own_period 8012 (PeriodEnd.At 8014) 0 0)
-  pub six_2 : own_answer r 6 1 2 ≡ OwnAnswer.OutOfPerimeter
+  pub five_2 : own_answer r 5 1 2 ≡ Ok (own_period 8015 (Some 8040) 0 0)
+  pub five_3 : own_answer r 5 1 3 ≡ Ok (own_period 8040 None 0 0)
+  pub five_4 : own_answer r 5 1 4 ≡ Err ViewRefusal.OutOfPerimeter
+  pub six_1 : own_answer r 6 1 1 ≡ Ok (own_period 8012 (Some 8014) 0 0)
+  pub six_2 : own_answer r 6 1 2 ≡ Err ViewRefusal.OutOfPerimeter
   -- the whole of it, by the register and by the day book
   pub five_all : own_periods r 5 1 ≡ five
   pub five_by_book : book_own opens (up_to 8050) 5 1 ≡ five
-  pub six_by_book : book_own opens (up_to 8050) 6 1 ≡ own_period 8012 (PeriodEnd.At 8014) 0 0 ∷ []
+  pub six_by_book : book_own opens (up_to 8050) 6 1 ≡ own_period 8012 (Some 8014) 0 0 ∷ []
   pub seven_by_book : book_own opens (up_to 8050) 7 1 ≡ []
   -- a pending request is no end; on its effective day it is
   pub pending_no_end : own_answer (register opens (up_to 8039)) 5 1 2 ≡
-      OwnAnswer.Of (own_period 8015 PeriodEnd.Open 0 0)
+      Ok (own_period 8015 None 0 0)
   pub ended_by_own : own_answer (register opens (up_to 8040)) 5 1 2 ≡
-      OwnAnswer.Of (own_period 8015 (PeriodEnd.At 8040) 0 0)
+      Ok (own_period 8015 (Some 8040) 0 0)
   -- "A supplier off 1 to 99 gives 22", the operator's account too, and before 41
-  pub supplier_0 : own_answer r 0 1 1 ≡ OwnAnswer.OffRange
-  pub supplier_100 : own_answer r 100 1 1 ≡ OwnAnswer.OffRange
-  pub supplier_1 : own_answer r 1 1 1 ≡ OwnAnswer.OutOfPerimeter
-  pub supplier_99 : own_answer r 99 1 1 ≡ OwnAnswer.OutOfPerimeter
+  pub supplier_0 : own_answer r 0 1 1 ≡ Err ViewRefusal.OffRange
+  pub supplier_100 : own_answer r 100 1 1 ≡ Err ViewRefusal.OffRange
+  pub supplier_1 : own_answer r 1 1 1 ≡ Err ViewRefusal.OutOfPerimeter
+  pub supplier_99 : own_answer r 99 1 1 ≡ Err ViewRefusal.OutOfPerimeter
   pub first_22 : own_number (own_answer r 0 33 0) ≡ 22
   pub then_41 : own_number (own_answer r 5 33 1) ≡ 41
   pub else_0 : own_number (own_answer r 5 1 1) ≡ 0
   -- "A point off 1 to 32, not enrolled or never held, and an n off their count, give 41"
-  pub point_0 : own_answer r 5 0 1 ≡ OwnAnswer.OutOfPerimeter
-  pub point_33 : own_answer r 5 33 1 ≡ OwnAnswer.OutOfPerimeter
-  pub not_enrolled : own_answer r 5 2 1 ≡ OwnAnswer.OutOfPerimeter
-  pub never_held : own_answer r 7 1 1 ≡ OwnAnswer.OutOfPerimeter
-  pub number_0 : own_answer r 5 1 0 ≡ OwnAnswer.OutOfPerimeter
-  pub largest_number : own_answer r 5 1 18446744073709551615 ≡ OwnAnswer.OutOfPerimeter
+  pub point_0 : own_answer r 5 0 1 ≡ Err ViewRefusal.OutOfPerimeter
+  pub point_33 : own_answer r 5 33 1 ≡ Err ViewRefusal.OutOfPerimeter
+  pub not_enrolled : own_answer r 5 2 1 ≡ Err ViewRefusal.OutOfPerimeter
+  pub never_held : own_answer r 7 1 1 ≡ Err ViewRefusal.OutOfPerimeter
+  pub number_0 : own_answer r 5 1 0 ≡ Err ViewRefusal.OutOfPerimeter
+  pub largest_number : own_answer r 5 1 18446744073709551615 ≡ Err ViewRefusal.OutOfPerimeter
   -- a holder replaced on its own day has no period; one without a contract has its past
-  pub replaced_none : own_answer replaced 5 1 1 ≡ OwnAnswer.OutOfPerimeter
-  pub failed_past : own_answer failed 6 1 1 ≡ OwnAnswer.Of (own_period 8001 (PeriodEnd.At 8002) 0 0)
-  pub failed_to : own_answer failed 2 1 1 ≡ OwnAnswer.Of (own_period 8002 PeriodEnd.Open 0 0)
+  pub replaced_none : own_answer replaced 5 1 1 ≡ Err ViewRefusal.OutOfPerimeter
+  pub failed_past : own_answer failed 6 1 1 ≡ Ok (own_period 8001 (Some 8002) 0 0)
+  pub failed_to : own_answer failed 2 1 1 ≡ Ok (own_period 8002 None 0 0)
   -- as it stands on the register's day: a deadline ahead is no end
-  pub default_open : own_answer (defaulted 8029) 1 1 1 ≡ OwnAnswer.Of (own_period 8000 PeriodEnd.Open 0 0)
-  pub resort_not_yet : own_answer (defaulted 8029) 2 1 1 ≡ OwnAnswer.OutOfPerimeter
-  pub default_ended : own_answer (defaulted 8030) 1 1 1 ≡ OwnAnswer.Of (own_period 8000 (PeriodEnd.At 8030) 0 0)
-  pub resort_open : own_answer (defaulted 8030) 2 1 1 ≡ OwnAnswer.Of (own_period 8030 PeriodEnd.Open 0 0)
-  pub resort_ended : own_answer (defaulted 8070) 2 1 1 ≡ OwnAnswer.Of (own_period 8030 (PeriodEnd.At 8070) 0 0)
-  pub varied_ended : own_answer (varied 7700) 99 32 1 ≡ OwnAnswer.Of (own_period 7673 (PeriodEnd.At 7690) 4000 4000)
-  pub varied_resort : own_answer (varied 7709) 97 32 1 ≡ OwnAnswer.Of (own_period 7690 PeriodEnd.Open 0 0)
+  pub default_open : own_answer (defaulted 8029) 1 1 1 ≡ Ok (own_period 8000 None 0 0)
+  pub resort_not_yet : own_answer (defaulted 8029) 2 1 1 ≡ Err ViewRefusal.OutOfPerimeter
+  pub default_ended : own_answer (defaulted 8030) 1 1 1 ≡ Ok (own_period 8000 (Some 8030) 0 0)
+  pub resort_open : own_answer (defaulted 8030) 2 1 1 ≡ Ok (own_period 8030 None 0 0)
+  pub resort_ended : own_answer (defaulted 8070) 2 1 1 ≡ Ok (own_period 8030 (Some 8070) 0 0)
+  pub varied_ended : own_answer (varied 7700) 99 32 1 ≡ Ok (own_period 7673 (Some 7690) 4000 4000)
+  pub varied_resort : own_answer (varied 7709) 97 32 1 ≡ Ok (own_period 7690 None 0 0)
   pub varied_resort_ended : own_answer (varied 7710) 97 32 1 ≡
-      OwnAnswer.Of (own_period 7690 (PeriodEnd.At 7710) 0 0)
+      Ok (own_period 7690 (Some 7710) 0 0)
   -- "whoever else's periods, keys or pending requests differ": 5 may see the same, and this is what differs
   pub other_holder : (own_periods with_7 5 1 ≡ five)
-      × (period_answer with_7 1 3 ≡ PeriodAnswer.Of (period 8012 7 0 0))
-      × (period_answer r 1 3 ≡ PeriodAnswer.Of (period 8012 6 0 0))
+      × (period_answer with_7 1 3 ≡ Some (period 8012 7 0 0))
+      × (period_answer r 1 3 ≡ Some (period 8012 6 0 0))
   -- the others' own views are others then
   pub other_views : (own_periods with_7 6 1 ≡ [])
-      × (own_periods with_7 7 1 ≡ own_period 8012 (PeriodEnd.At 8014) 0 0 ∷ [])
+      × (own_periods with_7 7 1 ≡ own_period 8012 (Some 8014) 0 0 ∷ [])
   pub two_others : (own_periods with_6_and_7 5 1 ≡ five)
-      × (period_answer with_6_and_7 1 4 ≡ PeriodAnswer.Of (period 8013 7 0 0))
+      × (period_answer with_6_and_7 1 4 ≡ Some (period 8013 7 0 0))
   pub other_volumes : (own_periods with_6_read 5 1 ≡ five)
-      × (period_answer with_6_read 1 3 ≡ PeriodAnswer.Of (period 8012 6 100 95))
+      × (period_answer with_6_read 1 3 ≡ Some (period 8012 6 100 95))
   pub key : (own_periods by_key_99 5 1 ≡ five) × ((fields_at 1 by_key_99).key ≡ 99)
   pub mark : (own_periods suspended 5 1 ≡ five) × ((fields_at 1 suspended).mark ≡ 1)
   pub pending : (own_periods asked_by_6 5 1 ≡ five)
@@ -191,5 +190,5 @@ pub record OwnExamples : Type 0 where
   pub settings : (own_periods set_otherwise 5 1 ≡ five) × (set_otherwise.settings.default ≡ 3)
   pub day : (own_periods (register opens (up_to 8051)) 5 1 ≡ five) × ((register opens (up_to 8051)).day ≡ 8051)
   pub other_point : (own_periods with_point_2 5 1 ≡ five)
-      × (own_periods with_point_2 5 2 ≡ own_period 8050 PeriodEnd.Open 0 0 ∷ [])
+      × (own_periods with_point_2 5 2 ≡ own_period 8050 None 0 0 ∷ [])
   pub many_at_once : own_periods with_all 5 1 ≡ five

@@ -1,4 +1,5 @@
 -- A failure on the whole register: the rows before number 30, number 30 by the points, and the register after it.
+use Rattle.rules.specs.declared.{Rejection.Rejection}
 use Rattle.basics.proofs.Basics.{◌≡◌, refl, sym, ◌∙◌, ap, fun_ext, true, false, Bool, ◌&&◌, List, map, ◌≤◌, ℕ, ◌+◌, ◌<◌}
 use Rattle.basics.proofs.Basics.{suc, zero, arith, set}
 use Rattle.dates.specs.Dates.{last_day}
@@ -40,7 +41,7 @@ module _ (t s : ℕ) (r : Register) where
   abbrev first : Answer
   first = answer_apart r.settings r.day r.contracts t (Action.Failure s)
 
-  says_first : says r (on t (Action.Failure s)) ≡ after first (filled ⇒ 30)
+  says_first : says r (on t (Action.Failure s)) ≡ after first (filled ⇒ Rejection.PeriodsFull)
   unfolding says answer
   says_first = rw (failure_answer_lem r.settings r.day r.contracts t s (shown every), any_fills)
 
@@ -62,7 +63,7 @@ module _ (t s : ℕ) (r : Register) where
       filled_is : b ≡ filled
       filled_is = k r.settings ∙ ap (λ (x : Register). any_point 1 32 (λ p. failure_fills r.settings t s (point_at p x.points))) up
 
-      pub failure_full : b ≡ true → outcome (Answer.Refused 30) r ≡ applied r (on t (Action.Failure s))
+      pub failure_full : b ≡ true → outcome (Answer.Refused Rejection.PeriodsFull) r ≡ applied r (on t (Action.Failure s))
       unfolding applied after
       failure_full y = let w : filled ≡ true = sym filled_is ∙ y in rw (says_first, ok, w)
 

@@ -24,6 +24,7 @@ fn settings_of(o: Opening) -> Settings
 }
 
 // The suppliers under contract from the start.
+#[tactic(auto, unfolding(rules::specs::Opening::first_contracts))]
 fn first_contracts(set: Settings) -> [bool; 100]
     ensures { result ≡ first_contracts set }
 {
@@ -50,13 +51,14 @@ fn new_register(set: Settings, day: u32) -> Register
     let blank = blank_point();
     Register {
         settings: set,
-        day: day,
-        contracts: contracts,
+        day,
+        contracts,
         points: [blank; 32],
     }
 }
 
 // What stands where no register is open.
+#[tactic(auto, unfolding(crate::specs::Pinned::Opens::no_register))]
 pub fn no_register() -> Register
     ensures { result ≡ no_register }
 {
@@ -77,6 +79,7 @@ pub fn no_register() -> Register
 
 // An opening with any numbers: its answer, and the register after it. A refused one opens none: the register stays as
 // it came.
+#[tactic(auto, using(crate::proofs::Opens::opening_in_range), unfolding(crate::specs::Pinned::Opens::opened_over, rules::specs::Pinned::Register::opened))]
 pub fn open(r: Register, o: Opening) -> Outcome
     ensures { result ≡ opened_over r o }
 {
@@ -85,12 +88,12 @@ pub fn open(r: Register, o: Opening) -> Outcome
         let set = settings_of(o);
         let fresh = new_register(set, o.day as u32);
         return Outcome {
-            answer: answer,
+            answer,
             register: fresh,
         };
     }
     Outcome {
-        answer: answer,
+        answer,
         register: r,
     }
 }

@@ -47,31 +47,25 @@ pub(crate) fn blank_point() -> Point
 }
 
 // Every point brought up to a day.
+#[tactic(auto, using(crate::proofs::Sweep::swept_more, crate::proofs::Sweep::swept_all))]
 fn all_caught_up(set: Settings, t: u32, ps: [Point; 32]) -> [Point; 32]
     ensures { result ≡ map (caught_up set t) ps }
 {
     let mut out = ps;
-    let mut i: usize = 0;
-    while i < 32 {
-        let g = out[i];
-        out[i] = catch_up(set, t, g);
-        i += 1;
+    for g in out.iter_mut() {
+        *g = catch_up(set, t, *g);
     }
     out
 }
 
 // Every point after a failure of s.
+#[tactic(auto, using(crate::proofs::Sweep::swept_more, crate::proofs::Sweep::swept_all), unfolding(crate::specs::Between::Calls::failed_on))]
 pub(crate) fn all_failed(set: Settings, t: u32, s: u64, ps: [Point; 32]) -> [Point; 32]
     ensures { result ≡ map (failed_on set t s) ps }
 {
     let mut out = ps;
-    let mut n: usize = 0;
-    while n < 32 {
-        let g = out[n];
-        let f = g.fields;
-        let h = g.history;
-        out[n] = note(t, fail(set, t, s, f), h);
-        n += 1;
+    for point in out.iter_mut() {
+        *point = note(t, fail(set, t, s, point.fields), point.history);
     }
     out
 }
@@ -80,18 +74,16 @@ pub(crate) fn all_failed(set: Settings, t: u32, s: u64, ps: [Point; 32]) -> [Poi
 pub(crate) fn any_filled(t: u64, s: u64, ps: [Point; 32]) -> bool
     ensures { (S : Settings) → result ≡ any_point 1 32 (λ p. failure_fills S t s (point_at p ps)) }
 {
-    let mut k: usize = 0;
-    while k < 32 {
-        let g = ps[k];
-        if fills(s, view_of(t, g)) {
+    for g in &ps {
+        if fills(s, view_of(t, *g)) {
             return true;
         }
-        k += 1;
     }
     false
 }
 
 // The register brought up to a day: no work where it is there already.
+#[tactic(auto, using(crate::proofs::Advanced::advanced_off, crate::proofs::Advanced::advanced_same, crate::proofs::Advanced::advanced_new))]
 pub fn brought_up(today: u64, r: Register) -> Register
     ensures { result ≡ brought_up today r }
 {
@@ -112,13 +104,11 @@ pub fn brought_up(today: u64, r: Register) -> Register
 }
 
 // Point p as a call finds it; other points are not caught up for it.
+#[tactic(auto, using(crate::proofs::Advanced::advanced_off, crate::proofs::Advanced::advanced_same, crate::proofs::Advanced::advanced_new, crate::proofs::Advanced::point_caught_up), unfolding(crate::specs::Between::Calls::point_on))]
 pub(crate) fn point_on(today: u64, p: u64, r: Register) -> Point
     ensures { result ≡ point_on today p r }
 {
-    if p < 1 {
-        return blank_point();
-    }
-    if p > 32 {
+    if p < 1 || p > 32 {
         return blank_point();
     }
     let i = (p - 1) as usize;

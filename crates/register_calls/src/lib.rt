@@ -1,4 +1,5 @@
-// The twelve calls, each over apply.
+// The twelve calls, each over apply. The register, today and the point stand in each by themselves: the README names these calls,
+// and a caller has them at hand.
 #![tactic(auto)]
 
 mod readings;
@@ -18,13 +19,7 @@ pub use service::{default_supply, enrol, into_service, out_of_service, suspend};
 fn apply_on(r: Register, today: u64, action: Action) -> Outcome
     ensures { result ≡ applied r (on today action) }
 {
-    apply(
-        r,
-        Call {
-            today: today,
-            action: action,
-        },
-    )
+    apply(r, Call { today, action })
 }
 
 pub(crate) fn apply_at(r: Register, today: u64, p: u64, a: PointAction) -> Outcome

@@ -33,7 +33,7 @@ pub fn meter_change(r: Register, today: u64, p: u64, x: u64, z: u64, meter: NewM
         PointAction::MeterChange {
             index: x,
             zero: z,
-            meter: meter,
+            meter,
         },
     )
 }

@@ -16,7 +16,7 @@ pub fn request(r: Register, today: u64, p: u64, s: u64, key: u64, d: u64) -> Out
         p,
         PointAction::Request {
             supplier: s,
-            key: key,
+            key,
             day: d,
         },
     )

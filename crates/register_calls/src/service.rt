@@ -10,29 +10,21 @@ use rules::{NewMeter, Outcome, PointAction, Register};
 pub fn enrol(r: Register, today: u64, p: u64, meter: NewMeter) -> Outcome
     ensures { result ≡ applied r (call_at today p (PointAction.Enrol meter)) }
 {
-    apply_at(r, today, p, PointAction::Enrol { meter: meter })
+    apply_at(r, today, p, PointAction::Enrol { meter })
 }
 
 // 4. Point p goes into service with supplier s.
 pub fn into_service(r: Register, today: u64, p: u64, s: u64, key: u64) -> Outcome
     ensures { result ≡ applied r (call_at today p (PointAction.IntoService s key)) }
 {
-    apply_at(
-        r,
-        today,
-        p,
-        PointAction::IntoService {
-            supplier: s,
-            key: key,
-        },
-    )
+    apply_at(r, today, p, PointAction::IntoService { supplier: s, key })
 }
 
 // 5. Point p goes into default supply.
 pub fn default_supply(r: Register, today: u64, p: u64, key: u64) -> Outcome
     ensures { result ≡ applied r (call_at today p (PointAction.DefaultSupply key)) }
 {
-    apply_at(r, today, p, PointAction::DefaultSupply { key: key })
+    apply_at(r, today, p, PointAction::DefaultSupply { key })
 }
 
 // 10. Point p goes out of service.
@@ -46,5 +38,5 @@ pub fn out_of_service(r: Register, today: u64, p: u64) -> Outcome
 pub fn suspend(r: Register, today: u64, p: u64, mark: u64) -> Outcome
     ensures { result ≡ applied r (call_at today p (PointAction.Suspend mark)) }
 {
-    apply_at(r, today, p, PointAction::Suspend { mark: mark })
+    apply_at(r, today, p, PointAction::Suspend { mark })
 }

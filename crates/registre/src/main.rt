@@ -4,72 +4,60 @@
 #![tactic(auto)]
 
 use input_pieces::Session;
-use standard_input::{End, read_all};
+use standard_input::{InputError, read_all};
 use std::env::FillError;
-use std::io;
+use std::io::Input;
 use std::rt::Env;
 
-// What failed, and why, on standard error.
-fn fail(rt: &impl Eprint, what: &str, error: io::Error) {
-    let _ = eprintln!(rt; "{what}: {error}");
+// What failed, on standard error. No Display of InputError: `ask` says it in words of its own, which may not change.
+fn tell(rt: &impl Eprint, error: InputError) {
+    let _ = match error {
+        InputError::Unread(e) => eprintln!(rt; "registre: reading the input: {e}"),
+        InputError::Unwritten(e) => eprintln!(rt; "registre: writing the answers: {e}"),
+        InputError::Untaken => eprintln!(rt; "registre: the input was not taken to its end"),
+    };
 }
 
-fn write_out(rt: &(impl Print + Eprint), text: &[u8]) -> bool {
-    match rt.write_all(text) {
-        Ok(()) => true,
-        Err(e) => {
-            fail(rt, "registre: writing the answers", e);
-            false
-        }
-    }
-}
-
-fn say(rt: &impl Eprint, text: &str) {
-    let _ = rt.eprint(text);
+// `ask` has the same: shared, it would be a public function, and no clause can say what is written.
+fn write_out(rt: &impl Print, text: &[u8]) -> Result<(), InputError> {
+    rt.write_all(text).map_err(InputError::Unwritten)
 }
 
 // The closing lines, point by point as far as each call came.
-fn write_closing(rt: &(impl Print + Eprint), s: Session) {
+fn write_closing(rt: &(impl Print + Eprint), s: Session) -> Result<(), InputError> {
     let mut out = [0u8; 65536];
     let mut from: usize = 0;
+    // No `for`: the call tells where the next one begins.
     while from < 32 {
         let listed = input_whole::close(s, from, &mut out);
         let n = listed.written;
-        if !write_out(rt, &out[..n]) {
-            return;
-        }
+        write_out(rt, &out[..n])?;
         let next = listed.next;
         if next <= from {
-            say(
-                rt,
-                "registre: the closing lines were not written to their end\n",
-            );
-            return;
+            let _ = eprintln!(rt; "registre: the closing lines were not written to their end");
+            return Ok(());
         }
         from = next;
     }
+    Ok(())
 }
 
 // Whether a word stands behind the program's name.
 fn has_words(rt: &impl Env) -> bool {
-    match rt.arg(1, &mut []) {
-        Err(FillError::NotPresent) => false,
-        _ => true,
-    }
+    !matches!(rt.arg(1, &mut []), Err(FillError::NotPresent))
+}
+
+fn run(rt: &(impl Input + Print + Eprint)) -> Result<(), InputError> {
+    let s = read_all(rt, true)?;
+    write_closing(rt, s)
 }
 
 fn main(rt: HostRuntime) {
     if has_words(&rt) {
-        say(&rt, "registre: reads standard input and takes no words\n");
+        let _ = eprintln!(rt; "registre: reads standard input and takes no words");
         return;
     }
-    let came = read_all(&rt, true);
-    let end = came.end;
-    let s = came.session;
-    match end {
-        End::Whole => write_closing(&rt, s),
-        End::Unread(e) => fail(&rt, "registre: reading the input", e),
-        End::Unwritten(e) => fail(&rt, "registre: writing the answers", e),
-        End::Untaken => say(&rt, "registre: the input was not taken to its end\n"),
+    if let Err(error) = run(&rt) {
+        tell(&rt, error);
     }
 }

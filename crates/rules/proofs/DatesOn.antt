@@ -1,7 +1,7 @@
 -- Three months after, and working days between, at days that lie far from the first: from their dates, since days and dates are one to one.
 -- No day is counted up to.
+use Rattle.std.specs.Prelude.{Some}
 use Rattle.basics.proofs.Basics.{◌≡◌, refl, true, false, ℕ}
-use Rattle.dates.specs.declared.{DayAnswer.DayAnswer}
 use Rattle.dates.specs.Dates.{date, date_of}
 use Rattle.dates.specs.Numbers.{day_answer}
 use Rattle.dates.specs.Months.{three_months_after}
@@ -9,7 +9,7 @@ use Rattle.dates.proofs.OneToOne.{one_to_one}
 use Rattle.holidays.specs.Working.{is_working, working_between}
 use Rattle.rules.proofs.Computes.{calendar, working_days}
 
-date_of_lem : (y m d n : ℕ) → day_answer y m d ≡ DayAnswer.Day n → date_of n ≡ date y m d
+date_of_lem : (y m d n : ℕ) → day_answer y m d ≡ Some n → date_of n ≡ date y m d
 date_of_lem y m d n e = (one_to_one.day_has_date y m d n e).1
 
 pub three_months_after_may_3 : three_months_after 7793 ≡ 7885

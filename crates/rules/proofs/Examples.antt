@@ -1,5 +1,6 @@
 -- The proved table of document 01's dated examples: each field holds by computation. The calendar's facts at days that
 -- lie far from the first are computed once, and the lists of calls are rewritten with them.
+use Rattle.rules.specs.declared.{Rejection.Rejection}
 use Rattle.basics.proofs.Basics.{◌≡◌, refl, ap, true, false, ℕ, ltb}
 use Rattle.dates.specs.Dates.{date_of}
 use Rattle.rules.specs.declared.{Pending.Pending, Answer.Answer}
@@ -25,7 +26,7 @@ alike_on_19_may : BothAlike (opens 7792) (cancelled_on 7809 Answer.Accepted)
 unfolding machines calendar date_of
 alike_on_19_may = refl
 
-alike_on_20_may : BothAlike (opens 7792) (cancelled_on 7810 (Answer.Refused 26))
+alike_on_20_may : BothAlike (opens 7792) (cancelled_on 7810 (Answer.Refused Rejection.TooLate))
 unfolding machines calendar date_of
 alike_on_20_may = refl
 

@@ -1,6 +1,6 @@
 -- The row examples: each holds by computation; the calendar's facts on its last days are rewritten with.
 use Rattle.basics.proofs.Basics.{refl}
-use Rattle.rules.specs.RowExamples.Answers.{AnswerExamples}
+use Rattle.rules.specs.RowExamples.Answers.{AnswerExamples, NumberExamples}
 use Rattle.rules.specs.RowExamples.Openings.{OpeningExamples}
 use Rattle.rules.specs.RowExamples.Order.{OrderExamples}
 use Rattle.rules.specs.RowExamples.Contracts.{ContractExamples}
@@ -18,10 +18,37 @@ use Rattle.rules.proofs.Scenes.{plays}
 use Rattle.rules.proofs.DatesOn.{three_months_after_september_30_2199, three_months_after_october_1_2199}
 use Rattle.rules.proofs.DatesOn.{three_months_after_december_10_2199, three_months_after_december_11_2199}
 
+number_examples : NumberExamples
+number_examples =
+    record {
+      no_transport_contract = refl;
+      false_idpc = refl;
+      date_incompatible = refl;
+      name_differs = refl;
+      other_request = refl;
+      no_perimeter = refl;
+      access_suspended = refl;
+      last_resort_under_way = refl;
+      off_the_calendar = refl;
+      day_runs_back = refl;
+      field_out_of_range = refl;
+      already_enrolled = refl;
+      already_served = refl;
+      nothing_pending = refl;
+      too_late = refl;
+      reading_out_of_time = refl;
+      index_disagrees = refl;
+      protected_supplier = refl;
+      periods_full = refl;
+      unreadable_line = refl;
+      factor_out_of_range = refl;
+    }
+
 answer_examples : AnswerExamples
 unfolding computes
 answer_examples =
     record {
+      numbers = number_examples;
       accepted_number = refl;
       accepted_date = refl;
       request_accepted_number = refl;

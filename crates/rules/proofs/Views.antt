@@ -6,7 +6,7 @@ use Rattle.dates.specs.Dates.{last_day}
 use Rattle.rules.specs.declared.{Settings.Settings, Call.Call, Action.Action, PointAction.PointAction}
 use Rattle.rules.specs.Answers.{is_accepted}
 use Rattle.rules.specs.declared.{View.View}
-use Rattle.rules.specs.declared.{Answer.Answer}
+use Rattle.rules.specs.declared.{Answer.Answer, Rejection.Rejection}
 use Rattle.rules.specs.Rejections.{Row, ◌⇒◌, blank_view, first_of, not_point, is_past, runs_back, rows_at, rows, accepted, answer_to, shown, answer}
 use Rattle.rules.proofs.Accept.{pass, neither}
 
@@ -35,17 +35,17 @@ pub record Passed (day t : ℕ) (rs : List Row) (a : Answer) : Type 0 where
   pub on : day ≤ t
   pub rest : is_accepted (first_of rs a) ≡ true
 
-pub dated : (day t : ℕ) (rs : List Row) (a : Answer) → is_accepted (first_of ((is_past t ⇒ 20) ∷ (runs_back day t ⇒ 21) ∷ rs) a) ≡ true
+pub dated : (day t : ℕ) (rs : List Row) (a : Answer) → is_accepted (first_of ((is_past t ⇒ Rejection.OffTheCalendar) ∷ (runs_back day t ⇒ Rejection.DayRunsBack) ∷ rs) a) ≡ true
     → Passed day t rs a
-dated day t rs a ok = let k = pass (is_past t) 20 ((runs_back day t ⇒ 21) ∷ rs) a ok in
-    let l = pass (runs_back day t) 21 rs a k.1 in
+dated day t rs a ok = let k = pass (is_past t) Rejection.OffTheCalendar ((runs_back day t ⇒ Rejection.DayRunsBack) ∷ rs) a ok in
+    let l = pass (runs_back day t) Rejection.DayRunsBack rs a k.1 in
     record { calendar = ltb-false last_day t k.0; on = ltb-false t day l.0; rest = l.1 }
 
 -- Where another day is given.
 pub dated_also : (day t : ℕ) (x : Bool) (rs : List Row) (a : Answer)
-    → is_accepted (first_of ((is_past t || x ⇒ 20) ∷ (runs_back day t ⇒ 21) ∷ rs) a) ≡ true → (x ≡ false) × Passed day t rs a
-dated_also day t x rs a ok = let k = pass (is_past t || x) 20 ((runs_back day t ⇒ 21) ∷ rs) a ok in
-    let l = pass (runs_back day t) 21 rs a k.1 in let n = neither (is_past t) x k.0 in
+    → is_accepted (first_of ((is_past t || x ⇒ Rejection.OffTheCalendar) ∷ (runs_back day t ⇒ Rejection.DayRunsBack) ∷ rs) a) ≡ true → (x ≡ false) × Passed day t rs a
+dated_also day t x rs a ok = let k = pass (is_past t || x) Rejection.OffTheCalendar ((runs_back day t ⇒ Rejection.DayRunsBack) ∷ rs) a ok in
+    let l = pass (runs_back day t) Rejection.DayRunsBack rs a k.1 in let n = neither (is_past t) x k.0 in
     (n.1, record { calendar = ltb-false last_day t n.0; on = ltb-false t day l.0; rest = l.1 })
 
 module _ (S : Settings) (day : ℕ) (u : List Bool) (t : ℕ) where

@@ -1,8 +1,8 @@
 -- Document 01, "Dated examples": the proved table, a field or more for each sentence marked P, with the sentence above
 -- it, and those that document 02 adds; the sample input of "Message lines"; and the right result beside each mistake
 -- seen. proofs/Examples.antt proves it. Definitions only.
-use Rattle.std.specs.Prelude.{◌≡◌, true, false, List, [], ◌∷◌, ◌++◌, ℕ, ◌+◌, ◌-◌}
-use Rattle.dates.specs.declared.{DayAnswer.DayAnswer, DateAnswer.DateAnswer}
+use Rattle.rules.specs.declared.{Rejection.Rejection}
+use Rattle.std.specs.Prelude.{◌≡◌, true, false, List, [], ◌∷◌, ◌++◌, ℕ, ◌+◌, ◌-◌, Some, None}
 use Rattle.dates.specs.Dates.{date}
 use Rattle.dates.specs.Numbers.{day_answer, date_answer}
 use Rattle.dates.specs.Months.{three_months_after}
@@ -83,67 +83,67 @@ sample =
     on 7671 (Action.Contract 5) gives Answer.Accepted ∷
     on 7671 (Action.At 1 (enrol 3 0 990 2 0)) gives Answer.Accepted ∷
     on 7674 (Action.At 1 (PointAction.IntoService 5 77)) gives Answer.Accepted ∷
-    on 7674 (Action.At 1 (PointAction.DefaultSupply 77)) gives Answer.Refused 24 ∷
+    on 7674 (Action.At 1 (PointAction.DefaultSupply 77)) gives Answer.Refused Rejection.AlreadyServed ∷
     on 7684 (Action.At 1 (PointAction.Reading 7684 10 1)) gives Answer.Accepted ∷ []
 
 pub record PExamples : Type 0 where
   -- "29 February 2020 is 7,364; there is no 29 February 2100."
-  pub february_29_2020 : day_answer 2020 2 29 ≡ DayAnswer.Day 7364
-  pub day_7364 : date_answer 7364 ≡ DateAnswer.On (date 2020 2 29)
-  pub no_february_29_2100 : day_answer 2100 2 29 ≡ DayAnswer.NoDate
-  pub february_28_2100 : day_answer 2100 2 28 ≡ DayAnswer.Day 36583
-  pub march_1_2100 : day_answer 2100 3 1 ≡ DayAnswer.Day 36584
+  pub february_29_2020 : day_answer 2020 2 29 ≡ Some 7364
+  pub day_7364 : date_answer 7364 ≡ Some (date 2020 2 29)
+  pub no_february_29_2100 : day_answer 2100 2 29 ≡ None
+  pub february_28_2100 : day_answer 2100 2 28 ≡ Some 36583
+  pub march_1_2100 : day_answer 2100 3 1 ≡ Some 36584
   -- "Easter 2021 is 4 April, day 7,764. In 2008 Ascension is 1 May."
   pub easter_2021 : easter_sunday 2021 ≡ month_day 4 4
-  pub easter_2021_day : easter_day 2021 ≡ DayAnswer.Day 7764
-  pub easter_2008_day : easter_day 2008 ≡ DayAnswer.Day 3004
-  pub ascension_2008 : date_answer (3004 + 39) ≡ DateAnswer.On (date 2008 5 1)
+  pub easter_2021_day : easter_day 2021 ≡ Some 7764
+  pub easter_2008_day : easter_day 2008 ≡ Some 3004
+  pub ascension_2008 : date_answer (3004 + 39) ≡ Some (date 2008 5 1)
   -- so 1 May 2008, a Thursday, is a holiday twice over and no working day; the Friday after it is one
   pub ascension_2008_after_easter : is_after_easter 3043 (easter_day 2008) ≡ true
   pub may_1_2008_fixed : is_fixed_holiday (date 2008 5 1) ≡ true
   pub may_1_2008_not_working : is_working 3043 ≡ false
   pub may_2_2008_working : is_working 3044 ≡ true
   -- "Request on 1 June 2021 (7,822): r = 7,843 and r = 7,842 both give e = 7,843."
-  pub june_1_2021 : day_answer 2021 6 1 ≡ DayAnswer.Day 7822
+  pub june_1_2021 : day_answer 2021 6 1 ≡ Some 7822
   pub request_for_7843 : Plays (opens 7820) (request_for 7843 (Answer.AcceptedOn 7843))
   pub request_for_7842 : Plays (opens 7820) (request_for 7842 (Answer.AcceptedOn 7843))
   pub request_for_7844 : Plays (opens 7820) (request_for 7844 (Answer.AcceptedOn 7844))
   -- "r = 7,914 (1 September) is accepted, 7,915 gets 3."
-  pub september_1_2021 : day_answer 2021 9 1 ≡ DayAnswer.Day 7914
+  pub september_1_2021 : day_answer 2021 9 1 ≡ Some 7914
   pub three_months_after_june_1 : three_months_after 7822 ≡ 7914
   pub request_for_7914 : Plays (opens 7820) (request_for 7914 (Answer.AcceptedOn 7914))
-  pub request_for_7915 : Plays (opens 7820) (request_for 7915 (Answer.Refused 3))
+  pub request_for_7915 : Plays (opens 7820) (request_for 7915 (Answer.Refused Rejection.DateIncompatible))
   -- "Three months after 30 November 2021 is 28 February 2022."
-  pub november_30_2021 : day_answer 2021 11 30 ≡ DayAnswer.Day 8004
+  pub november_30_2021 : day_answer 2021 11 30 ≡ Some 8004
   pub three_months_after_november_30 : three_months_after 8004 ≡ 8094
-  pub february_28_2022 : day_answer 2022 2 28 ≡ DayAnswer.Day 8094
+  pub february_28_2022 : day_answer 2022 2 28 ≡ Some 8094
   -- "W = 2, e = 25 May 2021: cancel on 19 May accepted, on 20 May 26 (24 May is Whit Monday)."
-  pub may_25_2021 : day_answer 2021 5 25 ≡ DayAnswer.Day 7815
+  pub may_25_2021 : day_answer 2021 5 25 ≡ Some 7815
   pub whit_monday_2021 : is_after_easter 7814 (easter_day 2021) ≡ true
   pub working_days_after_19_may : working_between 7809 7815 ≡ 2
   pub working_days_after_20_may : working_between 7810 7815 ≡ 1
   pub in_time_on_19_may : too_late (settings_of (opens 7792)) 7809 (Pending.Request 6 7815) ≡ false
   pub too_late_on_20_may : too_late (settings_of (opens 7792)) 7810 (Pending.Request 6 7815) ≡ true
   pub cancel_on_19_may_accepted : Plays (opens 7792) (cancelled_on 7809 Answer.Accepted)
-  pub cancel_on_20_may_too_late : Plays (opens 7792) (cancelled_on 7810 (Answer.Refused 26))
+  pub cancel_on_20_may_too_late : Plays (opens 7792) (cancelled_on 7810 (Answer.Refused Rejection.TooLate))
   -- 02, F-2: "In 2016 a cancellation across 9 May may now be accepted, and the day book follows the corrected calendar.
   -- New examples on both sides of the change join the P table." W = 1, e is 10 May: in 2016 only Monday 9 May lies
   -- after Friday 6 May and before e as a working day; on 9 May itself none is left.
-  pub may_9_2016 : day_answer 2016 5 9 ≡ DayAnswer.Day 5973
+  pub may_9_2016 : day_answer 2016 5 9 ≡ Some 5973
   pub may_9_2016_working : is_working 5973 ≡ true
   pub cancel_across_may_9_2016_accepted : Plays (opens_before 5974) (cancelled_before 5974 5970 Answer.Accepted)
   pub too_late_on_may_9_2016 : too_late (settings_of (opens_before 5974)) 5973 (Pending.Request 2 5974) ≡ true
-  pub may_9_2018 : day_answer 2018 5 9 ≡ DayAnswer.Day 6703
+  pub may_9_2018 : day_answer 2018 5 9 ≡ Some 6703
   pub may_9_2018_working : is_working 6703 ≡ true
   pub cancel_across_may_9_2018_accepted : Plays (opens_before 6704) (cancelled_before 6704 6702 Answer.Accepted)
-  pub may_9_2019 : day_answer 2019 5 9 ≡ DayAnswer.Day 7068
+  pub may_9_2019 : day_answer 2019 5 9 ≡ Some 7068
   pub may_9_2019_not_working : is_working 7068 ≡ false
-  pub cancel_across_may_9_2019_too_late : Plays (opens_before 7069) (cancelled_before 7069 7067 (Answer.Refused 26))
+  pub cancel_across_may_9_2019_too_late : Plays (opens_before 7069) (cancelled_before 7069 7067 (Answer.Refused Rejection.TooLate))
   pub in_time_on_may_7_2019 : too_late (settings_of (opens_before 7069)) 7066 (Pending.Request 2 7069) ≡ false
   -- in 2013 it is Ascension
-  pub may_9_2013 : day_answer 2013 5 9 ≡ DayAnswer.Day 4877
+  pub may_9_2013 : day_answer 2013 5 9 ≡ Some 4877
   pub may_9_2013_not_working : is_working 4877 ≡ false
-  pub cancel_across_may_9_2013_too_late : Plays (opens_before 4878) (cancelled_before 4878 4876 (Answer.Refused 26))
+  pub cancel_across_may_9_2013_too_late : Plays (opens_before 4878) (cancelled_before 4878 4876 (Answer.Refused Rejection.TooLate))
   -- "V = 7, D = 10, U = 1, new holder at k = 3: 2 and 5."
   pub by_seven_in_ten : Plays (opens 8000) seven_in_ten
   pub seven_in_ten_booked : Shows (opens 8000) seven_in_ten 1 (period 8000 0 2 2 ∷ period 8003 5 5 5 ∷ []) 7 7
@@ -155,11 +155,11 @@ pub record PExamples : Type 0 where
       (period 8000 1 0 0 ∷ period 8030 2 0 0 ∷ period 8070 0 0 0 ∷ []) 0 0
   -- "A request on 8,008 passes check 8; on 8,009 it gets 8 with 8,030."
   pub request_on_8008 : Plays (opens 8000) (then_request 8008 (Answer.AcceptedOn 8029))
-  pub request_on_8009 : Plays (opens 8000) (then_request 8009 (Answer.RefusedUntil 8030))
+  pub request_on_8009 : Plays (opens 8000) (then_request 8009 (Answer.Refused (Rejection.LastResortUnderWay 8030)))
   -- The sample input of "Message lines": its days, its answers and its closing lines.
-  pub january_1_2021 : day_answer 2021 1 1 ≡ DayAnswer.Day 7671
-  pub january_4_2021 : day_answer 2021 1 4 ≡ DayAnswer.Day 7674
-  pub january_14_2021 : day_answer 2021 1 14 ≡ DayAnswer.Day 7684
+  pub january_1_2021 : day_answer 2021 1 1 ≡ Some 7671
+  pub january_4_2021 : day_answer 2021 1 4 ≡ Some 7674
+  pub january_14_2021 : day_answer 2021 1 14 ≡ Some 7684
   pub sample_opening : opening_answer (opens 7671) ≡ Answer.Accepted
   pub sample_answers : Plays (opens 7671) sample
   pub sample_periods : Shows (opens 7671) sample 1 (period 7671 0 4000 4000 ∷ period 7674 5 16000 16000 ∷ []) 20000 20000
@@ -171,7 +171,7 @@ pub record PExamples : Type 0 where
   pub one_event_by_8069 : Shows (opens 8000) (then_day 8069) 1
       (period 8000 1 0 0 ∷ period 8030 2 0 0 ∷ []) 0 0
   -- "reading the 21 days as working days": 7,843 above is 22 June 2021, 21 days after 1 June.
-  pub june_22_2021 : day_answer 2021 6 22 ≡ DayAnswer.Day (7822 + 21)
+  pub june_22_2021 : day_answer 2021 6 22 ≡ Some (7822 + 21)
   -- "a period of no days left by two holders on one day": there is one period for each day on which a holder was named.
   pub two_holders_on_one_day : Shows (opens 7820)
       (served 7820 ++

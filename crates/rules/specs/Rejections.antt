@@ -2,7 +2,7 @@
 -- Definitions only.
 --
 -- View            what the checks may look at of a point: its fields, its marks, whether today's cell is marked
--- ◌⇒◌             a row: where the condition holds, the number is given
+-- ◌⇒◌             a row: where the condition holds, the call is refused with it
 -- first_of        the first row that applies
 -- rows            the rows of a call, in the order of the numbers
 -- answer_to       the answer to a call, by the register's day, who is under contract, and the points brought up to today
@@ -13,7 +13,7 @@ use Rattle.dates.specs.Months.{three_months_after}
 use Rattle.holidays.specs.Working.{working_between}
 use Rattle.rules.specs.declared.{Fields.Fields, Settings.Settings, Supply.Supply, SupplyKind.SupplyKind}
 use Rattle.rules.specs.declared.{Pending.Pending, Opening.Opening, Call.Call, Action.Action, View.View}
-use Rattle.rules.specs.declared.{NewMeter.NewMeter, PointAction.PointAction, Answer.Answer, Effect.Effect}
+use Rattle.rules.specs.declared.{NewMeter.NewMeter, PointAction.PointAction, Answer.Answer, Effect.Effect, Rejection.Rejection}
 use Rattle.rules.specs.Fields.{blank}
 use Rattle.rules.specs.Effects.{fields_of, names, accepted_by, notice, effective_day, effect_of, failed, at_point}
 use Rattle.rules.specs.Volumes.{full_turn, turn_of}
@@ -27,8 +27,8 @@ pub record Row : Type 0 where
   pub gives : Answer
 
 infix 20 ◌⇒◌
-abbrev pub ◌⇒◌ : Bool → ℕ → Row
-b ⇒ n = record { applies = b; gives = Answer.Refused n }
+abbrev pub ◌⇒◌ : Bool → Rejection → Row
+b ⇒ r = record { applies = b; gives = Answer.Refused r }
 
 -- "then the lowest number that applies": the rows stand in the paper's order
 unfoldable pub first_of : List Row → Answer → Answer
@@ -93,10 +93,10 @@ is_pending (Pending.Request s e) = true
 
 -- 8: "request: kind default and today + 21 at or past the deadline; the answer carries the deadline"
 abbrev pub last_resort_near : Settings → ℕ → SupplyKind → Row
-last_resort_near S t SupplyKind.None = false ⇒ 8
-last_resort_near S t SupplyKind.Contract = false ⇒ 8
-last_resort_near S t (SupplyKind.Default d) = record { applies = leb d (t + notice S t); gives = Answer.RefusedUntil d }
-last_resort_near S t (SupplyKind.LastResort d) = false ⇒ 8
+last_resort_near S t SupplyKind.None = false ⇒ Rejection.LastResortUnderWay 0
+last_resort_near S t SupplyKind.Contract = false ⇒ Rejection.LastResortUnderWay 0
+last_resort_near S t (SupplyKind.Default d) = leb d (t + notice S t) ⇒ Rejection.LastResortUnderWay d
+last_resort_near S t (SupplyKind.LastResort d) = false ⇒ Rejection.LastResortUnderWay 0
 
 -- 25: "cancel: none by s"
 abbrev pub is_by : ℕ → Pending → Bool
@@ -156,49 +156,65 @@ any_point p (suc n) test = test p || any_point (suc p) n test
 -- today.
 unfoldable pub rows_at : Settings → ℕ → List Bool → ℕ → ℕ → PointAction → View → List Row
 rows_at S day u t p (PointAction.Enrol m) v =
-    (not_meter m ⇒ 22) ∷ (bad_factor m ⇒ 40) ∷ (is_past t ⇒ 20) ∷ (runs_back day t ⇒ 21)
-    ∷ (not_point p ⇒ 2) ∷ (v.fields.enrolled ⇒ 23) ∷ (past_turn m ⇒ 28) ∷ []
+    (not_meter m ⇒ Rejection.FieldOutOfRange) ∷ (bad_factor m ⇒ Rejection.FactorOutOfRange) ∷ (is_past t ⇒ Rejection.OffTheCalendar)
+    ∷ (runs_back day t ⇒ Rejection.DayRunsBack)
+    ∷ (not_point p ⇒ Rejection.FalseIdpc) ∷ (v.fields.enrolled ⇒ Rejection.AlreadyEnrolled)
+    ∷ (past_turn m ⇒ Rejection.IndexDisagrees) ∷ []
 rows_at S day u t p (PointAction.IntoService s k) v =
-    (not_supplier s || not_key k ⇒ 22) ∷ (is_past t ⇒ 20) ∷ (runs_back day t ⇒ 21)
-    ∷ (no_contract u s ⇒ 1) ∷ (not_enrolled p v ⇒ 2) ∷ (ltb 0 v.fields.supply.holder ⇒ 24)
-    ∷ (is_full v (effect_of S t (PointAction.IntoService s k) v.fields) ⇒ 30) ∷ []
+    (not_supplier s || not_key k ⇒ Rejection.FieldOutOfRange) ∷ (is_past t ⇒ Rejection.OffTheCalendar)
+    ∷ (runs_back day t ⇒ Rejection.DayRunsBack)
+    ∷ (no_contract u s ⇒ Rejection.NoTransportContract) ∷ (not_enrolled p v ⇒ Rejection.FalseIdpc) ∷ (ltb 0 v.fields.supply.holder ⇒ Rejection.AlreadyServed)
+    ∷ (is_full v (effect_of S t (PointAction.IntoService s k) v.fields) ⇒ Rejection.PeriodsFull) ∷ []
 rows_at S day u t p (PointAction.DefaultSupply k) v =
-    (not_key k ⇒ 22) ∷ (is_past t || is_past (t + S.a + S.b) ⇒ 20) ∷ (runs_back day t ⇒ 21)
-    ∷ (not_enrolled p v ⇒ 2) ∷ (ltb 0 v.fields.supply.holder ⇒ 24)
-    ∷ (is_full v (effect_of S t (PointAction.DefaultSupply k) v.fields) ⇒ 30) ∷ []
+    (not_key k ⇒ Rejection.FieldOutOfRange) ∷ (is_past t || is_past (t + S.a + S.b) ⇒ Rejection.OffTheCalendar)
+    ∷ (runs_back day t ⇒ Rejection.DayRunsBack)
+    ∷ (not_enrolled p v ⇒ Rejection.FalseIdpc) ∷ (ltb 0 v.fields.supply.holder ⇒ Rejection.AlreadyServed)
+    ∷ (is_full v (effect_of S t (PointAction.DefaultSupply k) v.fields) ⇒ Rejection.PeriodsFull) ∷ []
 rows_at S day u t p (PointAction.Request s k r) v =
-    (not_supplier s || not_key k ⇒ 22) ∷ (is_past t || is_past r ⇒ 20) ∷ (runs_back day t ⇒ 21)
-    ∷ (no_contract u s ⇒ 1) ∷ (not_enrolled p v ⇒ 2) ∷ (bad_day S t r ⇒ 3) ∷ (not (eqb k v.fields.key) ⇒ 4)
-    ∷ (is_pending v.fields.supply.pending ⇒ 5) ∷ (eqb v.fields.supply.holder 0 ⇒ 6)
-    ∷ (eqb v.fields.mark 1 ⇒ 7) ∷ last_resort_near S t v.fields.supply.kind
-    ∷ (is_full v (effect_of S t (PointAction.Request s k r) v.fields) ⇒ 30) ∷ []
+    (not_supplier s || not_key k ⇒ Rejection.FieldOutOfRange) ∷ (is_past t || is_past r ⇒ Rejection.OffTheCalendar)
+    ∷ (runs_back day t ⇒ Rejection.DayRunsBack)
+    ∷ (no_contract u s ⇒ Rejection.NoTransportContract) ∷ (not_enrolled p v ⇒ Rejection.FalseIdpc)
+    ∷ (bad_day S t r ⇒ Rejection.DateIncompatible) ∷ (not (eqb k v.fields.key) ⇒ Rejection.NameDiffers)
+    ∷ (is_pending v.fields.supply.pending ⇒ Rejection.OtherRequest) ∷ (eqb v.fields.supply.holder 0 ⇒ Rejection.NoPerimeter)
+    ∷ (eqb v.fields.mark 1 ⇒ Rejection.AccessSuspended) ∷ last_resort_near S t v.fields.supply.kind
+    ∷ (is_full v (effect_of S t (PointAction.Request s k r) v.fields) ⇒ Rejection.PeriodsFull) ∷ []
 rows_at S day u t p (PointAction.Cancel s) v =
-    (not_supplier s ⇒ 22) ∷ (is_past t ⇒ 20) ∷ (runs_back day t ⇒ 21)
-    ∷ (not_enrolled p v ⇒ 2) ∷ (not (is_by s v.fields.supply.pending) ⇒ 25)
-    ∷ (too_late S t v.fields.supply.pending ⇒ 26) ∷ []
+    (not_supplier s ⇒ Rejection.FieldOutOfRange) ∷ (is_past t ⇒ Rejection.OffTheCalendar)
+    ∷ (runs_back day t ⇒ Rejection.DayRunsBack)
+    ∷ (not_enrolled p v ⇒ Rejection.FalseIdpc) ∷ (not (is_by s v.fields.supply.pending) ⇒ Rejection.NothingPending)
+    ∷ (too_late S t v.fields.supply.pending ⇒ Rejection.TooLate) ∷ []
 rows_at S day u t p (PointAction.Reading d x z) v =
-    (not_mark z ⇒ 22) ∷ (is_past t || is_past d ⇒ 20) ∷ (runs_back day t ⇒ 21)
-    ∷ (not_enrolled p v ⇒ 2) ∷ (out_of_time t d v.fields ⇒ 27) ∷ (index_disagrees v.fields x z ⇒ 28) ∷ []
+    (not_mark z ⇒ Rejection.FieldOutOfRange) ∷ (is_past t || is_past d ⇒ Rejection.OffTheCalendar)
+    ∷ (runs_back day t ⇒ Rejection.DayRunsBack)
+    ∷ (not_enrolled p v ⇒ Rejection.FalseIdpc) ∷ (out_of_time t d v.fields ⇒ Rejection.ReadingOutOfTime)
+    ∷ (index_disagrees v.fields x z ⇒ Rejection.IndexDisagrees) ∷ []
 rows_at S day u t p (PointAction.MeterChange x z m) v =
-    (not_mark z || not_meter m ⇒ 22) ∷ (bad_factor m ⇒ 40) ∷ (is_past t ⇒ 20) ∷ (runs_back day t ⇒ 21)
-    ∷ (not_enrolled p v ⇒ 2) ∷ (out_of_time t t v.fields ⇒ 27)
-    ∷ (index_disagrees v.fields x z || past_turn m ⇒ 28) ∷ []
+    (not_mark z || not_meter m ⇒ Rejection.FieldOutOfRange) ∷ (bad_factor m ⇒ Rejection.FactorOutOfRange) ∷ (is_past t ⇒ Rejection.OffTheCalendar)
+    ∷ (runs_back day t ⇒ Rejection.DayRunsBack)
+    ∷ (not_enrolled p v ⇒ Rejection.FalseIdpc) ∷ (out_of_time t t v.fields ⇒ Rejection.ReadingOutOfTime)
+    ∷ (index_disagrees v.fields x z || past_turn m ⇒ Rejection.IndexDisagrees) ∷ []
 rows_at S day u t p PointAction.OutOfService v =
-    (is_past t ⇒ 20) ∷ (runs_back day t ⇒ 21)
-    ∷ (not_enrolled p v ⇒ 2) ∷ (eqb v.fields.supply.holder 0 ⇒ 6)
-    ∷ (is_full v (effect_of S t PointAction.OutOfService v.fields) ⇒ 30) ∷ []
+    (is_past t ⇒ Rejection.OffTheCalendar) ∷ (runs_back day t ⇒ Rejection.DayRunsBack)
+    ∷ (not_enrolled p v ⇒ Rejection.FalseIdpc) ∷ (eqb v.fields.supply.holder 0 ⇒ Rejection.NoPerimeter)
+    ∷ (is_full v (effect_of S t PointAction.OutOfService v.fields) ⇒ Rejection.PeriodsFull) ∷ []
 rows_at S day u t p (PointAction.Suspend m) v =
-    (not_mark m ⇒ 22) ∷ (is_past t ⇒ 20) ∷ (runs_back day t ⇒ 21) ∷ (not_enrolled p v ⇒ 2) ∷ []
+    (not_mark m ⇒ Rejection.FieldOutOfRange) ∷ (is_past t ⇒ Rejection.OffTheCalendar)
+    ∷ (runs_back day t ⇒ Rejection.DayRunsBack) ∷ (not_enrolled p v ⇒ Rejection.FalseIdpc) ∷ []
 
 -- 20: "failure: today + B is"; 29: "failure of the default or last-resort supplier"
 unfoldable pub rows : Settings → ℕ → List Bool → ℕ → Action → (ℕ → View) → List Row
-rows S day u t (Action.Contract s) v = (not_supplier s ⇒ 22) ∷ (is_past t ⇒ 20) ∷ (runs_back day t ⇒ 21) ∷ []
+rows S day u t (Action.Contract s) v =
+    (not_supplier s ⇒ Rejection.FieldOutOfRange) ∷ (is_past t ⇒ Rejection.OffTheCalendar)
+    ∷ (runs_back day t ⇒ Rejection.DayRunsBack) ∷ []
 rows S day u t (Action.Failure s) v =
-    (not_supplier s ⇒ 22) ∷ (is_past t || is_past (t + S.b) ⇒ 20) ∷ (runs_back day t ⇒ 21)
-    ∷ (no_contract u s ⇒ 1) ∷ (eqb s S.default || eqb s S.resort ⇒ 29)
-    ∷ (any_point 1 32 (λ p. touches s (v p).fields && is_full (v p) (failed S t s (v p).fields)) ⇒ 30) ∷ []
+    (not_supplier s ⇒ Rejection.FieldOutOfRange) ∷ (is_past t || is_past (t + S.b) ⇒ Rejection.OffTheCalendar)
+    ∷ (runs_back day t ⇒ Rejection.DayRunsBack)
+    ∷ (no_contract u s ⇒ Rejection.NoTransportContract)
+    ∷ (eqb s S.default || eqb s S.resort ⇒ Rejection.ProtectedSupplier)
+    ∷ (any_point 1 32 (λ p. touches s (v p).fields && is_full (v p) (failed S t s (v p).fields)) ⇒ Rejection.PeriodsFull)
+    ∷ []
 rows S day u t (Action.At p a) v = rows_at S day u t p a (v p)
-rows S day u t Action.Day v = (is_past t ⇒ 20) ∷ (runs_back day t ⇒ 21) ∷ []
+rows S day u t Action.Day v = (is_past t ⇒ Rejection.OffTheCalendar) ∷ (runs_back day t ⇒ Rejection.DayRunsBack) ∷ []
 
 -- The answer where no row applies: what the call does says it.
 unfoldable pub accepted : Settings → ℕ → Action → (ℕ → View) → Answer
@@ -220,7 +236,9 @@ answer S day u c v = answer_to S day u c.today c.action (shown v)
 unfoldable pub opening_answer : Opening → Answer
 opening_answer o =
     first_of
-    ((outside 0 10 o.w ⇒ 22) ∷ (outside 1 400 o.a ⇒ 22) ∷ (outside 1 400 o.b ⇒ 22)
-    ∷ (not_supplier o.default ⇒ 22)
-    ∷ (not_supplier o.resort ⇒ 22) ∷ (eqb o.default o.resort ⇒ 22) ∷ (is_past o.day ⇒ 20) ∷ [])
+    ((outside 0 10 o.w ⇒ Rejection.FieldOutOfRange) ∷ (outside 1 400 o.a ⇒ Rejection.FieldOutOfRange)
+    ∷ (outside 1 400 o.b ⇒ Rejection.FieldOutOfRange)
+    ∷ (not_supplier o.default ⇒ Rejection.FieldOutOfRange)
+    ∷ (not_supplier o.resort ⇒ Rejection.FieldOutOfRange) ∷ (eqb o.default o.resort ⇒ Rejection.FieldOutOfRange)
+    ∷ (is_past o.day ⇒ Rejection.OffTheCalendar) ∷ [])
     Answer.Accepted

@@ -2,13 +2,61 @@
 // Days are gas days, 0 is 1 January 2000; holder 0 is the operator's account; volumes are in thousandths.
 #![tactic(auto)]
 
-// What the wheels of a meter count: cubic metres (OBIS 7-1:3.0.0), or normal ones where the meter counts these.
+ghost use Rattle.std.specs.Prelude.{◌≡◌, ℕ};
+ghost use Rattle.std.proofs.Common.{rules};
+
+// A volume of one kind, as a number of thousandths: what is done alike with both kinds is written once, over this trait.
+pub trait Thousandths: Copy {
+    ghost amount: { Self → ℕ };
+
+    fn from_thousandths(n: u64) -> Self
+        ensures { amount result ≡ n };
+
+    fn thousandths(self) -> u64
+        ensures { result ≡ amount self };
+
+    // Two volumes of one amount are one volume.
+    ghost one: { (a b : Self) → amount a ≡ amount b → a ≡ b };
+}
+
+// What the wheels of a meter count: cubic metres (OBIS 7-1:3.0.0), or normal ones where the meter counts these. The two
+// volumes are two tuple structs, and not one generic type, since the buyer asks for that form (docs/RULES.md).
 #[derive(Clone, Copy)]
 pub struct Volume(pub u64);
+
+impl Thousandths for Volume {
+    ghost amount = { λ v. v.0 };
+
+    ghost one = { Prim.search rules };
+
+    fn from_thousandths(n: u64) -> Volume {
+        Volume(n)
+    }
+
+    fn thousandths(self) -> u64 {
+        let Volume(n) = self;
+        n
+    }
+}
 
 // Normal cubic metres (OBIS 7-1:13.2.0). The one way to them from what the wheels count is a meter's factor.
 #[derive(Clone, Copy)]
 pub struct NormalVolume(pub u64);
+
+impl Thousandths for NormalVolume {
+    ghost amount = { λ v. v.0 };
+
+    ghost one = { Prim.search rules };
+
+    fn from_thousandths(n: u64) -> NormalVolume {
+        NormalVolume(n)
+    }
+
+    fn thousandths(self) -> u64 {
+        let NormalVolume(n) = self;
+        n
+    }
+}
 
 // A supplier period: it starts on a day and runs to the next period's start.
 #[derive(Clone, Copy)]
@@ -19,7 +67,8 @@ pub struct Period {
     pub normal: NormalVolume,
 }
 
-// A point's periods, the oldest first, in the first count slots.
+// A point's periods, the oldest first, in the first count slots. An array with its count: there is no allocation, and
+// the slots past the count stay as they are (docs/DECISIONS.md, 7).
 #[derive(Clone, Copy)]
 pub struct History {
     pub count: usize,
@@ -35,7 +84,7 @@ pub enum SupplyKind {
     LastResort(u32),
 }
 
-// The pending request of a point: supplier and effective day.
+// The pending request of a point: supplier and effective day. An enum, which the buyer asks for (docs/RULES.md).
 #[derive(Clone, Copy)]
 pub enum Pending {
     Nothing,
@@ -50,7 +99,7 @@ pub struct Supply {
     pub pending: Pending,
 }
 
-// What a meter counts.
+// What a meter counts. An enum of its own and no Option of a factor: its cases are the codes.
 #[derive(Clone, Copy)]
 pub enum Code {
     // Normal cubic metres, OBIS 7-1:13.2.0.
@@ -74,12 +123,15 @@ pub struct Reading {
     pub index: u64,
 }
 
-// What the register and the day book keep of a point alike.
+// What the register and the day book keep of a point alike. `enrolled` is a field and no Option round the others, since
+// both keep the fields of a point that was never enrolled (`blank`), and `day_book_agrees` compares them.
 #[derive(Clone, Copy)]
 pub struct Fields {
     pub enrolled: bool,
     pub supply: Supply,
     pub key: u32,
+    // 0, or 1 where access is suspended. No bool: what the calls and questions promise, they promise of every number here, and
+    // `Unseen` says so.
     pub mark: u8,
     pub meter: Meter,
     pub reading: Reading,
@@ -97,7 +149,7 @@ pub struct View {
     pub fields: Fields,
     // the number of marked cells, which is that of periods
     pub marks: usize,
-    // today's cell is marked already
+    // today's cell is one of them already; a fact of the point beside its count, which means the same either way
     pub marked: bool,
 }
 
@@ -146,7 +198,8 @@ pub enum Action {
     Day,
 }
 
-// A meter as a call brings it: its wheels, the index that it starts with, its code and its factor.
+// A meter as a call brings it: its wheels, the index that it starts with, its code and its factor. Any numbers, the code
+// too: `not_meter` refuses the others.
 #[derive(Clone, Copy)]
 pub struct NewMeter {
     pub before: u64,
@@ -192,14 +245,40 @@ pub enum PointAction {
     },
 }
 
-// The answer to a call: accepted, accepted with its effective day, refused with a number, or refused with number 8
-// and the deadline.
+// Why a call, an opening or a line is refused, by the trade's words of document 01's table; specs/Answers has the numbers.
+#[derive(Clone, Copy)]
+pub enum Rejection {
+    NoTransportContract,
+    FalseIdpc,
+    DateIncompatible,
+    NameDiffers,
+    OtherRequest,
+    NoPerimeter,
+    AccessSuspended,
+    // With the deadline of default supply.
+    LastResortUnderWay(u32),
+    OffTheCalendar,
+    DayRunsBack,
+    FieldOutOfRange,
+    AlreadyEnrolled,
+    AlreadyServed,
+    NothingPending,
+    TooLate,
+    ReadingOutOfTime,
+    IndexDisagrees,
+    ProtectedSupplier,
+    PeriodsFull,
+    UnreadableLine,
+    FactorOutOfRange,
+}
+
+// The answer to a call: accepted, accepted with its effective day, or refused. An enum and not a Result, since `number`
+// and `date` of specs/Answers give the paper's number and date for each of its cases.
 #[derive(Clone, Copy)]
 pub enum Answer {
     Accepted,
     AcceptedOn(u32),
-    Refused(u8),
-    RefusedUntil(u32),
+    Refused(Rejection),
 }
 
 // The answer, and the whole register after the call.
@@ -209,7 +288,8 @@ pub struct Outcome {
     pub register: Register,
 }
 
-// What falls due first at a point by a day.
+// What falls due first at a point by a day. An enum with the supply inside its case, which the buyer asks for
+// (docs/RULES.md).
 #[derive(Clone, Copy)]
 pub enum Due {
     Nothing,

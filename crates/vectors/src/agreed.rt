@@ -1,70 +1,62 @@
 // Whether what is written, piece by piece, is what has to be written.
 
-// The first len bytes are the same. Where the ones behind them are not, nothing further is compared. Again says how
-// often the rest of a piece was handed in again.
 #[derive(Clone, Copy)]
-pub(crate) struct Agreed {
-    pub len: usize,
-    pub is_same: bool,
-    pub again: u64,
+pub(crate) struct Agreed<'a> {
+    expected: &'a [u8],
+    // What has still to be written; as an error, what has not been where something else was. Nothing further is
+    // compared behind that.
+    left: Result<&'a [u8], &'a [u8]>,
+    // How often the rest of a piece was handed in again.
+    again: u64,
 }
 
-// Before anything is written.
-pub(crate) fn nothing_yet() -> Agreed {
-    Agreed {
-        len: 0,
-        is_same: true,
-        again: 0,
-    }
-}
-
-// From here on it is not the same.
-pub(crate) fn broken(a: Agreed) -> Agreed {
-    Agreed {
-        is_same: false,
-        ..a
-    }
-}
-
-// Of a piece so many bytes are left to be handed in again.
-pub(crate) fn left(a: Agreed, n: usize) -> Agreed {
-    if n == 0 {
-        return a;
-    }
-    Agreed {
-        again: std::num::wrapping_add_u64(a.again, 1),
-        ..a
-    }
-}
-
-// A text more is written.
-pub(crate) fn then(a: Agreed, text: &[u8], expected: &[u8]) -> Agreed {
-    if !a.is_same {
-        return a;
-    }
-    let mut at = a.len;
-    let mut i: usize = 0;
-    while i < text.len() {
-        if expected.len() <= at {
-            return broken(up_to(a, at));
+impl<'a> Agreed<'a> {
+    // Before anything is written.
+    pub(crate) fn nothing_yet(expected: &'a [u8]) -> Agreed<'a> {
+        Agreed {
+            expected,
+            left: Ok(expected),
+            again: 0,
         }
-        if expected[at] != text[i] {
-            return broken(up_to(a, at));
+    }
+
+    // A text more is written.
+    pub(crate) fn then(&mut self, text: &[u8]) {
+        let Ok(left) = self.left else {
+            return;
+        };
+        let same = left.iter().zip(text).take_while(|(a, b)| a == b).count();
+        let rest = left.get(same..).unwrap_or(&[]);
+        self.left = if same == text.len() {
+            Ok(rest)
+        } else {
+            Err(rest)
+        };
+    }
+
+    // From here on it is not the same.
+    pub(crate) fn fail(&mut self) {
+        if let Ok(left) = self.left {
+            self.left = Err(left);
         }
-        at += 1;
-        i += 1;
     }
-    up_to(a, at)
-}
 
-// Nothing more is written: nothing may be missing.
-pub(crate) fn at_end(a: Agreed, expected: &[u8]) -> Agreed {
-    if a.len != expected.len() {
-        return broken(a);
+    // Of a piece so many bytes are left to be handed in again.
+    pub(crate) fn hand_in_again(&mut self, n: usize) {
+        if n > 0 {
+            self.again = self.again.wrapping_add(1);
+        }
     }
-    a
-}
 
-fn up_to(a: Agreed, at: usize) -> Agreed {
-    Agreed { len: at, ..a }
+    pub(crate) fn again(&self) -> u64 {
+        self.again
+    }
+
+    // Nothing more is written: nothing may be missing. Where it is not the same, how many bytes are.
+    pub(crate) fn at_end(&self) -> Result<(), usize> {
+        match self.left {
+            Ok([]) => Ok(()),
+            Ok(left) | Err(left) => Err(self.expected.len().wrapping_sub(left.len())),
+        }
+    }
 }

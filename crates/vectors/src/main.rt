@@ -14,8 +14,6 @@ mod tally;
 mod ways;
 
 fn main(rt: HostRuntime) {
-    let stored = cases::all(&rt);
-    tally::report_cases(&rt, stored);
-    let examples = dated::all(&rt);
-    tally::report_examples(&rt, examples);
+    cases::all(&rt).report_cases(&rt);
+    dated::all(&rt).report_examples(&rt);
 }

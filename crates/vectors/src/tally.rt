@@ -1,128 +1,94 @@
 // What comparing came to, counted and printed.
 use crate::agreed::Agreed;
-
-// What is told where there is no number.
-pub(crate) const NONE: u64 = u64::MAX;
+use std::fmt;
 
 // How many were compared, how many differences there are, how many bytes of input and of output were compared, and how
 // often the rest of a piece was handed in again.
-#[derive(Clone, Copy)]
+#[derive(Clone, Copy, Default)]
 pub(crate) struct Tally {
-    pub compared: u64,
-    pub different: u64,
-    pub input: u64,
-    pub output: u64,
-    pub again: u64,
+    compared: u64,
+    different: u64,
+    input: u64,
+    output: u64,
+    again: u64,
 }
 
-pub(crate) fn none() -> Tally {
-    Tally {
-        compared: 0,
-        different: 0,
-        input: 0,
-        output: 0,
-        again: 0,
+impl Tally {
+    // One more was compared.
+    pub(crate) fn count(&mut self, input: usize, output: usize) {
+        self.compared = self.compared.wrapping_add(1);
+        self.input = self.input.wrapping_add(input as u64);
+        self.output = self.output.wrapping_add(output as u64);
+    }
+
+    fn count_difference(&mut self) {
+        self.different = self.different.wrapping_add(1);
+    }
+
+    // A file that cannot be compared.
+    pub(crate) fn unread(&mut self, rt: &impl Print, name: &[u8], ending: &[u8]) {
+        let _ = rt.write_all(name);
+        let _ = rt.write_all(ending);
+        let _ = print!(rt; ": missing, or longer than the room for it\n");
+        self.count_difference();
+    }
+
+    // What one way of running a case came to: a difference is printed where it is found.
+    pub(crate) fn judge(&mut self, rt: &impl Print, name: &[u8], way: &str, a: Agreed<'_>) {
+        self.again = self.again.wrapping_add(a.again());
+        if let Err(same) = a.at_end() {
+            let _ = rt.write_all(name);
+            let byte = (same as u64).wrapping_add(1);
+            let _ = println!(rt; "{way}: differs at byte {byte}");
+            self.count_difference();
+        }
+    }
+
+    // What the code says, where a document gives a number; another one is printed beside it.
+    pub(crate) fn tell(
+        &mut self,
+        rt: &impl Print,
+        what: &str,
+        n: Option<u32>,
+        expected: Option<u32>,
+    ) {
+        self.count(0, 0);
+        if n == expected {
+            let _ = println!(rt; "{what}{}", Told(n));
+        } else {
+            let _ = println!(rt; "{what}{}, and by the document {}", Told(n), Told(expected));
+            self.count_difference();
+        }
+    }
+
+    pub(crate) fn report_cases(&self, rt: &impl Print) {
+        let _ = println!(rt;
+            "{} cases ({} bytes of input, {} of output), 4 ways each: {} differences",
+            self.compared, self.input, self.output, self.different
+        );
+        let _ = println!(rt;
+            "the rest of a piece was handed in again {} times",
+            self.again
+        );
+    }
+
+    pub(crate) fn report_examples(&self, rt: &impl Print) {
+        let _ = println!(rt;
+            "{} dated examples of the calendar: {} differences",
+            self.compared, self.different
+        );
     }
 }
 
-// One more was compared.
-pub(crate) fn counted(t: Tally, input: u64, output: u64) -> Tally {
-    Tally {
-        compared: std::num::wrapping_add_u64(t.compared, 1),
-        input: std::num::wrapping_add_u64(t.input, input),
-        output: std::num::wrapping_add_u64(t.output, output),
-        ..t
+// A number, or that there is none.
+#[derive(Clone, Copy)]
+struct Told(Option<u32>);
+
+impl fmt::Display for Told {
+    fn fmt<W: fmt::Write>(&self, f: &mut fmt::Formatter<W>) -> fmt::Result {
+        match self.0 {
+            Some(n) => write!(f, "{n}"),
+            None => write!(f, "none"),
+        }
     }
-}
-
-// A file that cannot be compared.
-pub(crate) fn unread(rt: &impl Print, t: Tally, name: &[u8], ending: &[u8]) -> Tally {
-    print(rt, name);
-    print(rt, ending);
-    print(rt, b": missing, or longer than the room for it\n");
-    one_more(t)
-}
-
-// What one way of running a case came to: a difference is printed where it is found.
-pub(crate) fn judged(rt: &impl Print, t: Tally, name: &[u8], way: &[u8], a: Agreed) -> Tally {
-    let after = Tally {
-        again: std::num::wrapping_add_u64(t.again, a.again),
-        ..t
-    };
-    if a.is_same {
-        return after;
-    }
-    print(rt, name);
-    print(rt, way);
-    print_number(rt, std::num::wrapping_add_u64(a.len as u64, 1));
-    print(rt, b"\n");
-    one_more(after)
-}
-
-// What the code says, where a document gives a number; another one is printed beside it.
-pub(crate) fn told(rt: &impl Print, t: Tally, what: &[u8], n: u64, expected: u64) -> Tally {
-    print(rt, what);
-    print_told(rt, n);
-    let after = counted(t, 0, 0);
-    if n == expected {
-        print(rt, b"\n");
-        return after;
-    }
-    print(rt, b", and by the document ");
-    print_told(rt, expected);
-    print(rt, b"\n");
-    one_more(after)
-}
-
-// The two days of which something is told.
-pub(crate) fn days(rt: &impl Print, a: u64, b: u64) {
-    print(rt, b"days ");
-    print_number(rt, a);
-    print(rt, b" and ");
-    print_number(rt, b);
-    print(rt, b", ");
-}
-
-pub(crate) fn report_cases(rt: &impl Print, t: Tally) {
-    print_number(rt, t.compared);
-    print(rt, b" cases (");
-    print_number(rt, t.input);
-    print(rt, b" bytes of input, ");
-    print_number(rt, t.output);
-    print(rt, b" of output), 4 ways each: ");
-    print_number(rt, t.different);
-    print(rt, b" differences\n");
-    print(rt, b"the rest of a piece was handed in again ");
-    print_number(rt, t.again);
-    print(rt, b" times\n");
-}
-
-pub(crate) fn report_examples(rt: &impl Print, t: Tally) {
-    print_number(rt, t.compared);
-    print(rt, b" dated examples of the calendar: ");
-    print_number(rt, t.different);
-    print(rt, b" differences\n");
-}
-
-fn one_more(t: Tally) -> Tally {
-    Tally {
-        different: std::num::wrapping_add_u64(t.different, 1),
-        ..t
-    }
-}
-
-fn print_told(rt: &impl Print, n: u64) {
-    if n == NONE {
-        print(rt, b"none");
-        return;
-    }
-    print_number(rt, n);
-}
-
-fn print(rt: &impl Print, text: &[u8]) {
-    let _ = rt.write_all(text);
-}
-
-fn print_number(rt: &impl Print, n: u64) {
-    let _ = print!(rt; "{n}");
 }

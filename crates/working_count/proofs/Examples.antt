@@ -1,7 +1,7 @@
 -- Working days between two days: those between are looked at by their dates, since days and dates are one to one; the
 -- whole calendar by the years' words.
+use Rattle.std.specs.Prelude.{Some}
 use Rattle.basics.proofs.Basics.{◌≡◌, refl, ap, ℕ}
-use Rattle.dates.specs.declared.{DayAnswer.DayAnswer}
 use Rattle.dates.specs.Dates.{weekday, leap_row, month_length, date, date_of}
 use Rattle.dates.specs.Numbers.{month_start, year_start, day_number, is_real, day_answer}
 use Rattle.dates.proofs.OneToOne.{one_to_one}
@@ -9,16 +9,15 @@ use Rattle.holidays.specs.Easter.{easter_sunday, easter_day}
 use Rattle.holidays.specs.Holidays.{falls_on, is_fixed_holiday, is_after_easter, is_holiday_on, is_holiday}
 use Rattle.holidays.specs.Working.{is_working, working_from, working_between}
 use Rattle.year_words.proofs.Examples.{word_examples}
-use Rattle.working_count.specs.declared.{WorkingAnswer.WorkingAnswer}
 use Rattle.working_count.specs.Question.{working_answer}
 use Rattle.working_count.specs.Examples.{WorkingExamples}
 
-on : (y m d n : ℕ) → day_answer y m d ≡ DayAnswer.Day n → date_of n ≡ date y m d
+on : (y m d n : ℕ) → day_answer y m d ≡ Some n → date_of n ≡ date y m d
 on y m d n e = (one_to_one.day_has_date y m d n e).1
 
-whole : working_answer 0 73048 ≡ WorkingAnswer.Days 50455
+whole : working_answer 0 73048 ≡ Some 50455
 unfolding working_answer
-whole = ap WorkingAnswer.Days word_examples.between_first_and_last
+whole = ap Some word_examples.between_first_and_last
 
 pub working_examples : WorkingExamples
 unfolding weekday leap_row month_length month_start year_start day_number is_real day_answer easter_sunday easter_day falls_on

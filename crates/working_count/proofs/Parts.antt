@@ -14,7 +14,7 @@ use Rattle.year_words.proofs.Laws.{years_as_bits}
 use Rattle.working_count.specs.Between.Parts.{Counted}
 
 -- plain arithmetic of a part's ends: the days from d, which lies lo days after first, to the day before first + hi
-more_left : (first lo d stop hi : ℕ) → first + lo ≡ d → lo < 64 → d < stop → hi ≡ min 64 (stop - first) → lo < hi
+more_left : (first lo d stop hi : ℕ) → first + lo ≡ d → lo < 64 → d < stop → hi ≡ min (stop - first) 64 → lo < hi
 more_left first lo d stop hi a b c h = omega arith
 
 left : (first stop e s o hi : ℕ) {l : ℕ} → first + hi ≤ stop → first ≡ s + o → stop ≤ e → e ≡ s + l → o + hi ≤ l
@@ -43,7 +43,7 @@ module _ (y : CalendarYear) (d end : ℕ) (at : InYear d y) (more : d < end) whe
   pub word_in : i / 64 < 6
   word_in = let l = long in let e = ends in let b = at.before_end in omega arith
 
-  module _ (stop hi : ℕ) (stop_is : stop ≡ min end y.end) (hi_is : hi ≡ min 64 (stop - (d - lo))) where
+  module _ (stop hi : ℕ) (stop_is : stop ≡ min end y.end) (hi_is : hi ≡ min (stop - (d - lo)) 64) where
     before_stop : d < stop
     before_stop = let b = at.before_end in omega arith
 

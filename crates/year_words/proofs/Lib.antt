@@ -2,7 +2,6 @@ pub mod Bits
 mod Walk
 pub mod YearLaw
 mod Table
-mod Rest
 pub mod Laws
 mod Total
 pub mod Examples

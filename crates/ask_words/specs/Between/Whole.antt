@@ -1,10 +1,7 @@
 -- What passes between the reader of a word and what it asks for. Definitions only.
-use Rattle.std.specs.Prelude.{ℕ, cond, ltb}
-use Rattle.line_values.specs.declared.{Found.Found}
-use Rattle.line_values.specs.declared.Found.TheVariants as field
-use Rattle.ask_words.specs.declared.{Value.Value}
+use Rattle.std.specs.Prelude.{ℕ, cond, ltb, Option, Some, None}
 
 -- What the code read of a word of len bytes, and the position behind it: a value where nothing follows.
-abbrev pub whole_of : ℕ → Found → Value
-whole_of len (field.Value v next) = cond (ltb next len) Value.Nothing (Value.Is v)
-whole_of len field.Bad = Value.Nothing
+abbrev pub whole_of : ℕ → Option (ℕ × ℕ) → Option ℕ
+whole_of len (Some (v, next)) = cond (ltb next len) None (Some v)
+whole_of len None = None

@@ -1,5 +1,6 @@
 -- 01, Message lines: what a message is answered, and what it changes, before and after the register is opened.
 -- Definitions only.
+use Rattle.rules.specs.declared.{Rejection.Rejection}
 use Rattle.std.specs.Prelude.{Bool, true, cond, not, ◌&&◌}
 use Rattle.rules.specs.declared.{Register.Register, Answer.Answer}
 use Rattle.rules.specs.Answers.{is_accepted}
@@ -13,7 +14,7 @@ desk b r = record { ready = b; register = r }
 
 -- "unreadable line"
 abbrev pub unreadable : Answer
-unreadable = Answer.Refused 31
+unreadable = Answer.Refused Rejection.UnreadableLine
 
 -- "Until a `set` is accepted every other line gives 31, and so does a later `set`."
 unfoldable pub answer_of : Desk → Message → Answer

@@ -1,9 +1,6 @@
-use Rattle.basics.proofs.Basics.{◌≡◌, ◌≤◌, ◌-◌, ◌+◌, length, drop}
+use Rattle.basics.proofs.Basics.{◌≡◌, ◌+◌, drop}
 use Rattle.input_lines.specs.Between.Feeds.{fitting}
 use Rattle.input_lines.proofs.fitting.Given as goal
 
 abbrev pub invariant-loop-i : goal.invariant-loop-i
-invariant-loop-i l = (l.i ≤ length l.piece) × (l.i + fitting l.left (drop l.i l.piece) ≡ fitting l.n l.piece)
-
-abbrev pub decreases-loop-i : goal.decreases-loop-i
-decreases-loop-i l = length l.piece - l.i
+invariant-loop-i l = l.i + fitting l.left (drop l.i l.piece) ≡ fitting l.n l.piece

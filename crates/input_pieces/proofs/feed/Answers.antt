@@ -10,11 +10,11 @@ slice_bounds-answer_lines-end c = let fits = c.fitting-taken in
     let a = c.args in
     sym (length-take-le fits.result a.piece.now (omega (arith, fits.ensures, fitting_le (length a.out.now / longest_answer) a.piece.now)))
 
-pub answer_lines-x-requires : goal.answer_lines-x-requires
-answer_lines-x-requires c = let fits = c.fitting-taken in
+pub answer_lines-written-requires-clause-room : goal.answer_lines-written-requires-clause-room
+answer_lines-written-requires-clause-room c = let fits = c.fitting-taken in
     let a = c.args in
     taken_room a.piece.now a.out.now fits.result fits.ensures
 
 pub returns : goal.returns
 returns c = let fits = c.fitting-taken in
-    record { taken = fits.ensures; runs = rw (← fits.ensures) c.answer_lines-x.ensures }
+    record { taken = fits.ensures; runs = rw (← fits.ensures) c.answer_lines-written.ensures }

@@ -1,21 +1,21 @@
 -- The loop's own parts. Definitions only.
-use Rattle.std.specs.Prelude.{ℕ, Bool, List}
-use Rattle.rules.specs.declared.{Fields.Fields, Period.Period, Settings.Settings}
-use Rattle.input_lines.specs.declared.{Begun.Begun}
-use Rattle.input_lines.specs.Between.Begun.{begun_of}
-use Rattle.input_pieces.specs.declared.{Session.Session, pieces.Answered.Answered}
-use Rattle.input_pieces.specs.Pinned.Session.{run_from, RunTo}
+use Rattle.std.specs.Prelude.{ℕ, ◌≡◌, ◌≤◌}
+use Rattle.rules.specs.declared.{Answer.Answer}
+use Rattle.line_messages.specs.declared.{Message.Message}
+use Rattle.input_desk.specs.Pinned.Desk.{answer_of, desk_after}
+use Rattle.input_tables.specs.Between.Tables.{Sized}
+use Rattle.input_quiet.specs.Between.Quiet.{first_due}
+use Rattle.input_pieces.specs.declared.{Session.Session}
+use Rattle.input_pieces.specs.Pinned.Session.{desk_of}
 
--- A session of its parts.
-abbrev pub session : Bool → Settings → ℕ → List Bool → List Fields → List ℕ → List Period → Begun → Session
-session ready S day u fs ns ss p =
-    record { ready = ready; settings = S; day = day; contracts = u; fields = fs; counts = ns; slots = ss; part = p }
+-- Nothing falls due before the day quiet.
+pub record Calm (s : Session) (quiet : ℕ) : Type 0 where
+  pub sized : Sized s.tables.fields s.tables.counts s.tables.slots
+  pub due : quiet ≤ first_due s.tables.fields
 
-abbrev pub answered : Bool → Settings → ℕ → List Bool → List Fields → List ℕ → List Period → List ℕ → ℕ → Answered
-answered ready S day u fs ns ss l n = record { session = session ready S day u fs ns ss (begun_of l); written = n }
-
--- The lines of a piece have been answered.
-abbrev pub AnsweredBy : Bool → Settings → ℕ → List Bool → List Fields → List ℕ → List Period → Begun → List ℕ → List ℕ
-    → List ℕ → Answered → Type 0
-AnsweredBy ready S day u fs ns ss p piece before after r =
-    RunTo (run_from (session ready S day u fs ns ss p) piece) before after r.session r.written
+-- What a message is answered, and the session after it.
+pub record Told (s : Session) (m : Message) (a : Answer) (s' : Session) (quiet : ℕ) : Type 0 where
+  pub answer : a ≡ answer_of (desk_of s) m
+  pub after : desk_of s' ≡ desk_after (desk_of s) m
+  pub part : s'.part ≡ s.part
+  pub calm : Calm s' quiet

@@ -23,7 +23,7 @@ abbrev pub register_in : Settings → ℕ → List Bool → List Fields → List
 register_in S day u fs ns ss = register S day u (points_of fs ns ss)
 
 abbrev pub desk_of : Session → Desk
-desk_of s = desk s.ready (register_in s.settings s.day s.contracts s.fields s.counts s.slots)
+desk_of s = desk s.ready (register_in s.settings s.day s.contracts s.tables.fields s.tables.counts s.tables.slots)
 
 -- The desk after a line.
 abbrev pub next_desk : Desk → List ℕ → Desk

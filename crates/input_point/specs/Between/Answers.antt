@@ -1,5 +1,6 @@
 -- What a message is answered, from the register's own numbers and from what the tables have of the point that it
 -- names. Definitions only: proofs/Answers has it that this is the answer of the desk.
+use Rattle.rules.specs.declared.{Rejection.Rejection}
 use Rattle.std.specs.Prelude.{Bool, cond, ◌&&◌, List, ℕ, ◌+◌, ◌-◌, ◌*◌, min, get_or}
 use Rattle.rules.specs.declared.{Fields.Fields, Period.Period, Settings.Settings, Action.Action, Answer.Answer}
 use Rattle.rules.specs.declared.{View.View}
@@ -58,7 +59,7 @@ failure_answer S day fs ns ss t s =
     (any_point 1 32
     (λ p. touches s (shown (shows S day t fs ns ss) p).fields
     && is_full (shown (shows S day t fs ns ss) p) (failed S t s (shown (shows S day t fs ns ss) p).fields)))
-    (Answer.Refused 30) Answer.Accepted
+    (Answer.Refused Rejection.PeriodsFull) Answer.Accepted
 
 -- The answer, where fails tells that of a failure.
 abbrev pub settled : (ℕ → ℕ → Answer) → Said → Answer

@@ -3,9 +3,9 @@ use Rattle.input_whole.proofs.Ends.{missing_taken}
 use Rattle.input_whole.proofs.finish.Goals as goal
 
 pub slice_bounds-feed-end : goal.slice_bounds-feed-end
-slice_bounds-feed-end c = sym (length-take-le c.at_most_one-n.result (10 ∷ []) (omega (arith, c.at_most_one-n.ensures)))
+slice_bounds-feed-end c = sym (length-take-le c.min-n.result (10 ∷ []) (omega (arith, c.min-n.ensures)))
 
 pub returns : goal.returns
 returns c = rw (missing_taken c.args.s
-    c.at_most_one-n.result c.at_most_one-n.ensures)
+    c.min-n.result c.min-n.ensures)
     c.feed.ensures

@@ -7,4 +7,4 @@ use Rattle.input_whole.proofs.start.Goals as goal
 pub returns : goal.returns
 unfolding start_desk
 returns c = let none = ap (desk false) c.no_register-r.ensures in
-    record { desk = rw c.tables_of-t.ensures.points none; part = c.nothing_begun.ensures }
+    record { desk = rw c.tables_of.ensures.points none; part = c.nothing_begun.ensures }

@@ -1,10 +1,10 @@
 -- `line_answers::put_total` meets its contract: the line is put piece by piece, where there is room for all of it.
-use Rattle.basics.proofs.Basics.{ap, [], List, ℕ, ◌≤◌, ◌+◌, arith, length}
+use Rattle.basics.proofs.Basics.{sym, ◌∙◌, leb-true, ap, [], List, ℕ, ◌≤◌, ◌+◌, arith, length}
 use Rattle.rules.specs.declared.{Volume.Volume, NormalVolume.NormalVolume}
 use Rattle.line_text.specs.Ascii.{ascii}
 use Rattle.line_text.specs.Between.Appending.{Appended}
 use Rattle.line_text.specs.Decimal.{decimal}
-use Rattle.line_text.proofs.Appends.{not_appended, Rest, rest_start, rest_next, rest_done}
+use Rattle.line_text.proofs.Appends.{Rest, rest_start, rest_next, rest_done}
 use Rattle.line_answers.specs.Answers.{volumes_shown, total_line}
 use Rattle.line_answers.proofs.LineTexts.{total_pieces, total_pieces_lem}
 use Rattle.line_answers.proofs.put_total.Goals as goal
@@ -18,25 +18,17 @@ volumes_left at p v n o o₁ o₂ at₁ at₂ h w d = let t = total_pieces p v n
     let s = rest_next at t o _ (ascii "total;") _ _ _ _ (rest_start at t o fits) w in
     rest_next at t o _ (decimal p []) _ _ _ _ s d
 
-pub returns-then-out-at : goal.returns-then-out-at
-returns-then-out-at c = let a = c.args in
-    not_appended a.at (total_line a.point a.advance a.normal) a.out.now (omega (arith, c.total_size-size.ensures))
-
-pub returns-then-out-at-2 : goal.returns-then-out-at-2
-returns-then-out-at-2 c = let a = c.args in
-    not_appended a.at (total_line a.point a.advance a.normal) a.out.now (omega (arith, c.total_size-size.ensures))
-
 pub put_volumes-requires : goal.put_volumes-requires
 put_volumes-requires c = let a = c.args in
-    let room : a.at + length (total_line a.point a.advance a.normal) ≤ length a.out.now =
-    omega (arith, c.total_size-size.ensures, c.if-out-at.false, c.if-out-at-2.false) in
+    let fit = leb-true _ _ (sym c.has_room.ensures ∙ c.if-not-has_room.false) in
+    let room : a.at + length (total_line a.point a.advance a.normal) ≤ length a.out.now = omega (arith, c.total_size.ensures) in
     let r = volumes_left a.at a.point a.advance a.normal a.out.now _ _ _ _ room c.put_word-point_at.ensures c.put_number-volumes_at.ensures in
     omega (arith, r.end, r.long, r.fits)
 
 pub returns : goal.returns
 returns c = let a = c.args in
-    let room : a.at + length (total_line a.point a.advance a.normal) ≤ length a.out.now =
-    omega (arith, c.total_size-size.ensures, c.if-out-at.false, c.if-out-at-2.false) in
+    let fit = leb-true _ _ (sym c.has_room.ensures ∙ c.if-not-has_room.false) in
+    let room : a.at + length (total_line a.point a.advance a.normal) ≤ length a.out.now = omega (arith, c.total_size.ensures) in
     let r = volumes_left a.at a.point a.advance a.normal a.out.now _ _ _ _ room c.put_word-point_at.ensures c.put_number-volumes_at.ensures in
     rw (total_pieces_lem a.point a.advance a.normal)
     (rest_done a.at (total_pieces a.point a.advance a.normal) a.out.now _ _ _ _ _ r c.put_volumes.ensures)

@@ -2,11 +2,11 @@
 -- day. `KnownStays` says that a right one changes nothing. Between crates only: `read_line` does not need it.
 -- Definitions only.
 use Rattle.std.specs.Prelude.{ℕ, ◌+◌, ◌-◌, ◌≡◌, Bool, true, false, cond, List, [], ◌∷◌, ◌++◌, leb, eqb, length, take, drop, replicate}
+use Rattle.std.specs.Prelude.{Option, Some, None, Result, Ok, Err}
 use Rattle.line_values.specs.Pinned.Words.{are_same}
 use Rattle.line_values.specs.Pinned.Numbers.{Parsed, number, bad, number_of}
 use Rattle.line_values.specs.Pinned.Days.{day_in}
 use Rattle.line_fields.specs.declared.{Sort.Sort, Shape.Shape, KnownDate.KnownDate}
-use Rattle.line_fields.specs.declared.{LineFields.LineFields, FieldFound.FieldFound}
 use Rattle.line_fields.specs.Between.Known.{packed, known_text}
 use Rattle.line_fields.specs.Pinned.Reading.{AllParsed, values, unread}
 use Rattle.line_fields.specs.Between.Shapes.{most_fields, sorts_of}
@@ -73,19 +73,30 @@ all_of x = cond x.ok (values x.read x.rest) unread
 
 -- What the code hands back of what is read from a position on, l being the text from there on; positions lie as many
 -- bytes on as were read.
-abbrev pub found_with : ℕ → List ℕ → ParsedWith → FieldFound
-found_with at l (value v r k) = FieldFound.On v (at + (length l - length r)) k
-found_with at l none = FieldFound.Bad
+abbrev pub found_with : ℕ → List ℕ → ParsedWith → Option (ℕ × ℕ)
+found_with at l (value v r k) = Some (v, at + (length l - length r))
+found_with at l none = None
 
-abbrev pub line_fields_at : ℕ → List ℕ → AllWith → LineFields
-line_fields_at from l x = record { ok = x.ok; end = from + (length l - length x.rest); known = x.known }
+-- The date that is known then.
+abbrev pub known_with : KnownDate → ParsedWith → KnownDate
+known_with k (value v r d) = d
+known_with k none = k
+
+-- The position behind all the fields, or that of the first that cannot be read.
+abbrev pub place_of : Bool → ℕ → Result ℕ ℕ
+place_of ok n = cond ok (Ok n) (Err n)
+
+abbrev pub place_after : ℕ → List ℕ → AllWith → Result ℕ ℕ
+place_after from l x = place_of x.ok (from + (length l - length x.rest))
 
 -- The values then: those read, and zeros behind them.
 abbrev pub values_after : AllWith → List ℕ
 values_after x = x.read ++ replicate (most_fields - length x.read) 0
 
--- What it means that the fields of a shape are read from a position of a text on: the whole of what is handed back,
--- and the whole of the values.
-pub record ReadsFields (last : KnownDate) (shape : Shape) (from : ℕ) (s after : List ℕ) (r : LineFields) : Type 0 where
-  pub result : r ≡ line_fields_at from (drop from s) (fields_in_with last shape (drop from s))
+-- What it means that the fields of a shape are read from a position of a text on: the whole of what is handed back, the
+-- date that is known then, and the whole of the values.
+pub record ReadsFields (last : KnownDate) (shape : Shape) (from : ℕ) (s : List ℕ) (then : KnownDate) (after : List ℕ)
+    (r : Result ℕ ℕ) : Type 0 where
+  pub result : r ≡ place_after from (drop from s) (fields_in_with last shape (drop from s))
+  pub known : then ≡ (fields_in_with last shape (drop from s)).known
   pub values : after ≡ values_after (fields_in_with last shape (drop from s))

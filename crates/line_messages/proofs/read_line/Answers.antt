@@ -1,5 +1,5 @@
 -- `line_messages::read_line` meets its contract, step by step.
-use Rattle.basics.proofs.Basics.{sym, ◌∙◌, arith, length, length-take-le, lt-leb, not-true, not-false}
+use Rattle.basics.proofs.Basics.{sym, ◌∙◌, arith, length, length-take-le, lt-leb}
 use Rattle.line_text.specs.Longest.{longest_line}
 use Rattle.line_fields.proofs.KnownStays.{first_is_known}
 use Rattle.line_messages.specs.Pinned.Reading.{read_line}
@@ -14,18 +14,20 @@ returns-then-line-gt-LONGEST_LINE c = let l = c.args.line.now in
 pub slice_bounds-kind_named-end : goal.slice_bounds-kind_named-end
 slice_bounds-kind_named-end c = sym (length-take-le _ _ c.word_end-end.ensures.1)
 
-pub returns-then-not-fields : goal.returns-then-not-fields
-returns-then-not-fields c = c.unreadable-then-not-fields.ensures ∙ line_bad c.args.line.now _ _ _ _ _ _ (omega (arith, c.if-line-gt-LONGEST_LINE.false))
-    c.word_end-end.ensures.0 c.kind_named-kind.ensures c.row_of-row.ensures c.read_fields-fields.ensures
-    (first_is_known _ c.first_known.ensures) (not-true _ c.if-not-fields.true)
+pub returns-in_default : goal.returns-in_default
+returns-in_default c = c.unreadable-in_default.ensures ∙ line_bad c.args.line.now _ _ _ _ _ _ _ (omega (arith, c.if-line-gt-LONGEST_LINE.false))
+    c.word_end-end.ensures.0 c.kind_named-kind.ensures c.row_of.ensures.shape c.read_fields.ensures
+    (first_is_known _ c.first_known-known.ensures)
+    _ c.in_default.is
 
-pub returns-then-fields-line : goal.returns-then-fields-line
-returns-then-fields-line c = c.unreadable-then-fields-line.ensures ∙ line_more c.args.line.now _ _ _ _ _ _ (omega (arith, c.if-line-gt-LONGEST_LINE.false))
-    c.word_end-end.ensures.0 c.kind_named-kind.ensures c.row_of-row.ensures c.read_fields-fields.ensures
-    (first_is_known _ c.first_known.ensures) (not-false _ c.if-not-fields.false) c.if-fields-line.true
+pub returns-then-end-line : goal.returns-then-end-line
+returns-then-end-line c = c.unreadable-then-end-line.ensures ∙ line_more c.args.line.now _ _ _ _ _ _ _ (omega (arith, c.if-line-gt-LONGEST_LINE.false))
+    c.word_end-end.ensures.0 c.kind_named-kind.ensures c.row_of.ensures.shape c.read_fields.ensures
+    (first_is_known _ c.first_known-known.ensures)
+    _ c.in-Ok.is c.if-end-line.true
 
 pub returns : goal.returns
-returns c = line_all c.args.line.now _ _ _ _ _ _ (omega (arith, c.if-line-gt-LONGEST_LINE.false))
-    c.word_end-end.ensures.0 c.kind_named-kind.ensures c.row_of-row.ensures c.read_fields-fields.ensures
-    (first_is_known _ c.first_known.ensures) (not-false _ c.if-not-fields.false) c.if-fields-line.false _
-    c.message_of-message.ensures
+returns c = line_all c.args.line.now _ _ _ _ _ _ _ (omega (arith, c.if-line-gt-LONGEST_LINE.false))
+    c.word_end-end.ensures.0 c.kind_named-kind.ensures c.row_of.ensures.shape c.read_fields.ensures
+    (first_is_known _ c.first_known-known.ensures)
+    _ c.in-Ok.is c.if-end-line.false _ c.message_of-message.ensures

@@ -1,25 +1,26 @@
 -- `line_values::date_at` meets its contract: the year, the month, the day, and then the calendar.
-use Rattle.basics.proofs.Basics.{sym, ◌∙◌, ap}
-use Rattle.dates.specs.declared.{DayAnswer.DayAnswer}
+use Rattle.std.specs.Prelude.{Option}
+use Rattle.basics.proofs.Basics.{sym, ◌∙◌, ap, ℕ}
 use Rattle.line_values.proofs.Steps.{day_found, date_steps}
 use Rattle.line_values.proofs.date_at.Goals as goal
 
-pub returns-in_default : goal.returns-in_default
-returns-in_default c = rw (date_steps, ← c.fixed_at.ensures, c.in_default.is)
+pub returns-in_err-year : goal.returns-in_err-year
+returns-in_err-year c = rw (date_steps, ← c.fixed_at.ensures, c.in_err-year.was) c.from_residual.ensures
 
-pub returns-in_default-fixed_at : goal.returns-in_default-fixed_at
-returns-in_default-fixed_at c = rw (date_steps, ← c.fixed_at.ensures, c.in-Value.is, ← c.fixed_at-2.ensures, c.in_default-fixed_at.is)
+pub returns-in_err-month : goal.returns-in_err-month
+returns-in_err-month c = rw (date_steps, ← c.fixed_at.ensures, c.in_ok-year.was, ← c.fixed_at-2.ensures, c.in_err-month.was)
+    c.from_residual-in_err-month.ensures
 
-pub returns-in_default-fixed_at-2 : goal.returns-in_default-fixed_at-2
-returns-in_default-fixed_at-2 c = rw (date_steps, ← c.fixed_at.ensures, c.in-Value.is)
-    (rw (← c.fixed_at-2.ensures, c.in-Value-fixed_at.is, ← c.fixed_at-3.ensures, c.in_default-fixed_at-2.is))
+pub returns-in_err-day : goal.returns-in_err-day
+returns-in_err-day c = rw (date_steps, ← c.fixed_at.ensures, c.in_ok-year.was)
+    (rw (← c.fixed_at-2.ensures, c.in_ok-month.was, ← c.fixed_at-3.ensures, c.in_err-day.was) c.from_residual-in_err-day.ensures)
 
-pub returns-in_default-day_of : goal.returns-in_default-day_of
-returns-in_default-day_of c = rw (date_steps, ← c.fixed_at.ensures, c.in-Value.is, ← c.fixed_at-2.ensures, c.in-Value-fixed_at.is)
-    (rw (← c.fixed_at-3.ensures, c.in-Value-fixed_at-2.is)
-    (ap (λ (a : DayAnswer). day_found a c.in-Value-fixed_at-2.end) (sym c.in_default-day_of.is ∙ c.day_of.ensures)))
+pub returns-in_err-n : goal.returns-in_err-n
+returns-in_err-n c = rw (date_steps, ← c.fixed_at.ensures, c.in_ok-year.was, ← c.fixed_at-2.ensures, c.in_ok-month.was)
+    (rw (← c.fixed_at-3.ensures, c.in_ok-day.was)
+    (c.from_residual-in_err-n.ensures ∙ ap (λ (a : Option ℕ). day_found a c.in_ok-day.end) (sym c.in_err-n.was ∙ c.day_of.ensures)))
 
 pub returns : goal.returns
-returns c = rw (date_steps, ← c.fixed_at.ensures, c.in-Value.is, ← c.fixed_at-2.ensures, c.in-Value-fixed_at.is)
-    (rw (← c.fixed_at-3.ensures, c.in-Value-fixed_at-2.is)
-    (ap (λ (a : DayAnswer). day_found a c.in-Value-fixed_at-2.end) (sym c.in-Day.is ∙ c.day_of.ensures)))
+returns c = rw (date_steps, ← c.fixed_at.ensures, c.in_ok-year.was, ← c.fixed_at-2.ensures, c.in_ok-month.was)
+    (rw (← c.fixed_at-3.ensures, c.in_ok-day.was)
+    (rw c.from.ensures (ap (λ (a : Option ℕ). day_found a c.in_ok-day.end) (sym c.in_ok-n.was ∙ c.day_of.ensures))))

@@ -1,6 +1,5 @@
 -- 01, Message lines: "dates aaaammjj as real dates of the calendar". The value of a date is its day. Definitions only.
-use Rattle.std.specs.Prelude.{ℕ, List}
-use Rattle.dates.specs.declared.{DayAnswer.DayAnswer}
+use Rattle.std.specs.Prelude.{ℕ, List, Option, Some, None}
 use Rattle.dates.specs.Numbers.{day_answer}
 use Rattle.line_values.specs.Pinned.Numbers.{fixed_of, Parsed, number, bad}
 
@@ -9,9 +8,9 @@ abbrev pub and_then : Parsed → (ℕ → List ℕ → Parsed) → Parsed
 and_then (number n l) f = f n l
 and_then bad f = bad
 
-abbrev pub day_read : DayAnswer → List ℕ → Parsed
-day_read (DayAnswer.Day n) l = number n l
-day_read DayAnswer.NoDate l = bad
+abbrev pub day_read : Option ℕ → List ℕ → Parsed
+day_read (Some n) l = number n l
+day_read None l = bad
 
 -- The day of the date that a text begins with.
 unfoldable pub day_in : List ℕ → Parsed

@@ -7,7 +7,7 @@ use Rattle.line_writing.proofs.fit_all.Goals as goal
 
 pub loop-i-init : goal.loop-i-init
 loop-i-init c = let n = c.args.shape.count in let all : n - 0 ≡ n = omega arith in
-    let long : length c.args.values ≡ most_fields = search rules in (omega arith, omega arith, rw all)
+    let long : length c.args.values ≡ most_fields = search rules in (omega arith, rw all)
 
 pub returns-then-not-fits : goal.returns-then-not-fits
 unfolding fit_all
@@ -15,7 +15,7 @@ returns-then-not-fits c = let a = c.args in
     let l = c.loop-i in
     let one = sym c.fits.ensures ∙ c.if-not-fits.true in
     let next = fields_next a.shape.second a.shape.count l.i a.values (omega arith) in
-    sym (l.invariant.2 ∙ ap fit_all next ∙ rw (← c.sort_at-sort.ensures, one))
+    sym (l.invariant.1 ∙ ap fit_all next ∙ rw (← c.sort_at.ensures, one))
 
 pub loop-i-preserved : goal.loop-i-preserved
 unfolding fit_all
@@ -23,9 +23,9 @@ loop-i-preserved c = let a = c.args in
     let l = c.loop-i in
     let one = sym c.fits.ensures ∙ c.if-not-fits.false in
     let next = fields_next a.shape.second a.shape.count l.i a.values (omega arith) in
-    (omega arith, l.invariant.1, l.invariant.2 ∙ ap fit_all next ∙ rw (← c.sort_at-sort.ensures, one))
+    (c.loop-i.invariant.0, l.invariant.1 ∙ ap fit_all next ∙ rw (← c.sort_at.ensures, one))
 
 pub returns : goal.returns
 unfolding fit_all
 returns c = let a = c.args in let l = c.loop-i in
-    sym (l.invariant.2 ∙ rw (fields_none a.shape.second a.shape.count l.i a.values (omega arith)))
+    sym (l.invariant.1 ∙ rw (fields_none a.shape.second a.shape.count l.i a.values (omega arith)))

@@ -4,8 +4,5 @@ use Rattle.line_fields.specs.Between.Shapes.{fields_from}
 use Rattle.line_writing.proofs.fit_all.Given as goal
 
 abbrev pub invariant-loop-i : goal.invariant-loop-i
-invariant-loop-i l = (l.i ≤ l.count) × (l.count ≤ length l.values) ×
-    (fit_all (fields_from l.second 0 l.count l.values) ≡ fit_all (fields_from l.second l.i (l.count - l.i) l.values))
-
-abbrev pub decreases-loop-i : goal.decreases-loop-i
-decreases-loop-i l = l.count - l.i
+invariant-loop-i l = (l.shape.count ≤ length l.values) ×
+    (fit_all (fields_from l.shape.second 0 l.shape.count l.values) ≡ fit_all (fields_from l.shape.second l.i (l.shape.count - l.i) l.values))

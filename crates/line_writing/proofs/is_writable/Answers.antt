@@ -10,9 +10,9 @@ pub returns-in-Unreadable : goal.returns-in-Unreadable
 returns-in-Unreadable c = unfold is_writable in rw c.in-Unreadable.is
 
 pub fit_all-requires : goal.fit_all-requires
-fit_all-requires c = few_values c.args.m _ _ c.values_of-v.ensures c.row_of-row.ensures
+fit_all-requires c = few_values c.args.m _ _ c.values_of-v.ensures c.row_of.ensures.shape
 
 pub returns : goal.returns
 returns c = let m = c.args.m in
-    c.fit_all.ensures ∙ ap fit_all (values_are m _ _ c.values_of-v.ensures c.row_of-row.ensures) ∙
+    c.fit_all.ensures ∙ ap fit_all (values_are m _ _ c.values_of-v.ensures c.row_of.ensures.shape) ∙
     sym (writable_is m c.in_default.not-Unreadable)

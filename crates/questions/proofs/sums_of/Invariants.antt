@@ -1,17 +1,14 @@
-use Rattle.basics.proofs.Basics.{◌≡◌, ℕ, ◌≤◌, ◌-◌}
+-- The volumes passed so far, added up, each kind by itself.
+use Rattle.basics.proofs.Basics.{◌≡◌, ℕ}
 use Rattle.rules.specs.declared.{Period.Period}
 use Rattle.questions.specs.Pinned.Questions.{sum_of}
 use Rattle.questions.proofs.sums_of.Given as goal
 
-abbrev booked : Period → ℕ
+abbrev pub booked : Period → ℕ
 booked q = q.volume.0
 
-abbrev converted : Period → ℕ
+abbrev pub converted : Period → ℕ
 converted q = q.normal.0
 
-abbrev pub invariant-loop-i : goal.invariant-loop-i
-invariant-loop-i l =
-    (l.i ≤ l.n) × (l.volume.0 ≡ sum_of booked l.i l.ps) × (l.normal.0 ≡ sum_of converted l.i l.ps)
-
-abbrev pub decreases-loop-i : goal.decreases-loop-i
-decreases-loop-i l = l.n - l.i
+abbrev pub invariant-loop-q : goal.invariant-loop-q
+invariant-loop-q l = (l.volume.0 ≡ sum_of booked l.q-index l.ps) × (l.normal.0 ≡ sum_of converted l.q-index l.ps)

@@ -1,13 +1,10 @@
 -- Document 01, "Volumes": the questions, which change nothing. Definitions only.
-use Rattle.std.specs.Prelude.{ℕ, zero, suc, ◌+◌, ◌-◌, ◌%◌, ◌^◌, Bool, cond, not, ◌||◌, List, get_or, replicate, nat_le, nat_lt, slice_index_or}
-use Rattle.std.proofs.Math.Option.{Option, none, some}
+use Rattle.std.specs.Prelude.{ℕ, zero, suc, ◌+◌, ◌-◌, ◌%◌, ◌^◌, Bool, cond, not, ◌||◌, List, get_or, replicate, nat_le, nat_lt, slice_index_or, Option, Some, None}
+use Rattle.std.proofs.Math.Option.{Option as Told, none, some}
 use Rattle.rules.specs.declared.{Period.Period, History.History, Register.Register}
 use Rattle.rules.specs.Rejections.{not_point, outside}
 use Rattle.rules.specs.Pinned.Register.{history, no_period, used, point_at}
-use Rattle.questions.specs.declared.{Held.Held, HolderAnswer.HolderAnswer, PeriodAnswer.PeriodAnswer}
-use Rattle.questions.specs.declared.{Advance.Advance, AdvanceAnswer.AdvanceAnswer}
-use Rattle.questions.specs.declared.PeriodAnswer.TheVariants as period
-use Rattle.questions.specs.declared.AdvanceAnswer.TheVariants as advance
+use Rattle.questions.specs.declared.{HolderAnswer.HolderAnswer, Advance.Advance}
 
 -- "A question off its range, or on a point not enrolled, gives 22."
 abbrev pub unasked : Register → ℕ → Bool
@@ -18,11 +15,11 @@ unfoldable pub asked_history : Register → ℕ → History
 asked_history r p = cond (unasked r p) (history 0 (replicate 24 no_period)) (point_at p r.points).history
 
 abbrev pub held : ℕ → ℕ → HolderAnswer
-held h n = record { held = Held.Holder h; probes = n }
+held h n = record { held = Some h; probes = n }
 
 -- "a refusal reports 0"
 abbrev pub refused_holder : HolderAnswer
-refused_holder = record { held = Held.OffRange; probes = 0 }
+refused_holder = record { held = None; probes = 0 }
 
 -- 02, F-1: "The holder question shall begin at the newest period, stop at the first that starts on or before the day,
 -- and report how many periods it looked at." Of the first n periods; k are looked at already.
@@ -40,11 +37,11 @@ holder_answer r p d = cond (unasked r p || nat_lt r.day d) refused_holder (holde
 
 -- "period n of p (start, holder, volume; n from 1 to their count)"; 02, F-4: "Demand 3 and the questions cover these as
 -- they cover the booked ones": the period has both volumes.
-abbrev pub period_in : ℕ → History → PeriodAnswer
-period_in n h = cond (outside 1 (used h) n) period.OffRange (period.Of (slice_index_or h.periods (n - 1) no_period))
+abbrev pub period_in : ℕ → History → Option Period
+period_in n h = cond (outside 1 (used h) n) None (Some (slice_index_or h.periods (n - 1) no_period))
 
-unfoldable pub period_answer : Register → ℕ → ℕ → PeriodAnswer
-period_answer r p n = cond (unasked r p) period.OffRange (period_in n (point_at p r.points).history)
+unfoldable pub period_answer : Register → ℕ → ℕ → Option Period
+period_answer r p n = cond (unasked r p) None (period_in n (point_at p r.points).history)
 
 -- One of the two volumes of the first n periods, added up; the sum wraps at 2^64, which no register that calls reach
 -- comes to.
@@ -62,37 +59,39 @@ abbrev pub advance_in : History → Advance
 advance_in h = advance_among (used h) h.periods
 
 -- "advance of p"; 02, F-4: "a point's Nm³ advance"
-unfoldable pub advance_answer : Register → ℕ → AdvanceAnswer
-advance_answer r p = cond (unasked r p) advance.OffRange (advance.Of (advance_in (point_at p r.points).history))
+unfoldable pub advance_answer : Register → ℕ → Option Advance
+advance_answer r p = cond (unasked r p) None (Some (advance_in (point_at p r.points).history))
 
 -- "A question off its range, or on a point not enrolled, gives 22." The number, 0 where the
 -- question is answered, and what is told then: the holder; the period's start, holder and volumes; the advances.
-abbrev pub held_number : Held → ℕ
-held_number (Held.Holder h) = 0
-held_number Held.OffRange = 22
+abbrev pub question_number : {A : Type 0} → Option A → ℕ
+question_number (Some x) = 0
+question_number None = 22
 
-abbrev pub held_told : Held → Option ℕ
-held_told (Held.Holder h) = some h
-held_told Held.OffRange = none
+abbrev pub question_told : {A : Type 0} → Option A → Told A
+question_told (Some x) = some x
+question_told None = none
+
+abbrev pub held_number : Option ℕ → ℕ
+held_number = question_number
+
+abbrev pub held_told : Option ℕ → Told ℕ
+held_told = question_told
 
 abbrev pub holder_number : HolderAnswer → ℕ
 holder_number a = held_number a.held
 
-abbrev pub holder_told : HolderAnswer → Option ℕ
+abbrev pub holder_told : HolderAnswer → Told ℕ
 holder_told a = held_told a.held
 
-abbrev pub period_number : PeriodAnswer → ℕ
-period_number (period.Of q) = 0
-period_number period.OffRange = 22
+abbrev pub period_number : Option Period → ℕ
+period_number = question_number
 
-abbrev pub period_told : PeriodAnswer → Option Period
-period_told (period.Of q) = some q
-period_told period.OffRange = none
+abbrev pub period_told : Option Period → Told Period
+period_told = question_told
 
-abbrev pub advance_number : AdvanceAnswer → ℕ
-advance_number (advance.Of a) = 0
-advance_number advance.OffRange = 22
+abbrev pub advance_number : Option Advance → ℕ
+advance_number = question_number
 
-abbrev pub advance_told : AdvanceAnswer → Option Advance
-advance_told (advance.Of a) = some a
-advance_told advance.OffRange = none
+abbrev pub advance_told : Option Advance → Told Advance
+advance_told = question_told

@@ -1,22 +1,10 @@
 -- A contract: refused by its rows, or signed on the register brought up to today.
-use Rattle.basics.proofs.Basics.{sym, ◌∙◌, arith}
+use Rattle.basics.proofs.Basics.{sym, ◌∙◌}
 use Rattle.rules.specs.declared.{Action.Action}
 use Rattle.rules.specs.Pinned.Register.{done}
 use Rattle.point_answers.proofs.Apart.{contract_apart}
-use Rattle.register.proofs.Plain.{plain_refused, plain_accepted, contract_in}
+use Rattle.register.proofs.Plain.{plain_accepted}
 use Rattle.register.proofs.contract.Goals as goal
-
-pub returns-then-not-is_accepted : goal.returns-then-not-is_accepted
-returns-then-not-is_accepted c = let a = c.args in c.outcome.ensures
-    ∙ plain_refused a.r a.today (Action.Contract a.s) (λ v. contract_apart _ _ _ _ v a.s) _ c.answer_apart-answer.ensures
-    (sym c.is_accepted.ensures ∙ c.if-not-is_accepted.true)
-
-pub bounds-next-i : goal.bounds-next-i
-bounds-next-i c = let a = c.args in omega (
-  arith,
-  contract_in a.r a.today a.s _ c.answer_apart-answer.ensures
-      (sym c.is_accepted.ensures ∙ c.if-not-is_accepted.false),
-)
 
 pub returns : goal.returns
 unfolding done

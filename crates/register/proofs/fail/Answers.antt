@@ -1,11 +1,7 @@
 -- A failure: the rows before number 30, number 30, then last resort at each of its points.
 use Rattle.basics.proofs.Basics.{sym, ◌∙◌, arith}
-use Rattle.register.proofs.Failing.{failure_refused, failure_in, failure_full, failure_done}
+use Rattle.register.proofs.Failing.{failure_in, failure_full}
 use Rattle.register.proofs.fail.Goals as goal
-
-pub returns-then-not-is_accepted : goal.returns-then-not-is_accepted
-returns-then-not-is_accepted c = let a = c.args in c.outcome.ensures
-    ∙ failure_refused a.today a.s a.r _ c.answer_apart-first.ensures (sym c.is_accepted.ensures ∙ c.if-not-is_accepted.true)
 
 pub returns-then-any_filled : goal.returns-then-any_filled
 returns-then-any_filled c = let a = c.args in c.outcome-then-any_filled.ensures
@@ -21,8 +17,3 @@ pub overflow_cast-today : goal.overflow_cast-today
 overflow_cast-today c = let a = c.args in
     let w = failure_in a.today a.s a.r _ c.answer_apart-first.ensures
     (sym c.is_accepted.ensures ∙ c.if-not-is_accepted.false) _ c.brought_up-next.ensures in omega (arith, w.2)
-
-pub returns : goal.returns
-returns c = let a = c.args in c.outcome-2.ensures
-    ∙ failure_done a.today a.s a.r _ c.answer_apart-first.ensures (sym c.is_accepted.ensures ∙ c.if-not-is_accepted.false)
-    _ c.brought_up-next.ensures _ c.any_filled.ensures c.if-any_filled.false _ c.all_failed-next.ensures

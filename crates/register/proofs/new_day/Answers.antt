@@ -3,7 +3,7 @@ use Rattle.basics.proofs.Basics.{sym, ◌∙◌}
 use Rattle.rules.specs.declared.{Action.Action}
 use Rattle.rules.specs.Pinned.Register.{done}
 use Rattle.point_answers.proofs.Apart.{day_apart}
-use Rattle.register.proofs.Plain.{plain_refused, plain_accepted}
+use Rattle.register.proofs.Plain.{plain_accepted}
 use Rattle.register.proofs.new_day.Goals as goal
 
 pub returns-then-is_accepted : goal.returns-then-is_accepted
@@ -11,8 +11,3 @@ unfolding done
 returns-then-is_accepted c = let a = c.args in c.outcome.ensures
     ∙ plain_accepted a.r a.today Action.Day (day_apart _ _ _ _) _ c.answer_apart-answer.ensures _ c.brought_up.ensures
     (sym c.is_accepted.ensures ∙ c.if-is_accepted.true)
-
-pub returns : goal.returns
-returns c = let a = c.args in c.outcome-2.ensures
-    ∙ plain_refused a.r a.today Action.Day (day_apart _ _ _ _) _ c.answer_apart-answer.ensures
-    (sym c.is_accepted.ensures ∙ c.if-is_accepted.false)

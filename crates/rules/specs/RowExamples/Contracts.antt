@@ -1,4 +1,5 @@
 -- Calls 1 and 2, contract and failure: 1, 29, and what a failure does. 30 is in RowExamples/Full. Definitions only.
+use Rattle.rules.specs.declared.{Rejection.Rejection}
 use Rattle.std.specs.Prelude.{[], ◌∷◌}
 use Rattle.rules.specs.declared.{SupplyKind.SupplyKind, Pending.Pending, Action.Action, PointAction.PointAction}
 use Rattle.rules.specs.declared.{Answer.Answer}
@@ -10,26 +11,26 @@ use Rattle.rules.specs.RowExamples.Scene.{Then, ThenKeeps, ThenShows, kept}
 pub record ContractExamples : Type 0 where
   -- 1: "failure, into service, request: s not under contract"; a contract may be signed twice
   pub not_under_contract : Then
-      (on 11 (Action.Failure 7) gives Answer.Refused 1 ∷ on 11 (Action.At 2 (PointAction.IntoService 7 77)) gives
-      Answer.Refused 1 ∷
-      on 11 (Action.At 1 (PointAction.Request 7 77 31)) gives Answer.Refused 1 ∷
+      (on 11 (Action.Failure 7) gives Answer.Refused Rejection.NoTransportContract ∷ on 11 (Action.At 2 (PointAction.IntoService 7 77)) gives
+      Answer.Refused Rejection.NoTransportContract ∷
+      on 11 (Action.At 1 (PointAction.Request 7 77 31)) gives Answer.Refused Rejection.NoTransportContract ∷
       on 11 (Action.Contract 7) gives Answer.Accepted ∷
       on 11 (Action.Contract 7) gives Answer.Accepted ∷
       on 11 (Action.At 2 (PointAction.IntoService 7 77)) gives Answer.Accepted ∷
       on 11 (Action.At 1 (PointAction.Request 7 77 31)) gives Answer.AcceptedOn 32 ∷
-      on 11 (Action.Failure 7) gives Answer.Accepted ∷ on 11 (Action.Failure 7) gives Answer.Refused 1 ∷ [])
+      on 11 (Action.Failure 7) gives Answer.Accepted ∷ on 11 (Action.Failure 7) gives Answer.Refused Rejection.NoTransportContract ∷ [])
   -- "s loses its contract, its pending requests are dropped"
   pub failed_loses_contract : Then
       (on 11 (Action.Failure 6) gives Answer.Accepted ∷ on 11 (Action.At 4 (PointAction.Cancel 6)) gives
-      Answer.Refused 25 ∷
-      on 11 (Action.At 2 (PointAction.IntoService 6 77)) gives Answer.Refused 1 ∷
-      on 11 (Action.At 1 (PointAction.Request 6 77 31)) gives Answer.Refused 1 ∷
+      Answer.Refused Rejection.NothingPending ∷
+      on 11 (Action.At 2 (PointAction.IntoService 6 77)) gives Answer.Refused Rejection.NoTransportContract ∷
+      on 11 (Action.At 1 (PointAction.Request 6 77 31)) gives Answer.Refused Rejection.NoTransportContract ∷
       on 11 (Action.Contract 6) gives Answer.Accepted ∷
-      on 11 (Action.At 4 (PointAction.Cancel 6)) gives Answer.Refused 25 ∷
+      on 11 (Action.At 4 (PointAction.Cancel 6)) gives Answer.Refused Rejection.NothingPending ∷
       on 11 (Action.At 1 (PointAction.Request 6 77 31)) gives Answer.AcceptedOn 32 ∷ [])
   -- 29: "failure of the default or last-resort supplier"
   pub protected_suppliers : Then
-      (on 11 (Action.Failure 1) gives Answer.Refused 29 ∷ on 11 (Action.Failure 2) gives Answer.Refused 29 ∷
+      (on 11 (Action.Failure 1) gives Answer.Refused Rejection.ProtectedSupplier ∷ on 11 (Action.Failure 2) gives Answer.Refused Rejection.ProtectedSupplier ∷
       on 11 (Action.Failure 5) gives Answer.Accepted ∷ [])
   -- "its pending requests are dropped": at a point that another supplier holds, which keeps its holder and its periods
   pub own_request_dropped : ThenKeeps (on 11 (Action.Failure 6) gives Answer.Accepted ∷ []) 4

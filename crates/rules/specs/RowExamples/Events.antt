@@ -1,5 +1,6 @@
 -- The events of a gas day: a request takes effect, default goes over to last resort, last resort ends. Definitions
 -- only.
+use Rattle.rules.specs.declared.{Rejection.Rejection}
 use Rattle.std.specs.Prelude.{List, [], ◌∷◌, ◌++◌, ℕ}
 use Rattle.rules.specs.declared.{SupplyKind.SupplyKind, Pending.Pending, Action.Action, PointAction.PointAction}
 use Rattle.rules.specs.declared.{Answer.Answer}
@@ -77,6 +78,6 @@ pub record EventExamples : Type 0 where
   -- "Checks look at the state brought up to today": on day 80 account 0 holds point 3, on day 79 the last-resort
   -- supplier
   pub checks_look_at_today : Then
-      (on 80 (Action.At 3 PointAction.OutOfService) gives Answer.Refused 6 ∷
-      on 79 (Action.At 3 (PointAction.IntoService 5 77)) gives Answer.Refused 24 ∷
+      (on 80 (Action.At 3 PointAction.OutOfService) gives Answer.Refused Rejection.NoPerimeter ∷
+      on 79 (Action.At 3 (PointAction.IntoService 5 77)) gives Answer.Refused Rejection.AlreadyServed ∷
       on 80 (Action.At 3 (PointAction.IntoService 5 88)) gives Answer.Accepted ∷ [])

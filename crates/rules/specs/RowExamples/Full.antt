@@ -1,5 +1,6 @@
 -- 30: "after the call a point's marks and those due exceed 24 (due: pending 1, default 2, last resort 1); only calls 2,
 -- 4, 5, 6 and 10; for call 2 any point it touches". Definitions only.
+use Rattle.rules.specs.declared.{Rejection.Rejection}
 use Rattle.std.specs.Prelude.{List, [], ◌∷◌, ◌++◌, ℕ}
 use Rattle.rules.specs.declared.{Action.Action, PointAction.PointAction, Answer.Answer}
 use Rattle.rules.specs.Scenes.{Line, ◌gives◌, on, Plays, enrol, change}
@@ -38,9 +39,9 @@ pub record FullExamples : Type 0 where
   pub into_and_out_of_service : Plays opens
       (marks23 5 1 ++
       (on 33 (Action.At 1 PointAction.OutOfService) gives Answer.Accepted ∷
-      on 34 (Action.At 1 (PointAction.IntoService 5 77)) gives Answer.Refused 30 ∷
+      on 34 (Action.At 1 (PointAction.IntoService 5 77)) gives Answer.Refused Rejection.PeriodsFull ∷
       on 33 (Action.At 1 (PointAction.IntoService 5 77)) gives Answer.Accepted ∷
-      on 34 (Action.At 1 PointAction.OutOfService) gives Answer.Refused 30 ∷
+      on 34 (Action.At 1 PointAction.OutOfService) gives Answer.Refused Rejection.PeriodsFull ∷
       on 33 (Action.At 1 PointAction.OutOfService) gives Answer.Accepted ∷ []))
   -- default counts 2 more: 21 marks and the new one make 24 with them, 22 and the new one 25, unless it replaces
   -- today's
@@ -50,7 +51,7 @@ pub record FullExamples : Type 0 where
   pub default_on_22_marks : Plays opens
       (marks21 ++
       (on 31 (Action.At 1 PointAction.OutOfService) gives Answer.Accepted ∷
-      on 32 (Action.At 1 (PointAction.DefaultSupply 77)) gives Answer.Refused 30 ∷
+      on 32 (Action.At 1 (PointAction.DefaultSupply 77)) gives Answer.Refused Rejection.PeriodsFull ∷
       on 31 (Action.At 1 (PointAction.DefaultSupply 77)) gives Answer.Accepted ∷ []))
   -- a request counts 1: under contract with 23 marks it fits, with 24 it does not
   pub request_on_23_marks : Plays opens (marks23 5 1 ++
@@ -59,7 +60,7 @@ pub record FullExamples : Type 0 where
       (marks22 ++
       (on 32 (Action.At 1 PointAction.OutOfService) gives Answer.Accepted ∷
       on 33 (Action.At 1 (PointAction.IntoService 5 77)) gives Answer.Accepted ∷
-      on 33 (Action.At 1 (PointAction.Request 6 77 33)) gives Answer.Refused 30 ∷ []))
+      on 33 (Action.At 1 (PointAction.Request 6 77 33)) gives Answer.Refused Rejection.PeriodsFull ∷ []))
   -- under default it counts beside the 2, whatever would really happen: 21 marks fit, 22 do not
   pub request_under_default_21_marks : Plays opens
       (marks20 ++
@@ -70,11 +71,11 @@ pub record FullExamples : Type 0 where
       (marks20 ++
       (on 30 (Action.At 1 PointAction.OutOfService) gives Answer.Accepted ∷
       on 31 (Action.At 1 (PointAction.DefaultSupply 77)) gives Answer.Accepted ∷
-      on 31 (Action.At 1 (PointAction.Request 6 77 31)) gives Answer.Refused 30 ∷ []))
+      on 31 (Action.At 1 (PointAction.Request 6 77 31)) gives Answer.Refused Rejection.PeriodsFull ∷ []))
   -- a failure counts its own mark and the end of last resort: 22 marks fit, 23 do not, unless today's is replaced
   pub failure_on_22_marks : Plays opens (marks22 ++ (on 32 (Action.Failure 5) gives Answer.Accepted ∷ []))
   pub failure_on_23_marks : Plays
-      opens (marks23 5 1 ++ (on 33 (Action.Failure 5) gives Answer.Refused 30 ∷
+      opens (marks23 5 1 ++ (on 33 (Action.Failure 5) gives Answer.Refused Rejection.PeriodsFull ∷
       on 32 (Action.Failure 5) gives Answer.Accepted ∷ []))
   -- a request under last resort: 22 marks fit, 23 do not
   pub request_under_last_resort_22_marks : Plays opens
@@ -82,11 +83,11 @@ pub record FullExamples : Type 0 where
       on 31 (Action.At 1 (PointAction.Request 6 77 31)) gives Answer.AcceptedOn 52 ∷ []))
   pub request_under_last_resort_23_marks : Plays opens
       (marks22 ++ (on 32 (Action.Failure 5) gives Answer.Accepted ∷
-      on 32 (Action.At 1 (PointAction.Request 6 77 32)) gives Answer.Refused 30 ∷ []))
+      on 32 (Action.At 1 (PointAction.Request 6 77 32)) gives Answer.Refused Rejection.PeriodsFull ∷ []))
   -- "any point it touches": the last point too; another supplier's full point is not touched
   pub failure_at_point_32 : Plays opens
       (marks23 5 32 ++ (on 33 (Action.Failure 6) gives Answer.Accepted ∷
-      on 34 (Action.Failure 5) gives Answer.Refused 30 ∷ []))
+      on 34 (Action.Failure 5) gives Answer.Refused Rejection.PeriodsFull ∷ []))
   -- the requests of the failed supplier are dropped and count no more, another's count
   pub failure_with_own_request : Plays opens
       (marks22 ++ (on 32 (Action.At 1 (PointAction.Request 5 77 32)) gives Answer.AcceptedOn 53 ∷
@@ -94,7 +95,7 @@ pub record FullExamples : Type 0 where
   pub failure_with_other_request : Plays opens
       (marks22 ++
       (on 32 (Action.At 1 (PointAction.Request 6 77 32)) gives Answer.AcceptedOn 53 ∷
-      on 33 (Action.Failure 5) gives Answer.Refused 30 ∷
+      on 33 (Action.Failure 5) gives Answer.Refused Rejection.PeriodsFull ∷
       on 33 (Action.Failure 6) gives Answer.Accepted ∷
       on 33 (Action.Failure 5) gives Answer.Accepted ∷ []))
   -- out of service drops the request, so that its mark takes the request's place
@@ -106,7 +107,7 @@ pub record FullExamples : Type 0 where
       (marks21 ++
       (on 31 (Action.At 1 PointAction.OutOfService) gives Answer.Accepted ∷
       on 31 (Action.At 1 (PointAction.DefaultSupply 77)) gives Answer.Accepted ∷
-      on 102 (Action.At 1 (PointAction.IntoService 5 77)) gives Answer.Refused 30 ∷
+      on 102 (Action.At 1 (PointAction.IntoService 5 77)) gives Answer.Refused Rejection.PeriodsFull ∷
       on 101 (Action.At 1 (PointAction.IntoService 5 77)) gives Answer.Accepted ∷ []))
   -- the other calls never get 30, here with 24 marks
   pub other_calls : Plays opens
@@ -127,22 +128,22 @@ pub record FullExamples : Type 0 where
       (marks22 ++
       (on 32 (Action.At 1 PointAction.OutOfService) gives Answer.Accepted ∷
       on 33 (Action.At 1 (PointAction.IntoService 5 77)) gives Answer.Accepted ∷
-      on 34 (Action.At 1 (PointAction.IntoService 5 77)) gives Answer.Refused 24 ∷
-      on 34 (Action.At 1 (PointAction.DefaultSupply 77)) gives Answer.Refused 24 ∷
+      on 34 (Action.At 1 (PointAction.IntoService 5 77)) gives Answer.Refused Rejection.AlreadyServed ∷
+      on 34 (Action.At 1 (PointAction.DefaultSupply 77)) gives Answer.Refused Rejection.AlreadyServed ∷
       on 33 (Action.At 1 PointAction.OutOfService) gives Answer.Accepted ∷
-      on 34 (Action.At 1 (PointAction.IntoService 7 77)) gives Answer.Refused 1 ∷
-      on 34 (Action.At 1 PointAction.OutOfService) gives Answer.Refused 6 ∷
-      on 34 (Action.At 1 (PointAction.Request 6 77 34)) gives Answer.Refused 6 ∷ []))
+      on 34 (Action.At 1 (PointAction.IntoService 7 77)) gives Answer.Refused Rejection.NoTransportContract ∷
+      on 34 (Action.At 1 PointAction.OutOfService) gives Answer.Refused Rejection.NoPerimeter ∷
+      on 34 (Action.At 1 (PointAction.Request 6 77 34)) gives Answer.Refused Rejection.NoPerimeter ∷ []))
   -- 5 before 30, and 8 before 30: 22 marks in default, whose deadline is 61
   pub five_before_thirty : Plays opens
       (marks23 5 1 ++
       (on 33 (Action.At 1 (PointAction.Request 6 77 33)) gives Answer.AcceptedOn 54 ∷
-      on 34 (Action.At 1 (PointAction.Request 6 77 34)) gives Answer.Refused 5 ∷ []))
+      on 34 (Action.At 1 (PointAction.Request 6 77 34)) gives Answer.Refused Rejection.OtherRequest ∷ []))
   pub eight_before_thirty : Plays opens
       (marks20 ++
       (on 30 (Action.At 1 PointAction.OutOfService) gives Answer.Accepted ∷
       on 31 (Action.At 1 (PointAction.DefaultSupply 77)) gives Answer.Accepted ∷
-      on 39 (Action.At 1 (PointAction.Request 6 77 39)) gives Answer.Refused 30 ∷
-      on 40 (Action.At 1 (PointAction.Request 6 77 40)) gives Answer.RefusedUntil 61 ∷ []))
+      on 39 (Action.At 1 (PointAction.Request 6 77 39)) gives Answer.Refused Rejection.PeriodsFull ∷
+      on 40 (Action.At 1 (PointAction.Request 6 77 40)) gives Answer.Refused (Rejection.LastResortUnderWay 61) ∷ []))
   -- 29 before 30: the default supplier holds a point with 23 marks by contract
-  pub protected_before_thirty : Plays opens (marks23 1 1 ++ (on 33 (Action.Failure 1) gives Answer.Refused 29 ∷ []))
+  pub protected_before_thirty : Plays opens (marks23 1 1 ++ (on 33 (Action.Failure 1) gives Answer.Refused Rejection.ProtectedSupplier ∷ []))

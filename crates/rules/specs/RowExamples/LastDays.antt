@@ -1,4 +1,5 @@
 -- 3 at the calendar's end: "past the calendar's end no day is later than it", "or e past 73,048". Definitions only.
+use Rattle.rules.specs.declared.{Rejection.Rejection}
 use Rattle.std.specs.Prelude.{◌≡◌, List, [], ◌∷◌, ◌++◌, ℕ}
 use Rattle.dates.specs.Months.{three_months_after}
 use Rattle.rules.specs.declared.{Opening.Opening, Action.Action, PointAction.PointAction, Answer.Answer}
@@ -23,10 +24,10 @@ pub record LastDayExamples : Type 0 where
   pub september_30 : three_months_after 72956 ≡ 73047
   pub october_1 : three_months_after 72957 ≡ 73048
   pub request_on_september_30_for_73047 : Plays (opens 72956) (request_on 72956 73047 (Answer.AcceptedOn 73047))
-  pub request_on_september_30_for_73048 : Plays (opens 72956) (request_on 72956 73048 (Answer.Refused 3))
+  pub request_on_september_30_for_73048 : Plays (opens 72956) (request_on 72956 73048 (Answer.Refused Rejection.DateIncompatible))
   pub request_on_october_1_for_73048 : Plays (opens 72957) (request_on 72957 73048 (Answer.AcceptedOn 73048))
   -- 21 days after 10 December is the last day; a day later e would be past it, which is 3 and not 20
   pub december_10 : three_months_after 73027 ≡ 73048
   pub december_11 : three_months_after 73028 ≡ 73048
   pub request_on_december_10 : Plays (opens 73027) (request_on 73027 73027 (Answer.AcceptedOn 73048))
-  pub request_on_december_11 : Plays (opens 73028) (request_on 73028 73028 (Answer.Refused 3))
+  pub request_on_december_11 : Plays (opens 73028) (request_on 73028 73028 (Answer.Refused Rejection.DateIncompatible))

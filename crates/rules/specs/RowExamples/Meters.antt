@@ -1,5 +1,6 @@
 -- 02, F-4: the code and the factor of a meter, 22 and 40, and normal cubic metres. Definitions only.
-use Rattle.std.specs.Prelude.{true, List, [], ◌∷◌, ◌++◌, ℕ}
+use Rattle.rules.specs.declared.{Rejection.Rejection}
+use Rattle.std.specs.Prelude.{true, false, List, [], ◌∷◌, ◌++◌, ℕ}
 use Rattle.rules.specs.declared.{Code.Code, SupplyKind.SupplyKind, Pending.Pending, Action.Action}
 use Rattle.rules.specs.declared.{PointAction.PointAction, Answer.Answer}
 use Rattle.rules.specs.Fields.{supply, meter, reading, fields, unsupplied}
@@ -48,9 +49,9 @@ one_and_one factor =
 
 pub record MeterExamples : Type 0 where
   -- "the code of the meter (1 for m³, 2 for Nm³, anything else 22)"
-  pub code_22 : Then (each 11 (Answer.Refused 22) no_code)
+  pub code_22 : Then (each 11 (Answer.Refused Rejection.FieldOutOfRange) no_code)
   -- 40: "factor out of range or not 0 on an Nm³ meter"; the range is "1 to 99,999"
-  pub factor_40 : Then (each 11 (Answer.Refused 40) no_factor)
+  pub factor_40 : Then (each 11 (Answer.Refused Rejection.FactorOutOfRange) no_factor)
   pub factors : Then
       (on 11 (Action.At 5 (enrol 3 0 990 1 1)) gives Answer.Accepted ∷
       on 11 (Action.At 6 (enrol 3 0 990 1 99999)) gives Answer.Accepted ∷
@@ -60,36 +61,36 @@ pub record MeterExamples : Type 0 where
       on 13 (Action.At 1 (change 0 0 3 0 0 2 0)) gives Answer.Accepted ∷ [])
   -- "tested directly after 22": 22 comes before 40
   pub after_22 : Then
-      (on 11 (Action.At 5 (enrol 9 0 990 1 0)) gives Answer.Refused 22 ∷
-      on 11 (Action.At 5 (enrol 0 0 990 2 1)) gives Answer.Refused 22 ∷
-      on 11 (Action.At 5 (enrol 3 4 990 1 100000)) gives Answer.Refused 22 ∷
-      on 11 (Action.At 1 (change 995 2 3 0 0 1 0)) gives Answer.Refused 22 ∷
-      on 11 (Action.At 1 (change 995 0 9 0 0 1 0)) gives Answer.Refused 22 ∷ [])
+      (on 11 (Action.At 5 (enrol 9 0 990 1 0)) gives Answer.Refused Rejection.FieldOutOfRange ∷
+      on 11 (Action.At 5 (enrol 0 0 990 2 1)) gives Answer.Refused Rejection.FieldOutOfRange ∷
+      on 11 (Action.At 5 (enrol 3 4 990 1 100000)) gives Answer.Refused Rejection.FieldOutOfRange ∷
+      on 11 (Action.At 1 (change 995 2 3 0 0 1 0)) gives Answer.Refused Rejection.FieldOutOfRange ∷
+      on 11 (Action.At 1 (change 995 0 9 0 0 1 0)) gives Answer.Refused Rejection.FieldOutOfRange ∷ [])
   -- and 40 before 20, before 21 and before all others, which come where the factor is in range
-  pub before_20 : Then (each 73049 (Answer.Refused 40) no_factor)
-  pub before_21 : Then (each 9 (Answer.Refused 40) no_factor)
+  pub before_20 : Then (each 73049 (Answer.Refused Rejection.FactorOutOfRange) no_factor)
+  pub before_21 : Then (each 9 (Answer.Refused Rejection.FactorOutOfRange) no_factor)
   pub then_20_and_21 : Then
-      (on 73049 (Action.At 5 (enrol 3 0 990 1 1)) gives Answer.Refused 20 ∷
-      on 73049 (Action.At 1 (change 995 0 3 0 0 1 1)) gives Answer.Refused 20 ∷
-      on 9 (Action.At 5 (enrol 3 0 990 1 1)) gives Answer.Refused 21 ∷
-      on 9 (Action.At 1 (change 995 0 3 0 0 1 1)) gives Answer.Refused 21 ∷ [])
+      (on 73049 (Action.At 5 (enrol 3 0 990 1 1)) gives Answer.Refused Rejection.OffTheCalendar ∷
+      on 73049 (Action.At 1 (change 995 0 3 0 0 1 1)) gives Answer.Refused Rejection.OffTheCalendar ∷
+      on 9 (Action.At 5 (enrol 3 0 990 1 1)) gives Answer.Refused Rejection.DayRunsBack ∷
+      on 9 (Action.At 1 (change 995 0 3 0 0 1 1)) gives Answer.Refused Rejection.DayRunsBack ∷ [])
   pub before_2_23_27_28 : Then
-      (on 11 (Action.At 33 (enrol 3 0 990 1 0)) gives Answer.Refused 40 ∷
-      on 11 (Action.At 33 (enrol 3 0 990 1 1)) gives Answer.Refused 2 ∷
-      on 11 (Action.At 1 (enrol 3 0 990 1 0)) gives Answer.Refused 40 ∷
-      on 11 (Action.At 1 (enrol 3 0 990 1 1)) gives Answer.Refused 23 ∷
-      on 11 (Action.At 5 (enrol 3 0 1000 1 0)) gives Answer.Refused 40 ∷
-      on 11 (Action.At 5 (enrol 3 0 1000 1 1)) gives Answer.Refused 28 ∷
-      on 11 (Action.At 5 (change 995 0 3 0 0 1 0)) gives Answer.Refused 40 ∷
-      on 11 (Action.At 5 (change 995 0 3 0 0 1 1)) gives Answer.Refused 2 ∷
-      on 11 (Action.At 33 (change 995 0 3 0 0 2 1)) gives Answer.Refused 40 ∷
-      on 11 (Action.At 33 (change 995 0 3 0 0 2 0)) gives Answer.Refused 2 ∷ [])
+      (on 11 (Action.At 33 (enrol 3 0 990 1 0)) gives Answer.Refused Rejection.FactorOutOfRange ∷
+      on 11 (Action.At 33 (enrol 3 0 990 1 1)) gives Answer.Refused Rejection.FalseIdpc ∷
+      on 11 (Action.At 1 (enrol 3 0 990 1 0)) gives Answer.Refused Rejection.FactorOutOfRange ∷
+      on 11 (Action.At 1 (enrol 3 0 990 1 1)) gives Answer.Refused Rejection.AlreadyEnrolled ∷
+      on 11 (Action.At 5 (enrol 3 0 1000 1 0)) gives Answer.Refused Rejection.FactorOutOfRange ∷
+      on 11 (Action.At 5 (enrol 3 0 1000 1 1)) gives Answer.Refused Rejection.IndexDisagrees ∷
+      on 11 (Action.At 5 (change 995 0 3 0 0 1 0)) gives Answer.Refused Rejection.FactorOutOfRange ∷
+      on 11 (Action.At 5 (change 995 0 3 0 0 1 1)) gives Answer.Refused Rejection.FalseIdpc ∷
+      on 11 (Action.At 33 (change 995 0 3 0 0 2 1)) gives Answer.Refused Rejection.FactorOutOfRange ∷
+      on 11 (Action.At 33 (change 995 0 3 0 0 2 0)) gives Answer.Refused Rejection.FalseIdpc ∷ [])
   pub change_before_27_28 : Plays (opening 8000 2 30 40 1 2)
       (opens 1 9500 ++
-      (on 8000 (Action.At 1 (change 105 0 3 0 0 2 1)) gives Answer.Refused 40 ∷
-      on 8000 (Action.At 1 (change 105 0 3 0 0 2 0)) gives Answer.Refused 27 ∷
-      on 8001 (Action.At 1 (change 105 1 3 0 0 2 1)) gives Answer.Refused 40 ∷
-      on 8001 (Action.At 1 (change 105 1 3 0 0 2 0)) gives Answer.Refused 28 ∷ []))
+      (on 8000 (Action.At 1 (change 105 0 3 0 0 2 1)) gives Answer.Refused Rejection.FactorOutOfRange ∷
+      on 8000 (Action.At 1 (change 105 0 3 0 0 2 0)) gives Answer.Refused Rejection.ReadingOutOfTime ∷
+      on 8001 (Action.At 1 (change 105 1 3 0 0 2 1)) gives Answer.Refused Rejection.FactorOutOfRange ∷
+      on 8001 (Action.At 1 (change 105 1 3 0 0 2 0)) gives Answer.Refused Rejection.IndexDisagrees ∷ []))
   -- what the meter then is, with its factor where it counts m³
   pub enrolled_cubic : ThenKeeps (on 12 (Action.At 5 (enrol 4 2 123 1 9500)) gives Answer.Accepted ∷ []) 5
       (fields true unsupplied 0 0 (meter 4 2 (Code.Cubic 9500)) (reading 12 123))

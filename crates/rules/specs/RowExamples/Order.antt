@@ -1,5 +1,6 @@
 -- Document 01, "Rejection codes": "Order: 31, 22, 20, 21, then the lowest number that applies", for each of the twelve
 -- calls; 31 is for lines. Definitions only.
+use Rattle.rules.specs.declared.{Rejection.Rejection}
 use Rattle.std.specs.Prelude.{List, [], ◌∷◌, ◌++◌}
 use Rattle.rules.specs.declared.{Action.Action, PointAction.PointAction, Answer.Answer}
 use Rattle.rules.specs.Scenes.{Line, ◌gives◌, opening, on, Plays, enrol, change}
@@ -43,8 +44,8 @@ late =
 
 pub record OrderExamples : Type 0 where
   -- 20: "a day given is past 73,048"; 21: "today before the register's day"
-  pub today_73049 : Then (each 73049 (Answer.Refused 20) twelve)
-  pub today_9 : Then (each 9 (Answer.Refused 21) twelve)
+  pub today_73049 : Then (each 73049 (Answer.Refused Rejection.OffTheCalendar) twelve)
+  pub today_9 : Then (each 9 (Answer.Refused Rejection.DayRunsBack) twelve)
   -- and on day 11 the same calls go through, the failure last
   pub today_11 : Then
       (on 11 (Action.Contract 7) gives Answer.Accepted ∷
@@ -59,21 +60,21 @@ pub record OrderExamples : Type 0 where
       on 11 (Action.At 1 (PointAction.Suspend 1)) gives Answer.Accepted ∷ on 11 Action.Day gives Answer.Accepted ∷
       on 11 (Action.Failure 5) gives Answer.Accepted ∷ [])
   -- 22 comes before 20 and before 21
-  pub out_of_range : Then (each 11 (Answer.Refused 22) outside_the_range)
-  pub out_of_range_before_20 : Then (each 73049 (Answer.Refused 22) outside_the_range)
-  pub out_of_range_before_21 : Then (each 9 (Answer.Refused 22) outside_the_range)
+  pub out_of_range : Then (each 11 (Answer.Refused Rejection.FieldOutOfRange) outside_the_range)
+  pub out_of_range_before_20 : Then (each 73049 (Answer.Refused Rejection.FieldOutOfRange) outside_the_range)
+  pub out_of_range_before_21 : Then (each 9 (Answer.Refused Rejection.FieldOutOfRange) outside_the_range)
   pub out_of_range_before_2 : Then
-      (on 11 (Action.At 33 (PointAction.Reading 11 995 2)) gives Answer.Refused 22 ∷
-      on 11 (Action.At 33 (enrol 9 0 0 2 0)) gives Answer.Refused 22 ∷
-      on 11 (Action.At 33 (PointAction.Suspend 2)) gives Answer.Refused 22 ∷ [])
+      (on 11 (Action.At 33 (PointAction.Reading 11 995 2)) gives Answer.Refused Rejection.FieldOutOfRange ∷
+      on 11 (Action.At 33 (enrol 9 0 0 2 0)) gives Answer.Refused Rejection.FieldOutOfRange ∷
+      on 11 (Action.At 33 (PointAction.Suspend 2)) gives Answer.Refused Rejection.FieldOutOfRange ∷ [])
   -- the ends of the ranges
   pub in_range : Then
       (on 11 (Action.Contract 99) gives Answer.Accepted ∷ on 11 (Action.Contract 1) gives Answer.Accepted ∷
-      on 11 (Action.At 1 (PointAction.Request 6 1 31)) gives Answer.Refused 4 ∷
-      on 11 (Action.At 1 (PointAction.Request 6 999999999 31)) gives Answer.Refused 4 ∷
+      on 11 (Action.At 1 (PointAction.Request 6 1 31)) gives Answer.Refused Rejection.NameDiffers ∷
+      on 11 (Action.At 1 (PointAction.Request 6 999999999 31)) gives Answer.Refused Rejection.NameDiffers ∷
       on 11 (Action.At 1 (PointAction.Request 1 77 31)) gives Answer.AcceptedOn 32 ∷
-      on 11 (Action.At 4 (PointAction.Cancel 1)) gives Answer.Refused 25 ∷
-      on 11 (Action.At 4 (PointAction.Cancel 99)) gives Answer.Refused 25 ∷
+      on 11 (Action.At 4 (PointAction.Cancel 1)) gives Answer.Refused Rejection.NothingPending ∷
+      on 11 (Action.At 4 (PointAction.Cancel 99)) gives Answer.Refused Rejection.NothingPending ∷
       on 11 (Action.At 2 (PointAction.IntoService 99 999999999)) gives Answer.Accepted ∷
       on 11 (Action.At 2 PointAction.OutOfService) gives Answer.Accepted ∷
       on 11 (Action.At 2 (PointAction.IntoService 1 1)) gives Answer.Accepted ∷
@@ -88,34 +89,34 @@ pub record OrderExamples : Type 0 where
       on 12 (Action.At 1 (PointAction.Suspend 1)) gives Answer.Accepted ∷
       on 12 (Action.At 1 (PointAction.Suspend 0)) gives Answer.Accepted ∷
       on 12 (Action.Failure 99) gives Answer.Accepted ∷
-      on 12 (Action.Failure 1) gives Answer.Refused 29 ∷ [])
+      on 12 (Action.Failure 1) gives Answer.Refused Rejection.ProtectedSupplier ∷ [])
   -- 20: "default: today + A + B is; failure: today + B is"; the sums alone, whatever p and s are, and 73,048 itself is
   -- allowed
   pub sums_off_the_calendar : Plays (opening 72970 2 30 40 1 2)
       (late ++
-      (on 72979 (Action.At 2 (PointAction.DefaultSupply 77)) gives Answer.Refused 20 ∷
-      on 72979 (Action.At 33 (PointAction.DefaultSupply 77)) gives Answer.Refused 20 ∷
-      on 72978 (Action.At 33 (PointAction.DefaultSupply 77)) gives Answer.Refused 2 ∷
+      (on 72979 (Action.At 2 (PointAction.DefaultSupply 77)) gives Answer.Refused Rejection.OffTheCalendar ∷
+      on 72979 (Action.At 33 (PointAction.DefaultSupply 77)) gives Answer.Refused Rejection.OffTheCalendar ∷
+      on 72978 (Action.At 33 (PointAction.DefaultSupply 77)) gives Answer.Refused Rejection.FalseIdpc ∷
       on 72978 (Action.At 2 (PointAction.DefaultSupply 77)) gives Answer.Accepted ∷
-      on 73009 (Action.Failure 5) gives Answer.Refused 20 ∷ on 73009 (Action.Failure 7) gives Answer.Refused 20 ∷
-      on 73008 (Action.Failure 7) gives Answer.Refused 1 ∷
-      on 73008 (Action.Failure 5) gives Answer.Accepted ∷ on 73049 Action.Day gives Answer.Refused 20 ∷
+      on 73009 (Action.Failure 5) gives Answer.Refused Rejection.OffTheCalendar ∷ on 73009 (Action.Failure 7) gives Answer.Refused Rejection.OffTheCalendar ∷
+      on 73008 (Action.Failure 7) gives Answer.Refused Rejection.NoTransportContract ∷
+      on 73008 (Action.Failure 5) gives Answer.Accepted ∷ on 73049 Action.Day gives Answer.Refused Rejection.OffTheCalendar ∷
       on 73048 Action.Day gives Answer.Accepted ∷ []))
   -- 20 before 21: with the same days the sums and the days given beside today count first
   pub off_the_calendar_before_21 : Plays (opening 73040 2 30 40 1 2)
-      (on 73009 (Action.Failure 5) gives Answer.Refused 20 ∷ on 73008 (Action.Failure 5) gives Answer.Refused 21 ∷
-      on 72979 (Action.At 1 (PointAction.DefaultSupply 77)) gives Answer.Refused 20 ∷
-      on 72978 (Action.At 1 (PointAction.DefaultSupply 77)) gives Answer.Refused 21 ∷
-      on 73039 (Action.At 1 (PointAction.Request 1 77 73049)) gives Answer.Refused 20 ∷
-      on 73039 (Action.At 1 (PointAction.Request 1 77 73048)) gives Answer.Refused 21 ∷
-      on 73039 (Action.At 1 (PointAction.Reading 73049 0 0)) gives Answer.Refused 20 ∷
-      on 73039 (Action.At 1 (PointAction.Reading 73048 0 0)) gives Answer.Refused 21 ∷ [])
+      (on 73009 (Action.Failure 5) gives Answer.Refused Rejection.OffTheCalendar ∷ on 73008 (Action.Failure 5) gives Answer.Refused Rejection.DayRunsBack ∷
+      on 72979 (Action.At 1 (PointAction.DefaultSupply 77)) gives Answer.Refused Rejection.OffTheCalendar ∷
+      on 72978 (Action.At 1 (PointAction.DefaultSupply 77)) gives Answer.Refused Rejection.DayRunsBack ∷
+      on 73039 (Action.At 1 (PointAction.Request 1 77 73049)) gives Answer.Refused Rejection.OffTheCalendar ∷
+      on 73039 (Action.At 1 (PointAction.Request 1 77 73048)) gives Answer.Refused Rejection.DayRunsBack ∷
+      on 73039 (Action.At 1 (PointAction.Reading 73049 0 0)) gives Answer.Refused Rejection.OffTheCalendar ∷
+      on 73039 (Action.At 1 (PointAction.Reading 73048 0 0)) gives Answer.Refused Rejection.DayRunsBack ∷ [])
   -- "a refused call changes nothing, the register's day included": after refusals on later days an earlier call still
   -- goes through
   pub refused_moves_no_day : Then
-      (on 60 (Action.At 33 (PointAction.Suspend 1)) gives Answer.Refused 2 ∷
-      on 50 (Action.Failure 7) gives Answer.Refused 1 ∷ on 12 Action.Day gives Answer.Accepted ∷
-      on 11 Action.Day gives Answer.Refused 21 ∷ on 12 Action.Day gives Answer.Accepted ∷ [])
+      (on 60 (Action.At 33 (PointAction.Suspend 1)) gives Answer.Refused Rejection.FalseIdpc ∷
+      on 50 (Action.Failure 7) gives Answer.Refused Rejection.NoTransportContract ∷ on 12 Action.Day gives Answer.Accepted ∷
+      on 11 Action.Day gives Answer.Refused Rejection.DayRunsBack ∷ on 12 Action.Day gives Answer.Accepted ∷ [])
   pub refused_moves_no_day_after : ThenIsOn
-      (on 12 Action.Day gives Answer.Accepted ∷ on 60 (Action.At 33 (PointAction.Suspend 1)) gives Answer.Refused 2 ∷
+      (on 12 Action.Day gives Answer.Accepted ∷ on 60 (Action.At 33 (PointAction.Suspend 1)) gives Answer.Refused Rejection.FalseIdpc ∷
       []) 12

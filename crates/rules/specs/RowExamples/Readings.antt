@@ -1,5 +1,6 @@
 -- Calls 8 and 9, reading and meter change: 2, 27, 28, what they do, and what is booked. Definitions only.
-use Rattle.std.specs.Prelude.{true, [], ◌∷◌}
+use Rattle.rules.specs.declared.{Rejection.Rejection}
+use Rattle.std.specs.Prelude.{true, false, [], ◌∷◌}
 use Rattle.rules.specs.declared.{Code.Code, SupplyKind.SupplyKind, Pending.Pending, Action.Action, PointAction.PointAction}
 use Rattle.rules.specs.declared.{Answer.Answer}
 use Rattle.rules.specs.Fields.{supply, meter, reading, fields}
@@ -10,54 +11,54 @@ use Rattle.rules.specs.RowExamples.Scene.{Then, ThenKeeps, ThenShows}
 pub record ReadingExamples : Type 0 where
   -- 2; 27: "d .. not after the last reading's day, or d past today": the last reading is the enrolment's, on day 10
   pub reading_day : Then
-      (on 12 (Action.At 0 (PointAction.Reading 12 995 0)) gives Answer.Refused 2 ∷
-      on 12 (Action.At 33 (PointAction.Reading 12 995 0)) gives Answer.Refused 2 ∷
-      on 12 (Action.At 5 (PointAction.Reading 12 995 0)) gives Answer.Refused 2 ∷
-      on 10 (Action.At 1 (PointAction.Reading 10 990 0)) gives Answer.Refused 27 ∷
-      on 12 (Action.At 1 (PointAction.Reading 10 995 0)) gives Answer.Refused 27 ∷
-      on 12 (Action.At 1 (PointAction.Reading 9 995 0)) gives Answer.Refused 27 ∷
-      on 12 (Action.At 1 (PointAction.Reading 13 995 0)) gives Answer.Refused 27 ∷
+      (on 12 (Action.At 0 (PointAction.Reading 12 995 0)) gives Answer.Refused Rejection.FalseIdpc ∷
+      on 12 (Action.At 33 (PointAction.Reading 12 995 0)) gives Answer.Refused Rejection.FalseIdpc ∷
+      on 12 (Action.At 5 (PointAction.Reading 12 995 0)) gives Answer.Refused Rejection.FalseIdpc ∷
+      on 10 (Action.At 1 (PointAction.Reading 10 990 0)) gives Answer.Refused Rejection.ReadingOutOfTime ∷
+      on 12 (Action.At 1 (PointAction.Reading 10 995 0)) gives Answer.Refused Rejection.ReadingOutOfTime ∷
+      on 12 (Action.At 1 (PointAction.Reading 9 995 0)) gives Answer.Refused Rejection.ReadingOutOfTime ∷
+      on 12 (Action.At 1 (PointAction.Reading 13 995 0)) gives Answer.Refused Rejection.ReadingOutOfTime ∷
       on 12 (Action.At 1 (PointAction.Reading 11 995 0)) gives Answer.Accepted ∷
-      on 12 (Action.At 1 (PointAction.Reading 11 995 0)) gives Answer.Refused 27 ∷
+      on 12 (Action.At 1 (PointAction.Reading 11 995 0)) gives Answer.Refused Rejection.ReadingOutOfTime ∷
       on 12 (Action.At 1 (PointAction.Reading 12 995 0)) gives Answer.Accepted ∷ [])
   -- 28: "an index at or past 10^w; z = 0 and x below the last index; z = 1 and x not below it"
   pub reading_index : Then
-      (on 12 (Action.At 1 (PointAction.Reading 11 1000 0)) gives Answer.Refused 28 ∷
-      on 12 (Action.At 1 (PointAction.Reading 11 1000 1)) gives Answer.Refused 28 ∷
-      on 12 (Action.At 1 (PointAction.Reading 11 989 0)) gives Answer.Refused 28 ∷
-      on 12 (Action.At 1 (PointAction.Reading 11 990 1)) gives Answer.Refused 28 ∷
-      on 12 (Action.At 1 (PointAction.Reading 11 999 1)) gives Answer.Refused 28 ∷
+      (on 12 (Action.At 1 (PointAction.Reading 11 1000 0)) gives Answer.Refused Rejection.IndexDisagrees ∷
+      on 12 (Action.At 1 (PointAction.Reading 11 1000 1)) gives Answer.Refused Rejection.IndexDisagrees ∷
+      on 12 (Action.At 1 (PointAction.Reading 11 989 0)) gives Answer.Refused Rejection.IndexDisagrees ∷
+      on 12 (Action.At 1 (PointAction.Reading 11 990 1)) gives Answer.Refused Rejection.IndexDisagrees ∷
+      on 12 (Action.At 1 (PointAction.Reading 11 999 1)) gives Answer.Refused Rejection.IndexDisagrees ∷
       on 12 (Action.At 1 (PointAction.Reading 11 990 0)) gives Answer.Accepted ∷
       on 12 (Action.At 1 (PointAction.Reading 12 989 1)) gives Answer.Accepted ∷
       on 12 (Action.At 2 (PointAction.Reading 12 999 0)) gives Answer.Accepted ∷ [])
   -- 2 before 27, 27 before 28
   pub reading_lowest_number : Then
-      (on 12 (Action.At 5 (PointAction.Reading 0 995 0)) gives Answer.Refused 2 ∷
-      on 12 (Action.At 5 (PointAction.Reading 13 1000 0)) gives Answer.Refused 2 ∷
-      on 12 (Action.At 1 (PointAction.Reading 13 1000 0)) gives Answer.Refused 27 ∷
-      on 12 (Action.At 1 (PointAction.Reading 10 989 0)) gives Answer.Refused 27 ∷ [])
+      (on 12 (Action.At 5 (PointAction.Reading 0 995 0)) gives Answer.Refused Rejection.FalseIdpc ∷
+      on 12 (Action.At 5 (PointAction.Reading 13 1000 0)) gives Answer.Refused Rejection.FalseIdpc ∷
+      on 12 (Action.At 1 (PointAction.Reading 13 1000 0)) gives Answer.Refused Rejection.ReadingOutOfTime ∷
+      on 12 (Action.At 1 (PointAction.Reading 10 989 0)) gives Answer.Refused Rejection.ReadingOutOfTime ∷ [])
   -- meter change: 2; 27: "today .. not after the last reading's day"; 28 for x by the old wheels and for the new index
   -- by the new ones
   pub change_day : Then
-      (on 10 (Action.At 5 (change 995 0 3 0 0 2 0)) gives Answer.Refused 2 ∷
-      on 10 (Action.At 0 (change 995 0 3 0 0 2 0)) gives Answer.Refused 2 ∷
-      on 10 (Action.At 33 (change 995 0 3 0 0 2 0)) gives Answer.Refused 2 ∷
-      on 10 (Action.At 1 (change 995 0 3 0 0 2 0)) gives Answer.Refused 27 ∷
-      on 10 (Action.At 1 (change 1000 0 3 0 1000 2 0)) gives Answer.Refused 27 ∷
+      (on 10 (Action.At 5 (change 995 0 3 0 0 2 0)) gives Answer.Refused Rejection.FalseIdpc ∷
+      on 10 (Action.At 0 (change 995 0 3 0 0 2 0)) gives Answer.Refused Rejection.FalseIdpc ∷
+      on 10 (Action.At 33 (change 995 0 3 0 0 2 0)) gives Answer.Refused Rejection.FalseIdpc ∷
+      on 10 (Action.At 1 (change 995 0 3 0 0 2 0)) gives Answer.Refused Rejection.ReadingOutOfTime ∷
+      on 10 (Action.At 1 (change 1000 0 3 0 1000 2 0)) gives Answer.Refused Rejection.ReadingOutOfTime ∷
       on 11 (Action.At 1 (change 995 0 3 0 0 2 0)) gives Answer.Accepted ∷
-      on 11 (Action.At 1 (change 0 0 3 0 0 2 0)) gives Answer.Refused 27 ∷
-      on 11 (Action.At 1 (PointAction.Reading 11 0 0)) gives Answer.Refused 27 ∷ [])
+      on 11 (Action.At 1 (change 0 0 3 0 0 2 0)) gives Answer.Refused Rejection.ReadingOutOfTime ∷
+      on 11 (Action.At 1 (PointAction.Reading 11 0 0)) gives Answer.Refused Rejection.ReadingOutOfTime ∷ [])
   -- 2 before 27, also on the calendar's first day
   pub change_on_day_0 : Plays (opening 0 2 30 40 1 2)
-      (on 0 (Action.At 1 (change 0 0 3 0 0 2 0)) gives Answer.Refused 2 ∷
+      (on 0 (Action.At 1 (change 0 0 3 0 0 2 0)) gives Answer.Refused Rejection.FalseIdpc ∷
       on 0 (Action.At 1 (enrol 3 0 0 2 0)) gives Answer.Accepted ∷
-      on 0 (Action.At 1 (change 0 0 3 0 0 2 0)) gives Answer.Refused 27 ∷ [])
+      on 0 (Action.At 1 (change 0 0 3 0 0 2 0)) gives Answer.Refused Rejection.ReadingOutOfTime ∷ [])
   pub change_index : Then
-      (on 11 (Action.At 1 (change 1000 0 5 0 0 2 0)) gives Answer.Refused 28 ∷
-      on 11 (Action.At 1 (change 989 0 5 0 0 2 0)) gives Answer.Refused 28 ∷
-      on 11 (Action.At 1 (change 990 1 5 0 0 2 0)) gives Answer.Refused 28 ∷
-      on 11 (Action.At 1 (change 995 0 5 0 100000 2 0)) gives Answer.Refused 28 ∷
-      on 11 (Action.At 1 (change 995 0 2 0 100 2 0)) gives Answer.Refused 28 ∷
+      (on 11 (Action.At 1 (change 1000 0 5 0 0 2 0)) gives Answer.Refused Rejection.IndexDisagrees ∷
+      on 11 (Action.At 1 (change 989 0 5 0 0 2 0)) gives Answer.Refused Rejection.IndexDisagrees ∷
+      on 11 (Action.At 1 (change 990 1 5 0 0 2 0)) gives Answer.Refused Rejection.IndexDisagrees ∷
+      on 11 (Action.At 1 (change 995 0 5 0 100000 2 0)) gives Answer.Refused Rejection.IndexDisagrees ∷
+      on 11 (Action.At 1 (change 995 0 2 0 100 2 0)) gives Answer.Refused Rejection.IndexDisagrees ∷
       on 11 (Action.At 1 (change 995 0 5 0 99999 2 0)) gives Answer.Accepted ∷
       on 11 (Action.At 2 (change 989 1 2 0 99 2 0)) gives Answer.Accepted ∷ [])
   -- 8: "(d, x) becomes the last reading"; 9: "then the new meter with its index as last reading"
@@ -99,7 +100,7 @@ pub record ReadingExamples : Type 0 where
   pub late_reading : ThenShows
       (on 12 (Action.At 2 (PointAction.IntoService 5 77)) gives Answer.Accepted ∷
       on 14 (Action.At 2 PointAction.OutOfService) gives Answer.Accepted ∷
-      on 30 (Action.At 2 (PointAction.Reading 15 1000 0)) gives Answer.Refused 28 ∷
+      on 30 (Action.At 2 (PointAction.Reading 15 1000 0)) gives Answer.Refused Rejection.IndexDisagrees ∷
       on 30 (Action.At 2 (PointAction.Reading 15 0 1)) gives Answer.Accepted ∷ []) 2
       (period 10 0 4000 4000 ∷ period 12 5 4000 4000 ∷ period 14 0 2000 2000 ∷ []) 10000 10000
   pub own_day_not_booked : ThenShows

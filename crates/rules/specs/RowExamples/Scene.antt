@@ -1,5 +1,5 @@
 -- The register that the row examples start from. Definitions only.
-use Rattle.std.specs.Prelude.{true, List, [], ◌∷◌, ◌++◌, ℕ, zero, suc}
+use Rattle.std.specs.Prelude.{true, false, List, [], ◌∷◌, ◌++◌, ℕ, zero, suc}
 use Rattle.rules.specs.declared.{Code.Code, Fields.Fields, Supply.Supply, Period.Period, Opening.Opening, Action.Action}
 use Rattle.rules.specs.declared.{PointAction.PointAction, Answer.Answer}
 use Rattle.rules.specs.Fields.{fields, meter, reading}

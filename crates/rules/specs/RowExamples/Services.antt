@@ -1,6 +1,7 @@
 -- Calls 3, 4, 5, 10 and 11, enrolment, into service, default, out of service, suspension: 2, 6, 23, 24, 28, and what
 -- they do. 30 is in RowExamples/Full. Definitions only.
-use Rattle.std.specs.Prelude.{true, [], ◌∷◌}
+use Rattle.rules.specs.declared.{Rejection.Rejection}
+use Rattle.std.specs.Prelude.{true, false, [], ◌∷◌}
 use Rattle.rules.specs.declared.{Code.Code, SupplyKind.SupplyKind, Pending.Pending, Action.Action, PointAction.PointAction}
 use Rattle.rules.specs.declared.{Answer.Answer}
 use Rattle.rules.specs.Fields.{supply, meter, reading, fields, unsupplied}
@@ -11,51 +12,51 @@ use Rattle.rules.specs.RowExamples.Scene.{Then, ThenKeeps, ThenShows, kept}
 pub record ServiceExamples : Type 0 where
   -- 2: "p not 1 to 32, or not enrolled (enrol: only the first)"; 23: "already enrolled"
   pub enrol_point : Then
-      (on 11 (Action.At 0 (enrol 3 0 990 2 0)) gives Answer.Refused 2 ∷
-      on 11 (Action.At 33 (enrol 3 0 990 2 0)) gives Answer.Refused 2 ∷
+      (on 11 (Action.At 0 (enrol 3 0 990 2 0)) gives Answer.Refused Rejection.FalseIdpc ∷
+      on 11 (Action.At 33 (enrol 3 0 990 2 0)) gives Answer.Refused Rejection.FalseIdpc ∷
       on 11 (Action.At 32 (enrol 3 0 990 2 0)) gives Answer.Accepted ∷
-      on 11 (Action.At 32 (enrol 3 0 990 2 0)) gives Answer.Refused 23 ∷
-      on 11 (Action.At 1 (enrol 3 0 990 2 0)) gives Answer.Refused 23 ∷
+      on 11 (Action.At 32 (enrol 3 0 990 2 0)) gives Answer.Refused Rejection.AlreadyEnrolled ∷
+      on 11 (Action.At 1 (enrol 3 0 990 2 0)) gives Answer.Refused Rejection.AlreadyEnrolled ∷
       on 11 (Action.At 5 (enrol 3 0 990 2 0)) gives Answer.Accepted ∷ [])
   -- 28: "an index at or past 10^w", w the sum of the wheels; 2 before 28, 23 before 28
   pub enrol_index : Then
-      (on 11 (Action.At 5 (enrol 3 0 1000 2 0)) gives Answer.Refused 28 ∷
-      on 11 (Action.At 33 (enrol 3 0 1000 2 0)) gives Answer.Refused 2 ∷
-      on 11 (Action.At 1 (enrol 3 0 1000 2 0)) gives Answer.Refused 23 ∷
+      (on 11 (Action.At 5 (enrol 3 0 1000 2 0)) gives Answer.Refused Rejection.IndexDisagrees ∷
+      on 11 (Action.At 33 (enrol 3 0 1000 2 0)) gives Answer.Refused Rejection.FalseIdpc ∷
+      on 11 (Action.At 1 (enrol 3 0 1000 2 0)) gives Answer.Refused Rejection.AlreadyEnrolled ∷
       on 11 (Action.At 5 (enrol 3 0 999 2 0)) gives Answer.Accepted ∷
-      on 11 (Action.At 6 (enrol 2 1 1000 2 0)) gives Answer.Refused 28 ∷
+      on 11 (Action.At 6 (enrol 2 1 1000 2 0)) gives Answer.Refused Rejection.IndexDisagrees ∷
       on 11 (Action.At 6 (enrol 2 1 999 2 0)) gives Answer.Accepted ∷
-      on 11 (Action.At 7 (enrol 8 3 100000000000 2 0)) gives Answer.Refused 28 ∷
+      on 11 (Action.At 7 (enrol 8 3 100000000000 2 0)) gives Answer.Refused Rejection.IndexDisagrees ∷
       on 11 (Action.At 7 (enrol 8 3 99999999999 2 0)) gives Answer.Accepted ∷ [])
   -- into service: 1 before 2, 1 before 24, 2, 24: "holder not 0"
   pub into_service : Then
-      (on 11 (Action.At 33 (PointAction.IntoService 7 77)) gives Answer.Refused 1 ∷
-      on 11 (Action.At 1 (PointAction.IntoService 7 77)) gives Answer.Refused 1 ∷
-      on 11 (Action.At 0 (PointAction.IntoService 5 77)) gives Answer.Refused 2 ∷
-      on 11 (Action.At 33 (PointAction.IntoService 5 77)) gives Answer.Refused 2 ∷
-      on 11 (Action.At 5 (PointAction.IntoService 5 77)) gives Answer.Refused 2 ∷
-      on 11 (Action.At 1 (PointAction.IntoService 5 77)) gives Answer.Refused 24 ∷
-      on 11 (Action.At 3 (PointAction.IntoService 5 77)) gives Answer.Refused 24 ∷
+      (on 11 (Action.At 33 (PointAction.IntoService 7 77)) gives Answer.Refused Rejection.NoTransportContract ∷
+      on 11 (Action.At 1 (PointAction.IntoService 7 77)) gives Answer.Refused Rejection.NoTransportContract ∷
+      on 11 (Action.At 0 (PointAction.IntoService 5 77)) gives Answer.Refused Rejection.FalseIdpc ∷
+      on 11 (Action.At 33 (PointAction.IntoService 5 77)) gives Answer.Refused Rejection.FalseIdpc ∷
+      on 11 (Action.At 5 (PointAction.IntoService 5 77)) gives Answer.Refused Rejection.FalseIdpc ∷
+      on 11 (Action.At 1 (PointAction.IntoService 5 77)) gives Answer.Refused Rejection.AlreadyServed ∷
+      on 11 (Action.At 3 (PointAction.IntoService 5 77)) gives Answer.Refused Rejection.AlreadyServed ∷
       on 11 (Action.At 2 (PointAction.IntoService 5 77)) gives Answer.Accepted ∷ [])
   pub default_supply : Then
-      (on 11 (Action.At 0 (PointAction.DefaultSupply 77)) gives Answer.Refused 2 ∷
-      on 11 (Action.At 33 (PointAction.DefaultSupply 77)) gives Answer.Refused 2 ∷
-      on 11 (Action.At 5 (PointAction.DefaultSupply 77)) gives Answer.Refused 2 ∷
-      on 11 (Action.At 1 (PointAction.DefaultSupply 77)) gives Answer.Refused 24 ∷
-      on 11 (Action.At 3 (PointAction.DefaultSupply 77)) gives Answer.Refused 24 ∷
+      (on 11 (Action.At 0 (PointAction.DefaultSupply 77)) gives Answer.Refused Rejection.FalseIdpc ∷
+      on 11 (Action.At 33 (PointAction.DefaultSupply 77)) gives Answer.Refused Rejection.FalseIdpc ∷
+      on 11 (Action.At 5 (PointAction.DefaultSupply 77)) gives Answer.Refused Rejection.FalseIdpc ∷
+      on 11 (Action.At 1 (PointAction.DefaultSupply 77)) gives Answer.Refused Rejection.AlreadyServed ∷
+      on 11 (Action.At 3 (PointAction.DefaultSupply 77)) gives Answer.Refused Rejection.AlreadyServed ∷
       on 11 (Action.At 2 (PointAction.DefaultSupply 77)) gives Answer.Accepted ∷ [])
   -- 6: "request, out of service: holder 0"; 2
   pub out_of_service : Then
-      (on 11 (Action.At 0 PointAction.OutOfService) gives Answer.Refused 2 ∷
-      on 11 (Action.At 33 PointAction.OutOfService) gives Answer.Refused 2 ∷
-      on 11 (Action.At 5 PointAction.OutOfService) gives Answer.Refused 2 ∷
-      on 11 (Action.At 2 PointAction.OutOfService) gives Answer.Refused 6 ∷
+      (on 11 (Action.At 0 PointAction.OutOfService) gives Answer.Refused Rejection.FalseIdpc ∷
+      on 11 (Action.At 33 PointAction.OutOfService) gives Answer.Refused Rejection.FalseIdpc ∷
+      on 11 (Action.At 5 PointAction.OutOfService) gives Answer.Refused Rejection.FalseIdpc ∷
+      on 11 (Action.At 2 PointAction.OutOfService) gives Answer.Refused Rejection.NoPerimeter ∷
       on 11 (Action.At 1 PointAction.OutOfService) gives Answer.Accepted ∷
-      on 11 (Action.At 1 PointAction.OutOfService) gives Answer.Refused 6 ∷ [])
+      on 11 (Action.At 1 PointAction.OutOfService) gives Answer.Refused Rejection.NoPerimeter ∷ [])
   pub suspend : Then
-      (on 11 (Action.At 0 (PointAction.Suspend 1)) gives Answer.Refused 2 ∷
-      on 11 (Action.At 33 (PointAction.Suspend 1)) gives Answer.Refused 2 ∷
-      on 11 (Action.At 5 (PointAction.Suspend 1)) gives Answer.Refused 2 ∷
+      (on 11 (Action.At 0 (PointAction.Suspend 1)) gives Answer.Refused Rejection.FalseIdpc ∷
+      on 11 (Action.At 33 (PointAction.Suspend 1)) gives Answer.Refused Rejection.FalseIdpc ∷
+      on 11 (Action.At 5 (PointAction.Suspend 1)) gives Answer.Refused Rejection.FalseIdpc ∷
       on 11 (Action.At 2 (PointAction.Suspend 1)) gives Answer.Accepted ∷ [])
   -- 3: "holder 0, kind none, nothing pending, key 0, mark 0, last reading is today's"
   pub enrolled : ThenKeeps (on 12 (Action.At 5 (enrol 4 2 123 2 0)) gives Answer.Accepted ∷ []) 5

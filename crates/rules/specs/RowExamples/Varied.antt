@@ -1,7 +1,8 @@
 -- The same rules with other settings, other suppliers and other meters than those of the other examples: W = 3, A =
 -- 25, B = 60, default supplier 9, last-resort supplier 4; wheels behind the comma; suppliers on either side of the
 -- one that a call names. Definitions only.
-use Rattle.std.specs.Prelude.{true, List, [], ◌∷◌, ◌++◌, ℕ}
+use Rattle.rules.specs.declared.{Rejection.Rejection}
+use Rattle.std.specs.Prelude.{true, false, List, [], ◌∷◌, ◌++◌, ℕ}
 use Rattle.rules.specs.declared.{Code.Code, Fields.Fields, Supply.Supply, Period.Period, SupplyKind.SupplyKind}
 use Rattle.rules.specs.declared.{Pending.Pending, Opening.Opening, Action.Action, PointAction.PointAction}
 use Rattle.rules.specs.declared.{Answer.Answer}
@@ -64,12 +65,12 @@ pub record VariedExamples : Type 0 where
   -- 8: "today + 21 at or past the deadline"
   pub request_near_37 : Then
       (in_default ++
-      (on 16 (Action.At 4 (PointAction.Request 5 77 16)) gives Answer.RefusedUntil 37 ∷
+      (on 16 (Action.At 4 (PointAction.Request 5 77 16)) gives Answer.Refused (Rejection.LastResortUnderWay 37) ∷
       on 15 (Action.At 4 (PointAction.Request 5 77 15)) gives Answer.AcceptedOn 36 ∷ []))
   -- 26: with W = 3; e is day 32, a Wednesday, and after day 26, a Thursday, there are 27, 30 and 31
   pub cancel_with_three_days : Then
       (on 11 (Action.At 1 (PointAction.Request 6 77 11)) gives Answer.AcceptedOn 32 ∷
-      on 27 (Action.At 1 (PointAction.Cancel 6)) gives Answer.Refused 26 ∷
+      on 27 (Action.At 1 (PointAction.Cancel 6)) gives Answer.Refused Rejection.TooLate ∷
       on 26 (Action.At 1 (PointAction.Cancel 6)) gives Answer.Accepted ∷ [])
   -- 2: "each point it holds gets the last-resort supplier, kind last resort, deadline today + B"
   pub failure_to_71 : ThenKeeps (on 11 (Action.Failure 5) gives Answer.Accepted ∷ []) 1
@@ -79,17 +80,17 @@ pub record VariedExamples : Type 0 where
       (period 10 5 0 0 ∷ period 11 4 0 0 ∷ period 71 0 0 0 ∷ []) 0 0
   -- 29: "failure of the default or last-resort supplier"; 1 and 2 are suppliers as any other here
   pub protected_9_and_4 : Then
-      (on 11 (Action.Failure 9) gives Answer.Refused 29 ∷ on 11 (Action.Failure 4) gives Answer.Refused 29 ∷
-      on 11 (Action.Failure 1) gives Answer.Refused 1 ∷
-      on 11 (Action.Failure 2) gives Answer.Refused 1 ∷ on 11 (Action.Contract 1) gives Answer.Accepted ∷
+      (on 11 (Action.Failure 9) gives Answer.Refused Rejection.ProtectedSupplier ∷ on 11 (Action.Failure 4) gives Answer.Refused Rejection.ProtectedSupplier ∷
+      on 11 (Action.Failure 1) gives Answer.Refused Rejection.NoTransportContract ∷
+      on 11 (Action.Failure 2) gives Answer.Refused Rejection.NoTransportContract ∷ on 11 (Action.Contract 1) gives Answer.Accepted ∷
       on 11 (Action.Contract 2) gives Answer.Accepted ∷
       on 11 (Action.Failure 1) gives Answer.Accepted ∷ on 11 (Action.Failure 2) gives Answer.Accepted ∷ [])
   -- 20: "default: today + A + B is; failure: today + B is": 72,963 + 85 and 72,988 + 60 are the last day
   pub sums_off_the_calendar : Plays (opens 72960)
       (ready 72960 ++
-      (on 72964 (Action.At 4 (PointAction.DefaultSupply 77)) gives Answer.Refused 20 ∷
+      (on 72964 (Action.At 4 (PointAction.DefaultSupply 77)) gives Answer.Refused Rejection.OffTheCalendar ∷
       on 72963 (Action.At 4 (PointAction.DefaultSupply 77)) gives Answer.Accepted ∷
-      on 72989 (Action.Failure 5) gives Answer.Refused 20 ∷ on 72988 (Action.Failure 5) gives Answer.Accepted ∷ []))
+      on 72989 (Action.Failure 5) gives Answer.Refused Rejection.OffTheCalendar ∷ on 72988 (Action.Failure 5) gives Answer.Accepted ∷ []))
   -- a failure beside holders with a higher and with a lower number, and beside requests of such suppliers: they stay
   pub holder_5_beside_6 : ThenKeeps (on 11 (Action.Failure 6) gives Answer.Accepted ∷ []) 1
       (kept (supply 5 SupplyKind.Contract Pending.Nothing))
@@ -106,8 +107,8 @@ pub record VariedExamples : Type 0 where
   -- 25: "cancel: none by s", whichever of the two has the higher number
   pub cancel_beside_6 : Then
       (on 11 (Action.At 1 (PointAction.Request 6 77 11)) gives Answer.AcceptedOn 32 ∷
-      on 11 (Action.At 1 (PointAction.Cancel 5)) gives Answer.Refused 25 ∷
-      on 11 (Action.At 1 (PointAction.Cancel 7)) gives Answer.Refused 25 ∷
+      on 11 (Action.At 1 (PointAction.Cancel 5)) gives Answer.Refused Rejection.NothingPending ∷
+      on 11 (Action.At 1 (PointAction.Cancel 7)) gives Answer.Refused Rejection.NothingPending ∷
       on 11 (Action.At 1 (PointAction.Cancel 6)) gives Answer.Accepted ∷ [])
   -- "Suppliers are 1 to 99": 99 may ask, cancel, hold and fail
   pub supplier_99 : Then
@@ -117,13 +118,13 @@ pub record VariedExamples : Type 0 where
       on 11 (Action.Failure 99) gives Answer.Accepted ∷ [])
   -- 28: "an index at or past 10^w", w the wheels on both sides of the comma: at enrolment and at a reading
   pub enrolled_below_10000 : Then
-      (on 11 (Action.At 6 (enrol 3 1 10000 2 0)) gives Answer.Refused 28 ∷
+      (on 11 (Action.At 6 (enrol 3 1 10000 2 0)) gives Answer.Refused Rejection.IndexDisagrees ∷
       on 11 (Action.At 6 (enrol 3 1 9999 2 0)) gives Answer.Accepted ∷ [])
   pub read_below_10000 : Then
       (one_behind ++
-      (on 12 (Action.At 5 (PointAction.Reading 12 10000 0)) gives Answer.Refused 28 ∷
+      (on 12 (Action.At 5 (PointAction.Reading 12 10000 0)) gives Answer.Refused Rejection.IndexDisagrees ∷
       on 12 (Action.At 5 (PointAction.Reading 12 9999 0)) gives Answer.Accepted ∷
-      on 13 (Action.At 5 (PointAction.Reading 13 9999 1)) gives Answer.Refused 28 ∷
+      on 13 (Action.At 5 (PointAction.Reading 13 9999 1)) gives Answer.Refused Rejection.IndexDisagrees ∷
       on 13 (Action.At 5 (PointAction.Reading 13 9998 1)) gives Answer.Accepted ∷ []))
   -- "V = x2 − x1 + z × 10^w": 9,999 and then 1 past zero, at U = 100
   pub past_zero_with_one_behind : ThenShows
@@ -132,9 +133,9 @@ pub record VariedExamples : Type 0 where
       (period 10 0 300 300 ∷ []) 300 300
   -- the same for the index of a new meter with two wheels on each side, and for its next reading, at U = 10
   pub fresh_below_10000 : Then
-      (on 12 (Action.At 1 (change 991 0 2 2 10000 2 0)) gives Answer.Refused 28 ∷
+      (on 12 (Action.At 1 (change 991 0 2 2 10000 2 0)) gives Answer.Refused Rejection.IndexDisagrees ∷
       on 12 (Action.At 1 (change 991 0 2 2 9999 2 0)) gives Answer.Accepted ∷
-      on 13 (Action.At 1 (PointAction.Reading 13 10000 0)) gives Answer.Refused 28 ∷
+      on 13 (Action.At 1 (PointAction.Reading 13 10000 0)) gives Answer.Refused Rejection.IndexDisagrees ∷
       on 13 (Action.At 1 (PointAction.Reading 13 9999 0)) gives Answer.Accepted ∷ [])
   pub past_zero_of_the_new_meter : ThenShows
       (on 12 (Action.At 1 (change 991 0 2 2 9999 2 0)) gives Answer.Accepted ∷

@@ -11,4 +11,4 @@ pub slice_bounds-shown-end : goal.slice_bounds-shown-end
 slice_bounds-shown-end g c = sym (length-take-le _ _ (fed_within _ _ _ _ _ c.finish-f.ensures))
 
 pub returns : goal.returns
-returns g c = taken_whole _ _ _ _ _ c.finish-f.ensures (search rules) (search rules) c.ended-2.ensures
+returns g c = taken_whole _ _ _ _ c.finish-f.ensures (search rules) (search rules)

@@ -1,11 +1,7 @@
 -- `next_part` meets its contract: the year is that of the day; past the calendar no day is worked.
 use Rattle.basics.proofs.Basics.{◌∙◌, sym}
-use Rattle.dates.proofs.InYear.{year_found, year_past}
-use Rattle.working_count.proofs.Counting.{rest_past}
+use Rattle.dates.proofs.InYear.{year_found}
 use Rattle.working_count.proofs.next_part.Goals as goal
 
 pub part_in-requires : goal.part_in-requires
-part_in-requires c = (year_found _ _ (sym c.year_of.ensures ∙ c.in-In.is), c.requires)
-
-pub returns-in-OffCalendar : goal.returns-in-OffCalendar
-returns-in-OffCalendar c = rest_past _ _ (year_past _ (sym c.year_of.ensures ∙ c.in-OffCalendar.is)) c.requires
+part_in-requires c = (year_found _ _ (sym c.year_of.ensures ∙ c.in-Some.is), c.requires)

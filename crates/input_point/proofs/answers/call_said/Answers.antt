@@ -9,4 +9,4 @@ returns-in_default c = unfold call_said in c.apart_said.ensures
     ∙ not_at _ _ c.args.a c.in_default.not-At
 
 pub returns : goal.returns
-returns c = unfold call_said in rw (c.in-At.is, ← c.view_on-v.ensures, c.ruling_at.ensures)
+returns c = unfold call_said in rw (c.in-At.is, ← c.view_on.ensures, c.ruling_at.ensures)

@@ -13,29 +13,27 @@ filled S day t s fs ns ss p = touches s (shown (shows S day t fs ns ss) p).field
     && is_full (shown (shows S day t fs ns ss) p) (failed S t s (shown (shows S day t fs ns ss) p).fields)
 
 pub loop-i-init : goal.loop-i-init
-loop-i-init c = (search rules, refl)
+loop-i-init c = refl
 
 pub returns-then-fills : goal.returns-then-fills
 unfolding failure_answer
-returns-then-fills c = let a = c.args in
-    let f : ℕ → Bool = filled a.set a.day a.today a.s a.fields a.counts a.slots in
-    let v = shown_next a.set a.day a.today a.fields a.counts a.slots c.loop-i.i _ _ (search rules)
-    c.newest_place-k.ensures c.view_on.ensures in
+returns-then-fills c = let a = c.args in let w = a.tables.now in
+    let f : ℕ → Bool = filled a.set a.day a.today a.s w.fields w.counts w.slots in
+    let v = shown_next a.set a.day a.today w.fields w.counts w.slots c.loop-i.i _ _ (search rules)
+    refl (rw c.of-newest.ensures at c.view_on-v.ensures) in
     let x : f (c.loop-i.i + 1) ≡ true = rw v (sym (c.fills.ensures a.set a.today) ∙ c.if-fills.true) in
-    rw (c.loop-i.invariant.1 ∙ any_found f (c.loop-i.i + 1) (32 - c.loop-i.i) (omega arith) x)
+    rw (c.loop-i.invariant ∙ any_found f (c.loop-i.i + 1) (32 - c.loop-i.i) (omega arith) x)
 
 pub loop-i-preserved : goal.loop-i-preserved
-loop-i-preserved c = let a = c.args in
-    let f : ℕ → Bool = filled a.set a.day a.today a.s a.fields a.counts a.slots in
-    let v = shown_next a.set a.day a.today a.fields a.counts a.slots c.loop-i.i _ _ (search rules)
-    c.newest_place-k.ensures c.view_on.ensures in (
-      search rules,
-      c.loop-i.invariant.1 ∙ any_passed f c.loop-i.i (omega arith) (rw v (sym (c.fills.ensures a.set a.today) ∙ c.if-fills.false)),
-    )
+loop-i-preserved c = let a = c.args in let w = a.tables.now in
+    let f : ℕ → Bool = filled a.set a.day a.today a.s w.fields w.counts w.slots in
+    let v = shown_next a.set a.day a.today w.fields w.counts w.slots c.loop-i.i _ _ (search rules)
+    refl (rw c.of-newest.ensures at c.view_on-v.ensures) in
+    c.loop-i.invariant ∙ any_passed f c.loop-i.i (omega arith) (rw v (sym (c.fills.ensures a.set a.today) ∙ c.if-fills.false))
 
 pub returns : goal.returns
 unfolding failure_answer
-returns c = let l = c.loop-i in let a = c.args in
-    let f : ℕ → Bool = filled a.set a.day a.today a.s a.fields a.counts a.slots in
+returns c = let l = c.loop-i in let a = c.args in let w = a.tables.now in
+    let f : ℕ → Bool = filled a.set a.day a.today a.s w.fields w.counts w.slots in
     let z : 32 - l.i ≡ 0 = omega arith in
-    rw (l.invariant.1 ∙ ap (λ (n : ℕ). any_point (l.i + 1) n f) z ∙ any_none f (l.i + 1))
+    rw (l.invariant ∙ ap (λ (n : ℕ). any_point (l.i + 1) n f) z ∙ any_none f (l.i + 1))

@@ -5,8 +5,7 @@ use Rattle.input_point.proofs.deeds.reading_deed.Goals as goal
 
 pub returns-then-lies_in : goal.returns-then-lies_in
 unfolding reading_deed
-returns-then-lies_in c =
-    rw (sym c.lies_in.ensures ∙ c.if-lies_in.true, c.newest_place.ensures, c.book_newest.ensures)
+returns-then-lies_in c = rw (sym c.lies_in.ensures ∙ c.if-lies_in.true, ← c.book_newest.ensures) c.kept_entry.ensures
 
 pub returns : goal.returns
 returns c = unfold reading_deed in rw (sym c.lies_in.ensures ∙ c.if-lies_in.false)

@@ -9,30 +9,28 @@ use Rattle.input_point.proofs.failures.failed_tables.Goals as goal
 
 pub loop-i-init : goal.loop-i-init
 loop-i-init c = (
-  search rules,
   record { fields = search rules; counts = search rules; slots = search rules },
   points_length _ _ _ 32 (search rules) (search rules),
   refl,
 )
 
-pub overflow_add-slots : goal.overflow_add-slots
-overflow_add-slots c = omega (arith, slot_within _ _ _ _ c.failed_entry-x.ensures)
+pub overflow_add-i : goal.overflow_add-i
+overflow_add-i c = omega (arith, slot_within _ _ _ _ c.failed_entry-x.ensures)
 
-pub offset_bounds-slots-i-in-loop-i : goal.offset_bounds-slots-i-in-loop-i
-offset_bounds-slots-i-in-loop-i c = omega (arith, slot_within _ _ _ _ c.failed_entry-x.ensures)
+pub offset_bounds-tables-i-in-loop-i-3 : goal.offset_bounds-tables-i-in-loop-i-3
+offset_bounds-tables-i-in-loop-i-3 c = omega (arith, slot_within _ _ _ _ c.failed_entry-x.ensures)
 
-pub bounds-slots-i-in-loop-i : goal.bounds-slots-i-in-loop-i
-bounds-slots-i-in-loop-i c = omega (arith, slot_within _ _ _ _ c.failed_entry-x.ensures)
+pub bounds-tables-i-in-loop-i-3 : goal.bounds-tables-i-in-loop-i-3
+bounds-tables-i-in-loop-i-3 c = omega (arith, slot_within _ _ _ _ c.failed_entry-x.ensures)
 
 pub loop-i-preserved : goal.loop-i-preserved
-loop-i-preserved c = let a = c.args in let s = c.loop-i.invariant.1 in let n = c.newest_place.ensures in (
-  search rules,
+loop-i-preserved c = let a = c.args in let s = c.loop-i.invariant.0 in let n = c.of-newest.ensures in (
   slot_sized a.set 0 [] _ _ _ s c.loop-i.i (search rules) _ _ _ _,
-  c.loop-i.invariant.2,
+  c.loop-i.invariant.1,
   failed_stored a.set 0 [] _ _ _ s c.loop-i.i (search rules) a.t a.s (rw n at c.failed_entry-x.ensures)
-      ∙ rw c.loop-i.invariant.3 (swept_more _ _ c.loop-i.i no_point (omega (arith, c.loop-i.invariant.2))),
+      ∙ rw c.loop-i.invariant.2 (swept_more _ _ c.loop-i.i no_point (omega (arith, c.loop-i.invariant.1))),
 )
 
 pub returns : goal.returns
 returns c = let l = c.loop-i in
-    record { sized = l.invariant.1; points = l.invariant.3 ∙ swept_all _ _ l.i (omega (arith, l.invariant.2)) }
+    record { sized = l.invariant.0; points = l.invariant.2 ∙ swept_all _ _ l.i (omega (arith, l.invariant.1)) }

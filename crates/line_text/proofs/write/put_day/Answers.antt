@@ -3,9 +3,6 @@ use Rattle.basics.proofs.Basics.{sym, ◌∙◌}
 use Rattle.line_text.specs.Decimal.{fixed}
 use Rattle.line_text.proofs.write.put_day.Goals as goal
 
-pub returns-in_default : goal.returns-in_default
+pub returns-in-None : goal.returns-in-None
 unfolding fixed
-returns-in_default c = rw (sym c.date_of.ensures ∙ c.in_default.is) c.put_word.ensures
-
-pub returns : goal.returns
-returns c = rw (sym c.date_of.ensures ∙ c.in-On.is) c.put_date.ensures
+returns-in-None c = rw (sym c.date_of.ensures ∙ c.in-None.is) c.put_word.ensures

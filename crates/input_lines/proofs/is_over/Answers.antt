@@ -1,8 +1,0 @@
-use Rattle.basics.proofs.Basics.{ne_eqb, eq-eqb}
-use Rattle.input_lines.proofs.is_over.Goals as goal
-
-pub returns-then-b-eq10 : goal.returns-then-b-eq10
-returns-then-b-eq10 c = rw (eq-eqb _ _ c.if-b-eq10.true)
-
-pub returns : goal.returns
-returns c = rw (ne_eqb _ _ c.if-b-eq10.false)

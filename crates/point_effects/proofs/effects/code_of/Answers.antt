@@ -1,9 +1,0 @@
--- What a meter counts, by its code.
-use Rattle.basics.proofs.Basics.{eq-eqb, ne_eqb}
-use Rattle.point_effects.proofs.effects.code_of.Goals as goal
-
-pub returns-then-code-eq1 : goal.returns-then-code-eq1
-returns-then-code-eq1 c = rw (eq-eqb _ _ c.if-code-eq1.true)
-
-pub returns : goal.returns
-returns c = rw (ne_eqb _ _ c.if-code-eq1.false)

@@ -14,7 +14,8 @@ use standard_input::InputError;
 // The most bytes that a line takes.
 const ROOM: usize = 128;
 
-// The register that is asked, and the text of which the first len bytes wait to be written.
+// The register that is asked, and the text of which the first len bytes wait to be written. Memory is fixed, so the length
+// stands beside the text.
 #[derive(Clone, Copy)]
 struct Interview {
     r: Register,

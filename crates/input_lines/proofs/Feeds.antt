@@ -4,7 +4,7 @@ use Rattle.basics.proofs.Basics.{◌<◌, suc, zero, not-suc-le-zero, le_of_suc-
 use Rattle.basics.proofs.Basics.{get_or, drop-cons, ne_eqb, eq-eqb, cases}
 use Rattle.basics.proofs.Basics.{ltb, ltb-false}
 use Rattle.std.proofs.Math.Numerals.{one-add}
-use Rattle.std.specs.Prelude.{position, ◌==◌}
+use Rattle.std.specs.Prelude.{position, ◌==◌, Option}
 use Rattle.std.specs.List.{position_or_len}
 use Rattle.std.specs.Option.{unwrap_or}
 use Rattle.std.proofs.lemmas.List.Recursion.{is_position_or_len}
@@ -32,6 +32,10 @@ unfolding until_feed
 until_place l = let e : until_feed l ≡ position_or_len (λ b. b == 10) l =
     is_position_or_len until_feed (λ b. b == 10) refl (λ x xs. rw (one-add (until_feed xs))) l in
     cases (ltb (until_feed l) (length l)) (λ t. rw (← e, t)) (λ f. rw (← e, f) (omega (arith, until_le l, ltb-false (until_feed l) (length l) f)))
+
+-- the same of a slice that is the list
+pub until_slice : {l x : List ℕ} {o : Option ℕ} → o ≡ position (λ b. b == 10) x → x ≡ l → unwrap_or o (length x) ≡ until_feed l
+until_slice {l} h e = rw (h, e) (until_place l)
 
 -- ---- how many there are
 

@@ -100,7 +100,13 @@ pub fn working_days(first: u64, last: u64) -> u32
     ensures { result ≡ working_days first last }
 {
     let end = last.min(u64::from(LAST_DAY)) + 1;
-    (first..end).filter(|d| is_working(*d)).count() as u32
+    let mut count: u32 = 0;
+    for d in first..end {
+        if is_working(d) {
+            count += 1;
+        }
+    }
+    count
 }
 
 // Whether a row of the table of fixed holidays falls on a date.

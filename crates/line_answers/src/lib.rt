@@ -143,6 +143,7 @@ fn table_number(rejection: Rejection) -> u8
         Rejection::PeriodsFull => 30,
         Rejection::UnreadableLine => 31,
         Rejection::FactorOutOfRange => 40,
+        Rejection::Number(n) => n,
     }
 }
 
@@ -151,7 +152,7 @@ fn shown_kind(kind: Kind, answer: Answer) -> Kind
     ensures { result ≡ shown_kind kind (number answer) }
 {
     match answer {
-        Answer::Refused(Rejection::UnreadableLine) => Kind::Unknown,
+        Answer::Refused(Rejection::UnreadableLine | Rejection::Number(31)) => Kind::Unknown,
         _ => kind,
     }
 }

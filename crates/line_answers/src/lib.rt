@@ -117,7 +117,7 @@ fn number_of(answer: Answer) -> u8
     }
 }
 
-// The number of the table. A `From` would be the same match, and stand in `rules`, which has the definition.
+// The number of a refusal: the table's, or the one given by itself. A `From` would be the same match, and stand in `rules`, which has the definition.
 fn table_number(rejection: Rejection) -> u8
     ensures { result ≡ rejection_number rejection }
 {

@@ -82,17 +82,18 @@ fn register_read(rt: &(impl Input + Print)) -> Result<Option<Register>, InputErr
     Ok(Some(d.register))
 }
 
+// The register is read in one place: each place takes the stack of a whole input's session.
 fn answer(rt: &(impl Input + Print), asked: Asked) -> Result<(), InputError> {
+    if let Asked::Working { first, second } = asked {
+        return answer_working(rt, first, second);
+    }
+    let Some(r) = register_read(rt)? else {
+        return tell_unopened(rt);
+    };
     match asked {
-        Asked::Working { first, second } => answer_working(rt, first, second),
-        Asked::One(q) => match register_read(rt)? {
-            Some(r) => answer_one(rt, r, q),
-            None => tell_unopened(rt),
-        },
-        Asked::All => match register_read(rt)? {
-            Some(r) => every::answer_all(rt, r),
-            None => tell_unopened(rt),
-        },
+        Asked::One(q) => answer_one(rt, r, q),
+        Asked::All => every::answer_all(rt, r),
+        Asked::Working { .. } => Ok(()),
     }
 }
 

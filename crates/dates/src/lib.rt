@@ -39,10 +39,7 @@ pub fn day_of(year: u64, month: u64, day: u64) -> Option<u32>
     if !(2000..=2199).contains(&year) || !(1..=12).contains(&month) {
         return None;
     }
-    let m = Month {
-        year: (year - 2000) as u32,
-        index: (month - 1) as usize,
-    };
+    let m = Month::new((year - 2000) as u32, (month - 1) as usize);
     if !(1..=u64::from(m.length())).contains(&day) {
         return None;
     }
@@ -97,15 +94,7 @@ pub fn three_months_after(n: u64) -> u32
     let index = usize::from(x.month) - 1;
     let d = u32::from(x.day) - 1;
     if index < 9 {
-        let m = Month {
-            year,
-            index: index + 3,
-        };
-        return m.on_or_last(d);
+        return Month::new(year, index + 3).on_or_last(d);
     }
-    let m = Month {
-        year: year + 1,
-        index: index - 9,
-    };
-    m.on_or_last(d)
+    Month::new(year + 1, index - 9).on_or_last(d)
 }

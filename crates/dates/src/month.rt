@@ -19,16 +19,31 @@ const STARTS: [[u16; 12]; 2] = [
     [0, 31, 60, 91, 121, 152, 182, 213, 244, 274, 305, 335],
 ];
 
-// A month of the calendar, or of the year after it: its year counted from 2000, and its index in that year from 0.
+// A month of the calendar, or of the year after it: its year counted from 2000, and its index in that year from 0. The
+// row of its year in the tables is worked out once: a walk day by day would pay for each time.
 #[derive(Clone, Copy)]
 pub(crate) struct Month {
-    pub(crate) year: u32,
+    year: u32,
     pub(crate) index: usize,
+    row: usize,
     ghost in_calendar: { year ≤ 200 },
     ghost in_year: { index < 12 },
+    ghost row_of_year: { row ≡ leap_row (2000 + year) },
 }
 
 impl Month {
+    // A month by its year and its index.
+    pub(crate) fn new(year: u32, index: usize) -> Month
+        requires { (year ≤ 200) × (index < 12) }
+        ensures { (result.year ≡ year) × (result.index ≡ index) }
+    {
+        Month {
+            year,
+            index,
+            row: year::leap_row(2000 + u64::from(year)),
+        }
+    }
+
     // The month of a day of a year: a 32nd of it, or the month after.
     #[tactic(auto, using(crate::proofs::Months::row_is, crate::proofs::Months::year_length_lem, crate::proofs::Months::month_kept, crate::proofs::Months::month_after), unfolding(crate::specs::Numbers::month_start))]
     pub(crate) fn of_day(year: u32, rest: u32) -> Month
@@ -37,31 +52,31 @@ impl Month {
             × (month_start (leap_row (2000 + year)) result.index ≤ rest)
             × (rest < month_start (leap_row (2000 + year)) (suc result.index)) }
     {
-        let index = (rest / 32) as usize;
-        let m = Month { year, index };
+        let m = Month::new(year, (rest / 32) as usize);
         if rest < m.start() + m.length() {
             return m;
         }
         Month {
             year,
-            index: index + 1,
+            index: m.index + 1,
+            row: m.row,
         }
     }
 
     // Its days.
-    #[tactic(auto, using(crate::proofs::Months::length_bounds), unfolding(crate::specs::Dates::month_length))]
+    #[tactic(auto, using(crate::proofs::Months::row_is, crate::proofs::Months::length_bounds), unfolding(crate::specs::Dates::month_length))]
     pub(crate) fn length(self) -> u32
         ensures { (result ≡ month_length (leap_row (2000 + self.year)) self.index) × (28 ≤ result) × (result ≤ 31) }
     {
-        u32::from(LENGTHS[year::leap_row(2000 + u64::from(self.year))][self.index])
+        u32::from(LENGTHS[self.row][self.index])
     }
 
     // The days of its year before it.
-    #[tactic(auto, using(crate::proofs::Months::start_is))]
+    #[tactic(auto, using(crate::proofs::Months::row_is, crate::proofs::Months::start_is))]
     pub(crate) fn start(self) -> u32
         ensures { (result ≡ month_start (leap_row (2000 + self.year)) self.index) × (result ≤ 335) }
     {
-        u32::from(STARTS[year::leap_row(2000 + u64::from(self.year))][self.index])
+        u32::from(STARTS[self.row][self.index])
     }
 
     // The number of a day of it, counted from 0.

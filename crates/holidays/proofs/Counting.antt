@@ -1,15 +1,17 @@
--- Counting working days: days in a row, a count that ends past the calendar, and the days between two days.
-use Rattle.std.specs.List.{filter, range_with_len}
-use Rattle.basics.proofs.Basics.{◌≡◌, refl, sym, ◌∙◌, false, cases, length, leb, leb-true, leb-false, min, ◌≤◌, ℕ, ◌-◌, ◌+◌, suc, zero, add-zero, zero-add}
+-- Counting working days: a walk day by day, a count that ends past the calendar, and the days between two days.
+use Rattle.basics.proofs.Basics.{◌≡◌, refl, sym, ◌∙◌, false, cond, cases, leb, leb-true, leb-false, min, ◌≤◌, ◌<◌, ℕ, ◌-◌, ◌+◌, suc, zero, add-zero, zero-add}
 use Rattle.basics.proofs.Basics.{add_assoc, add-suc, suc-add, add-one, arith, lt-leb}
 use Rattle.holidays.specs.Working.{is_working, working_from, working_between, working_days}
 
--- the working days among days in a row are as many as are counted
-pub listed : (s n : ℕ) → length (filter is_working (range_with_len s n)) ≡ working_from s n
-unfolding working_from
-listed s zero = refl
-listed s (suc n) = let rest = listed (suc s) n in
-    cases (is_working s) (λ t. rw (add-one s, t, rest) (omega arith)) (λ t. rw (add-one s, t, rest) (omega arith))
+-- one more day of a walk
+pub walk_step : (d last : ℕ) → d ≤ last → working_days d last ≡ cond (is_working d) 1 0 + working_days (d + 1) last
+unfolding working_from working_days
+walk_step d last h = let e : last + 1 - d ≡ suc (last + 1 - (d + 1)) = omega arith in rw (e, add-one d)
+
+-- none is left after the last day
+pub walk_end : (d last : ℕ) → last < d → working_days d last ≡ 0
+unfolding working_from working_days
+walk_end d last h = let e : last + 1 - d ≡ 0 = omega arith in rw e
 
 -- two stretches of days, one after the other
 pub stretches_sum : (s m n : ℕ) → working_from s (m + n) ≡ working_from s m + working_from (s + m) n
@@ -39,7 +41,7 @@ past_cut s last h g = let e : last + 1 - s ≡ (73049 - s) + (last - 73048) = om
     rw (e, stretches_sum s (73049 - s) (last - 73048)) (omega arith)
 
 -- so a count may end with the calendar
-pub to_the_end : (first last : ℕ) → working_from first (min last 73048 + 1 - first) ≡ working_days first last
+pub to_the_end : (first last : ℕ) → working_days first (min last 73048) ≡ working_days first last
 unfolding working_days
 to_the_end first last = cases (leb last 73048)
     (λ t. let h = leb-true last 73048 t in let e : min last 73048 ≡ last = omega arith in rw e)

@@ -95,12 +95,19 @@ pub fn is_working(n: u64) -> bool
     n <= u64::from(LAST_DAY) && dates::weekday(n) < SATURDAY && !is_holiday(n)
 }
 
-// The working days from a first to a last day, both counted.
+// The working days from a first to a last day, both counted. A test in a `for`: a chain of `filter` and `count` takes
+// longer.
 pub fn working_days(first: u64, last: u64) -> u32
     ensures { result ≡ working_days first last }
 {
     let end = last.min(u64::from(LAST_DAY)) + 1;
-    (first..end).filter(|d| is_working(*d)).count() as u32
+    let mut count: u32 = 0;
+    for d in first..end {
+        if is_working(d) {
+            count += 1;
+        }
+    }
+    count
 }
 
 // Whether a row of the table of fixed holidays falls on a date.

@@ -117,7 +117,7 @@ fn number_of(answer: Answer) -> u8
     }
 }
 
-// The number of the table. A `From` would be the same match, and stand in `rules`, which has the definition.
+// The number of a refusal: the table's, or the one given by itself. A `From` would be the same match, and stand in `rules`, which has the definition.
 fn table_number(rejection: Rejection) -> u8
     ensures { result ≡ rejection_number rejection }
 {
@@ -143,6 +143,7 @@ fn table_number(rejection: Rejection) -> u8
         Rejection::PeriodsFull => 30,
         Rejection::UnreadableLine => 31,
         Rejection::FactorOutOfRange => 40,
+        Rejection::Number(n) => n,
     }
 }
 
@@ -151,7 +152,7 @@ fn shown_kind(kind: Kind, answer: Answer) -> Kind
     ensures { result ≡ shown_kind kind (number answer) }
 {
     match answer {
-        Answer::Refused(Rejection::UnreadableLine) => Kind::Unknown,
+        Answer::Refused(Rejection::UnreadableLine | Rejection::Number(31)) => Kind::Unknown,
         _ => kind,
     }
 }

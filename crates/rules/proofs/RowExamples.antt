@@ -42,6 +42,7 @@ number_examples =
       periods_full = refl;
       unreadable_line = refl;
       factor_out_of_range = refl;
+      number_by_itself = refl;
     }
 
 answer_examples : AnswerExamples
@@ -55,6 +56,8 @@ answer_examples =
       request_accepted_date = refl;
       refused_number = refl;
       refused_date = refl;
+      number_refused = refl;
+      number_without_a_date = refl;
       last_resort_number = refl;
       last_resort_date = refl;
     }

@@ -31,6 +31,7 @@ number_of Rejection.ProtectedSupplier = 29
 number_of Rejection.PeriodsFull = 30
 number_of Rejection.UnreadableLine = 31
 number_of Rejection.FactorOutOfRange = 40
+number_of (Rejection.Number n) = n
 
 -- "accepted or the number from the rejection codes": 0 where accepted, as the answer line writes it
 abbrev pub number : Answer → ℕ
@@ -61,6 +62,7 @@ date_in Rejection.ProtectedSupplier = none
 date_in Rejection.PeriodsFull = none
 date_in Rejection.UnreadableLine = none
 date_in Rejection.FactorOutOfRange = none
+date_in (Rejection.Number n) = none
 
 -- "with the date it carries: e for an accepted request, the deadline for number 8, else none"
 abbrev pub date : Answer → Option ℕ

@@ -270,6 +270,8 @@ pub enum Rejection {
     PeriodsFull,
     UnreadableLine,
     FactorOutOfRange,
+    // Any number, by itself. No row gives one; what takes an answer takes every number, as it did before rows had names.
+    Number(u8),
 }
 
 // The answer to a call: accepted, accepted with its effective day, or refused. An enum and not a Result, since `number`

@@ -1,4 +1,6 @@
 // Stored files.
+ghost use Rattle.std.specs.Prelude.{◌≤◌, length, MatchResult};
+
 use line_text::write::put_word;
 use std::rt::Files;
 use std::{fs, str};
@@ -11,7 +13,10 @@ pub(crate) fn read<'a>(
     name: &[u8],
     ending: &[u8],
     buffer: &'a mut [u8],
-) -> Result<&'a [u8], &'a [u8]> {
+) -> Result<&'a [u8], &'a [u8]>
+    ensures within { MatchResult result (λ held. length held.now ≤ length buffer.old)
+        (λ part. length part.now ≤ length buffer.old) }
+{
     let mut path = [0u8; 128];
     let mid = put_word(&mut path, 0, name);
     let end = put_word(&mut path, mid, ending);

@@ -12,12 +12,12 @@ returns-then-not-contains c = sym (no_date _ _ _ (λ r. elim c.then-not-contains
 
 pub returns-then-not-contains-3 : goal.returns-then-not-contains-3
 returns-then-not-contains-3 c = let back : 2000 + (c.args.year - 2000) ≡ c.args.year = grind arith in
-    let long = rw back at c.length.ensures.0 in
+    let long = rw (c.new-m.ensures.0, c.new-m.ensures.1, back) at c.length.ensures.0 in
     sym (no_date _ _ _ (λ r. grind arith))
 
 pub returns : goal.returns
 returns c =
     let back : 2000 + (c.args.year - 2000) ≡ c.args.year = grind arith in
-    let long = rw back at c.length.ensures.0 in
+    let long = rw (c.new-m.ensures.0, c.new-m.ensures.1, back) at c.length.ensures.0 in
     let a = c.args in
-    found _ _ _ _ (search rules) c.day_number.ensures.0
+    found _ _ _ _ (search rules) (rw (c.new-m.ensures.0, c.new-m.ensures.1) at c.day_number.ensures.0)

@@ -28,6 +28,7 @@ pub record NumberExamples : Type 0 where
   pub periods_full : number_of Rejection.PeriodsFull ≡ 30
   pub unreadable_line : number_of Rejection.UnreadableLine ≡ 31
   pub factor_out_of_range : number_of Rejection.FactorOutOfRange ≡ 40
+  pub number_by_itself : number_of (Rejection.Number 9) ≡ 9
 
 pub record AnswerExamples : Type 0 where
   pub numbers : NumberExamples
@@ -37,5 +38,7 @@ pub record AnswerExamples : Type 0 where
   pub request_accepted_date : date (Answer.AcceptedOn 7843) ≡ some 7843
   pub refused_number : number (Answer.Refused Rejection.TooLate) ≡ 26
   pub refused_date : date (Answer.Refused Rejection.TooLate) ≡ none
+  pub number_refused : number (Answer.Refused (Rejection.Number 26)) ≡ 26
+  pub number_without_a_date : date (Answer.Refused (Rejection.Number 26)) ≡ none
   pub last_resort_number : number (Answer.Refused (Rejection.LastResortUnderWay 8030)) ≡ 8
   pub last_resort_date : date (Answer.Refused (Rejection.LastResortUnderWay 8030)) ≡ some 8030

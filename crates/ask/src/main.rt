@@ -93,6 +93,7 @@ fn answer(rt: &(impl Input + Print), asked: Asked) -> Result<(), InputError> {
     match asked {
         Asked::One(q) => answer_one(rt, r, q),
         Asked::All => every::answer_all(rt, r),
+        // Told above, before anything is read.
         Asked::Working { .. } => Ok(()),
     }
 }

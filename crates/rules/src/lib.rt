@@ -270,7 +270,7 @@ pub enum Rejection {
     PeriodsFull,
     UnreadableLine,
     FactorOutOfRange,
-    // Any number, by itself. No row gives one; what takes an answer takes every number, as it did before rows had names.
+    // A number by itself: what takes an answer takes every number (docs/LOOK-BACK.md). No row of the table gives one.
     Number(u8),
 }
 
